@@ -1,0 +1,1 @@
+// Facts about numbers and tests that the libraries lack. No code.

@@ -1,0 +1,11 @@
+pub mod Refusals
+pub mod Commands
+pub mod Places
+pub mod Data
+pub mod Protocol
+pub mod Checks
+pub mod Long
+pub mod Pictures
+pub mod Plain
+pub mod Agree
+pub mod Starred

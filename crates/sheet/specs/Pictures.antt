@@ -1,0 +1,35 @@
+-- What is shown (paper 01, "The picture"; sheet 003, 7.5.4 and table 11).
+use Prim.Native.Nat.{ℕ, _+_, _*_, _-_, _/_, _%_, _^_}
+use mathlib.Core.Bool.{Bool, cond, _&&_, _||_, not}
+use mathlib.Core.List.{List, [], _∷_, map}
+use lib.Dec.{eqb, ltb}
+use lib.Count.{ones}
+use Rattle.sheet.specs.declared.Registers.{Registers}
+use Rattle.sheet.specs.declared.Shown.{Shown}
+use Rattle.sheet.specs.declared.Shown.the-variants.{Dark, Rows}
+use Rattle.sheet.specs.Commands.{backplanes, bankRow}
+
+-- BF is not 0 and phase is 1
+abbrev pub blinked : Registers → ℕ → Bool
+blinked r phase = not (eqb (r .bf) 0) && eqb phase 1
+
+-- dark, or the rows from a first one on. Blinked, AB = 0 is dark and AB = 1 shows the other bank;
+-- with three or four backplanes there is no other bank, and the display stays steady
+unfoldable pub shown : Registers → ℕ → Shown
+shown r phase =
+    cond (eqb (r .e) 0 || blinked r phase && eqb (r .ab) 0) Dark
+    (Rows (bankRow (backplanes r) (cond (blinked r phase) (1 - r .o) (r .o))))
+
+-- a column's byte: bit r is set if the element on backplane r is lit
+abbrev pub lit : ℕ → Shown → ℕ → ℕ
+lit m Dark q = 0
+lit m (Rows b) q = q / 2 ^ b % 2 ^ m
+
+-- a byte a column
+unfoldable pub pictureOf : Registers → ℕ → List ℕ → List ℕ
+pictureOf r phase ram = map (lit (backplanes r) (shown r phase)) ram
+
+-- the number of lit elements: the ones over all columns
+unfoldable pub litIn : List ℕ → ℕ
+litIn [] = 0
+litIn (q ∷ qs) = ones q + litIn qs

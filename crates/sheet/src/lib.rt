@@ -1,0 +1,127 @@
+// The types of the bus and its chips. Letters are the registers' of the paper: E, B, M, P, A, I, O, AB, BF.
+
+// What a mode-set carries, as one record (sheet 003, table 6).
+pub struct Settings {
+    pub e: u8,
+    pub b: u8,
+    pub m: u8,
+}
+
+// The commands of sheet 003, table 5, and the bytes that are none.
+pub enum Command {
+    PointerHigh(u8),
+    PointerLow(u8),
+    ModeSet(Settings),
+    DeviceSelect(u8),
+    FrequencyCtrl,
+    BlinkSelect { ab: u8, bf: u8 },
+    BankSelect { i: u8, o: u8 },
+    Undefined,
+}
+
+pub struct Registers {
+    pub e: u8,
+    pub b: u8,
+    pub m: u8,
+    pub p: usize,
+    pub a: usize,
+    pub i: u8,
+    pub o: u8,
+    pub ab: u8,
+    pub bf: u8,
+}
+
+// A register set a group.
+pub struct Both {
+    pub zero: Registers,
+    pub one: Registers,
+}
+
+// The chips in group 0 and in group 1.
+pub struct Chips {
+    pub zero: u8,
+    pub one: u8,
+}
+
+// Why a call is refused; what is held is the place.
+pub enum Refusal {
+    EmptyTransfer,
+    LongTransfer,
+    ChipCount,
+    RamLength,
+    RamByte(usize),
+    Register,
+    UndefinedCommand(usize),
+    GroupOrPhase,
+    PictureLength,
+    ManyChips,
+    ChipField(usize),
+    LogHead,
+    CutRecord(usize),
+    LongLog,
+}
+
+pub enum Check {
+    Passed,
+    Refused(Refusal),
+}
+
+// What the next byte of a transfer is.
+pub enum Expect {
+    Control,
+    OneCommand,
+    Commands,
+    OneData,
+    Run,
+}
+
+// The group that hears an address byte.
+pub enum Addressed {
+    To(u8),
+    Nobody,
+}
+
+pub struct Counts {
+    pub acknowledged: usize,
+    pub stored: usize,
+    pub discarded: usize,
+}
+
+pub enum Answer {
+    Taken(Counts),
+    Refused(Refusal),
+}
+
+pub struct Transferred {
+    pub answer: Answer,
+    pub registers: Both,
+}
+
+pub struct PowerOn {
+    pub check: Check,
+    pub registers: Both,
+}
+
+// What a group shows: nothing, or the rows from a first one on.
+pub enum Shown {
+    Dark,
+    Rows(usize),
+}
+
+pub enum Pictured {
+    Lit(usize),
+    Refused(Refusal),
+}
+
+// A chip of the plain account, with its own columns, identity and registers.
+pub struct Chip {
+    pub columns: [u8; 160],
+    pub sa0: u8,
+    pub subaddress: u8,
+    pub registers: Registers,
+}
+
+pub enum PlainAnswer {
+    Acknowledged(usize),
+    Refused(Refusal),
+}
