@@ -1,15 +1,15 @@
 -- Registers in range, as facts and as a test; commands keep them there; the rows of a bank are rows of a column.
 -- Assumes nothing.
-use mathlib.Core.Path.{_≡_, refl, sym, ap, _∙_}
+use mathlib.Core.Path.{_≡_, refl}
 use mathlib.Core.Bool.{Bool, true, false, cond, _&&_}
-use Prim.Native.Nat.{ℕ, zero, suc, _+_, _-_, _*_, _/_, _%_, _≤_, _<_}
+use Prim.Native.Nat.{ℕ, zero, suc, _+_, _≤_, _<_}
 use native.Mathlib.Omega.{arith}
-use lib.Dec.{T, eqb, leb, ltb, ltb→lt, eqb·suc-zero}
+use lib.Dec.{eqb, leb, ltb, ltb→lt, eqb·suc-zero}
 use borrow.Author.Tests.{leb-true, ltb-true, lt-ltb, le-leb}
 use Rattle.lemmas.proofs.Tests.{and-left, and-right, both-true, all, all-at}
 use Rattle.sheet.specs.declared.Registers.{Registers}
 use Rattle.sheet.specs.declared.Command.{Command}
-use Rattle.sheet.specs.Commands.{within, commandOf, obeyed, inRange, backplanes, bankRow, powerOn}
+use Rattle.sheet.specs.Commands.{within, commandOf, obeyed, inRange, backplanes, bankRow}
 
 -- every register in its range, for chips of C columns and the subaddress limit L
 pub record InRange (C L : ℕ) (r : Registers) : Type 0 where

@@ -1,9 +1,9 @@
 -- Demand 3, stated: "Chips 0 upwards of one slave address, powered on together, followed one by one, hold, acknowledge and show after any
 -- sequence of accepted transfers what one long RAM does." For any column count C and subaddress limit L from 1 up. Proved in `agreement`.
-use Prim.Native.Nat.{ℕ, zero, suc, _+_, _*_, _≤_, _<_}
+use Prim.Native.Nat.{ℕ, zero, suc, _+_, _*_, _<_}
 use mathlib.Core.Path.{_≡_}
-use mathlib.Core.Bool.{Bool, true}
-use mathlib.Core.List.{List, [], _∷_, _++_, map}
+use mathlib.Core.Bool.{true}
+use mathlib.Core.List.{List, [], _∷_, _++_}
 use lib.ListN.{length, take, drop}
 use Rattle.sheet.specs.declared.Registers.{Registers}
 use Rattle.sheet.specs.declared.Both.{Both}
@@ -14,9 +14,9 @@ use Rattle.sheet.specs.declared.Answer.{Answer}
 use Rattle.sheet.specs.declared.PlainAnswer.{PlainAnswer}
 use Rattle.sheet.specs.Commands.{commandOf, obeyed, inRange}
 use Rattle.sheet.specs.Checks.{checkState}
-use Rattle.sheet.specs.Long.{After, powerOnCall, transferCall}
+use Rattle.sheet.specs.Long.{powerOnCall, transferCall}
 use Rattle.sheet.specs.Pictures.{pictureOf, litIn}
-use Rattle.sheet.specs.Plain.{PlainAfter, plainCall}
+use Rattle.sheet.specs.Plain.{plainCall}
 
 -- ---- the chips of a long state
 

@@ -1,6 +1,6 @@
 -- The long account (paper 01): one register set a group and one long RAM, group 0's columns and then group 1's.
-use Prim.Native.Nat.{ℕ, zero, suc, _+_, _*_, _/_, _%_}
-use mathlib.Core.Bool.{Bool, cond}
+use Prim.Native.Nat.{ℕ, zero, _+_, _*_}
+use mathlib.Core.Bool.{cond}
 use mathlib.Core.List.{List, [], _∷_, _++_}
 use lib.Dec.{eqb}
 use lib.ListN.{length, getD, take, drop}
@@ -12,7 +12,6 @@ use Rattle.sheet.specs.declared.Addressed.{Addressed}
 use Rattle.sheet.specs.declared.Addressed.the-variants.{To, Nobody}
 use Rattle.sheet.specs.declared.Expect.{Expect}
 use Rattle.sheet.specs.declared.Expect.the-variants.{Control, OneCommand, Commands, OneData, Run}
-use Rattle.sheet.specs.declared.Refusal.{Refusal}
 use Rattle.sheet.specs.declared.Check.{Check}
 use Rattle.sheet.specs.declared.Answer.{Answer}
 use Rattle.sheet.specs.declared.Transferred.{Transferred}

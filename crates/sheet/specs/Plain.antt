@@ -1,7 +1,7 @@
 -- The plain account (paper 01, "Chips on the bus" and "Where a data byte goes"): each chip follows every byte by itself, over its own registers and columns.
 -- It shares with the long account only what the paper says once: bits and rows, commands, control bytes, backplanes and banks.
-use Prim.Native.Nat.{ℕ, zero, suc, _+_, _-_, _*_, _/_, _%_}
-use mathlib.Core.Bool.{Bool, cond, _&&_, _||_, not}
+use Prim.Native.Nat.{ℕ, zero, suc, _+_, _*_, _/_}
+use mathlib.Core.Bool.{Bool, cond, _&&_, _||_}
 use mathlib.Core.List.{List, [], _∷_, map}
 use lib.Dec.{eqb, ltb, leb}
 use lib.ListN.{getD, length, drop}

@@ -12,7 +12,7 @@ use Rattle.sheet.specs.Data.{putBits, changed, withRow, storedBits, coun
 use Rattle.sheet.specs.Protocol.{heardBy, controlOf, undefinedIn}
 use Rattle.sheet.specs.Checks.{checkChips, checkRegisters, overIn, checkRam, checkLength, checkState, checkTransfer}
 use Rattle.sheet.specs.Pictures.{shown, pictureOf}
-use Rattle.sheet.specs.Long.{After, heard, dataByte, transferCall}
+use Rattle.sheet.specs.Long.{heard, dataByte, transferCall}
 
 -- a column and what it holds or shows
 pub record Column : Type 0 where

@@ -1,0 +1,21 @@
+-- Parts of a list as the code takes them: the elements from i on, one of them, and all that are left.
+-- Assumes nothing.
+use mathlib.Core.Path.{_≡_}
+use mathlib.Core.List.{List, [], _∷_}
+use Prim.Native.Nat.{ℕ, _+_, _-_, _<_}
+use native.Mathlib.Nat.{add-sub-cancel-left, le-refl}
+use native.Mathlib.Numerals.{add-one}
+use lib.ListN.{length, getD, take, drop, length-drop}
+use lib.Seq.{drop-cons, take-all}
+
+-- those from i on are element i and those from i + 1 on
+pub next : (l : List ℕ) (i : ℕ) → i < length l → drop i l ≡ getD l i 0 ∷ drop (i + 1) l
+next l i h = rw (add-one i) (drop-cons l i 0 h)
+
+-- the part from i to i + 1
+pub part-one : (l : List ℕ) (i : ℕ) → i < length l → take (i + 1 - i) (drop i l) ≡ getD l i 0 ∷ []
+part-one l i h = rw (add-sub-cancel-left i 1, next l i h)
+
+-- the part from i to the end
+pub part-rest : (l : List ℕ) (i : ℕ) → take (length l - i) (drop i l) ≡ drop i l
+part-rest l i = take-all (length l - i) (drop i l) (rw (length-drop i l) (le-refl (length l - i)))

@@ -1,0 +1,82 @@
+-- `ram::put` meets its contract: the new column is a byte, since high divides 256.
+-- Assumes nothing.
+use mathlib.Core.Path.{_≡_, sym}
+use Prim.Native.Nat.{ℕ, _+_, _*_, _/_, _%_, _≤_, _<_}
+use native.Mathlib.Omega.{arith}
+use native.Mathlib.Nat.{mod-lt, div-add-mod', div-lt-iff-lt-mul}
+use lib.Arith.{digits-lt}
+use lib.ListN.{getD}
+use denote.Ref.{now}
+use lib.Seq.{set-out}
+use Rattle.sheet.specs.Data.{changed}
+use borrow.Author.Needs.{needs}
+use Rattle.ram.proofs.put.Statement.{statement}
+use Rattle.ram.proofs.put.Tie as tie
+use Rattle.ram.proofs.put.Reads as reads
+use Rattle.ram.proofs.put.Lts as lts
+
+new-lt : (q low high f : ℕ) → q < 256 → 0 < low → f * low + low ≤ high → 256 % high ≡ 0 → q / high * high + (f * low + q % low) < 256
+new-lt q low high f hq hl hh hd =
+    let e : 256 / high * high + 256 % high ≡ 256 = div-add-mod' 256 high in
+    let d : q / high < 256 / high = div-lt-iff-lt-mul {k = high} (omega (arith, hh)) .1 (omega (arith, e, hd)) in
+    let l : f * low + q % low < high = omega (arith, mod-lt q hl) in
+    omega (arith, e, hd, digits-lt d l)
+
+whole : (c : lts.After-slice-known reads.Pre reads.Post) →
+    let a = c .before .before .args in
+    let q = getD (now (a .ram)) (a .at) 0 in
+    q / a .high * a .high + (a .f * a .low + q % a .low) < 256
+whole c =
+    let s = c .before .before in
+    new-lt (getD (now (s .args .ram)) (s .args .at) 0) (s .args .low) (s .args .high) (s .args .f) (c .slice-known .given (s .args .at) .fits) (s .pre .0) (s .pre .1) (s .pre .2)
+
+slice-read-q : tie.Need-slice-read-q
+slice-read-q c = search needs
+
+div-ram : tie.Need-div-ram
+div-ram c = search needs
+
+mul-ram : tie.Need-mul-ram
+mul-ram c = omega (arith, whole c)
+
+mul-ram-2 : tie.Need-mul-ram-2
+mul-ram-2 c = search needs
+
+rem-ram : tie.Need-rem-ram
+rem-ram c = search needs
+
+add-ram : tie.Need-add-ram
+add-ram c = omega (arith, whole c)
+
+add-ram-2 : tie.Need-add-ram-2
+add-ram-2 c = omega (arith, whole c)
+
+slice-write-ram : tie.Need-slice-write-ram
+slice-write-ram c = search needs
+
+same-length : tie.Need-same-length
+same-length c = search needs
+
+returns : tie.Need-returns
+unfolding changed
+returns c = search needs
+
+returns-2 : tie.Need-returns-2
+unfolding changed
+returns-2 c = sym (set-out _ _ _ (c .if1 .left))
+
+pub put-spec : {M : Type 1} → statement M
+put-spec =
+    tie.close
+    (tie.spec
+    slice-read-q
+    div-ram
+    mul-ram
+    mul-ram-2
+    rem-ram
+    add-ram
+    add-ram-2
+    slice-write-ram
+    same-length
+    returns
+    returns-2)

@@ -1,0 +1,52 @@
+-- `ram::three_byte` meets its contract: two columns of three rows and one of two.
+-- Assumes nothing.
+use mathlib.Core.Path.{refl}
+use native.Mathlib.Omega.{arith}
+use denote.Ref.{now}
+use Rattle.ram.specs.Fields.{withRows}
+use Rattle.ram.proofs.Bytes.{first, later}
+use borrow.Author.Needs.{needs}
+use Rattle.ram.proofs.three_byte.Statement.{statement}
+use Rattle.ram.proofs.three_byte.Tie as tie
+
+reversed-requires : tie.Need-reversed-requires
+reversed-requires c κs = search needs
+
+put-requires : tie.Need-put-requires
+put-requires c κs = search needs
+
+add-put : tie.Need-add-put
+add-put c = search needs
+
+put-requires-2 : tie.Need-put-requires-2
+put-requires-2 c κs = search needs
+
+add-put-2 : tie.Need-add-put-2
+add-put-2 c = search needs
+
+put-requires-3 : tie.Need-put-requires-3
+put-requires-3 c κs = search needs
+
+same-length : tie.Need-same-length
+same-length c = search needs
+
+returns : tie.Need-returns
+unfolding withRows
+returns c = let a = c .before .before .before .before .before .before .before .before .before .before .before .before .before .before .args in
+    let y = c .before .before .before .before .before .before .before .before .before .before .before .before .reversed in
+    let e0 = first 3 0 (a .x) (a .at) (y .result) (now (a .ram)) (y .ensures) 3 5 _ (omega arith) refl (c .before .before .before .before .before .before .before .before .before .before .put .ensures) in
+    let e1 = later 3 0 (a .x) (a .at) (y .result) (now (a .ram)) (y .ensures) 1 3 2 _ _ (omega arith) refl e0 (c .before .before .before .before .before .before .put2 .ensures) in
+    later 3 0 (a .x) (a .at) (y .result) (now (a .ram)) (y .ensures) 2 2 0 _ _ (omega arith) refl e1 (c .before .before .put3 .ensures)
+
+pub three-byte-spec : {M : Type 1} → statement M
+three-byte-spec =
+    tie.close
+    (tie.spec
+    reversed-requires
+    put-requires
+    add-put
+    put-requires-2
+    add-put-2
+    put-requires-3
+    same-length
+    returns)
