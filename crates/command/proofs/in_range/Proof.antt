@@ -1,0 +1,13 @@
+-- in_range: the code's tests are the definition's, grouped from the left.
+-- Assumes nothing.
+use mathlib.Core.Bool.{and-assoc}
+use Rattle.sheet.specs.Commands.{inRange}
+use Rattle.command.proofs.in_range.Statement.{statement}
+use Rattle.command.proofs.in_range.Tie as tie
+
+returns : tie.Need-returns
+unfolding inRange
+returns c = simp (and-assoc)
+
+pub in-range-spec : {M : Type 1} → statement M
+in-range-spec = tie.close (tie.spec returns)

@@ -1,0 +1,28 @@
+-- shown: by its one test, which is the definition's.
+-- Assumes nothing.
+use Rattle.sheet.specs.Pictures.{shown}
+use borrow.Author.Needs.{needs}
+use Rattle.picture.proofs.shown.Statement.{statement}
+use Rattle.picture.proofs.shown.Tie as tie
+
+returns : tie.Need-returns
+unfolding shown
+returns c = rw (c .if1 .taken)
+
+backplanes-requires : tie.Need-backplanes-requires
+backplanes-requires c κs = search needs
+
+bank-shown-requires : tie.Need-bank-shown-requires
+bank-shown-requires c κs = search needs
+
+bank-row-requires : tie.Need-bank-row-requires
+bank-row-requires c κs = search needs
+
+returns-2 : tie.Need-returns-2
+unfolding shown
+returns-2 c = rw (c .before .before .before .if1 .left, c .bank-row .ensures, c .before .before .backplanes .ensures, c .before .bank-shown .ensures)
+
+pub shown-spec : {M : Type 1} → statement M
+shown-spec =
+    tie.close
+    (tie.spec returns backplanes-requires bank-shown-requires bank-row-requires returns-2)
