@@ -68,13 +68,13 @@ counts-past (suc n) m v size t h =
 
 -- ---- from the position that a place stands for
 
-module _ (C L u : ℕ) (r : Registers) (size : ℕ) (h : size ≤ C * L) where
-  -- the position of the registers at u is as good as u
-  as-good {ℓ} : (A : Type ℓ) (f : ℕ → A) → ((v w : ℕ) → size ≤ v → size ≤ w → f v ≡ f w) → f (position C (atPosition C L r u)) ≡ f u
-  as-good A f past =
-      ⊎-elim (λ e. ap f e)
-      (λ l. past (position C (atPosition C L r u)) u (le-trans h (l .0)) (le-trans h (l .1)))
-      (settled C L u r)
+-- what is the same from any two positions past the end is the same from u and from the position of the registers at u
+pub as-good : (C L u : ℕ) (r : Registers) (size : ℕ) → size ≤ C * L → {A : Type 0} (f : ℕ → A)
+    → ((v w : ℕ) → size ≤ v → size ≤ w → f v ≡ f w) → f (position C (atPosition C L r u)) ≡ f u
+as-good C L u r size h f past =
+    ⊎-elim (λ e. ap f e)
+    (λ l. past (position C (atPosition C L r u)) u (le-trans h (l .0)) (le-trans h (l .1)))
+    (settled C L u r)
 
 -- ---- the law
 
@@ -90,6 +90,7 @@ ran C L xs g =
       counts = countedRun (length xs) m v (length (g .ram)) (g .counts);
     }
 
+-- heard byte by byte, it is the same group
 pub run-at-once : (C L : ℕ) (xs : List ℕ) (g : Group) → g .registers .p < C → g .registers .a ≤ L → length (g .ram) ≤ C * L
     → heard C L Run xs g ≡ ran C L xs g
 unfolding heard dataByte putRun countedRun backplanes atPosition
@@ -115,11 +116,11 @@ run-at-once C L (x ∷ xs) g lp la ll =
           ∙ on C L (w * length xs) (v + w) r pc
           ∙ ap (λ (u : ℕ). atPosition C L r u) (along v w (length xs))) i;
       ram =
-          as-good C L (v + w) r size ll (List ℕ) (λ u. putRun m b u xs ram)
+          as-good C L (v + w) r size ll (λ u. putRun m b u xs ram)
           (λ u t hu ht. run-past m b u xs ram (rw el hu) ∙ sym (run-past m b t xs ram (rw el ht))) i;
       counts =
           (ap (λ (n : ℕ). countedRun (length xs) m (position C s) n (counted m v size (g .counts))) el
-          ∙ as-good C L (v + w) r size ll Counts (λ u. countedRun (length xs) m u size (counted m v size (g .counts)))
+          ∙ as-good C L (v + w) r size ll (λ u. countedRun (length xs) m u size (counted m v size (g .counts)))
           (λ u t hu ht. counts-past (length xs) m u size _ hu ∙ sym (counts-past (length xs) m t size _ ht))) i;
     })
   where
