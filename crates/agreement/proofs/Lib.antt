@@ -1,2 +1,3 @@
 pub mod Chips
 pub mod Column
+pub mod Byte
