@@ -1,0 +1,77 @@
+-- One column step of all of a group's chips is one change of the group's columns.
+-- Assumes nothing.
+use mathlib.Core.Path.{_≡_, refl, sym, ap, ap₂, _∙_}
+use mathlib.Core.List.{List, _∷_, map}
+use Prim.Native.Nat.{ℕ, zero, suc, _+_, _*_, _<_}
+use native.Mathlib.Omega.{arith}
+use lib.ListN.{getD, set, take, drop}
+use lib.Seq.{getD-take, getD-drop, take-set-le, take-set-lt, drop-set-lt, drop-set-add}
+use borrow.Author.Tests.{eq-eqb, ne-eqb}
+use Rattle.sheet.specs.declared.Registers.{Registers}
+use Rattle.sheet.specs.declared.Chip.{Chip}
+use Rattle.sheet.specs.Commands.{backplanes, bankRow}
+use Rattle.sheet.specs.Places.{advanced, position}
+use Rattle.sheet.specs.Data.{changed}
+use Rattle.sheet.specs.Plain.{putRows, column}
+use Rattle.sheet.specs.Agree.{groupChips}
+use Rattle.agreement.proofs.Chips.{chipAt}
+
+-- ---- a change, before and after a cut
+
+take-before : (C c : ℕ) (f : ℕ → ℕ) (columns : List ℕ) → c < C → take C (changed f c columns) ≡ changed f c (take C columns)
+unfolding changed
+take-before C c f columns l = take-set-lt C columns c (f (getD columns c 0)) l ∙ ap (λ (q : ℕ). set (take C columns) c (f q)) (sym (getD-take C columns c 0 l))
+
+drop-before : (C c : ℕ) (f : ℕ → ℕ) (columns : List ℕ) → c < C → drop C (changed f c columns) ≡ drop C columns
+unfolding changed
+drop-before C c f columns l = drop-set-lt C columns c (f (getD columns c 0)) l
+
+take-after : (C c : ℕ) (f : ℕ → ℕ) (columns : List ℕ) → take C (changed f (C + c) columns) ≡ take C columns
+unfolding changed
+take-after C c f columns = take-set-le C columns (C + c) (f (getD columns (C + c) 0)) (omega arith)
+
+drop-after : (C c : ℕ) (f : ℕ → ℕ) (columns : List ℕ) → drop C (changed f (C + c) columns) ≡ changed f c (drop C columns)
+unfolding changed
+drop-after C c f columns = drop-set-add C columns c (f (getD columns (C + c) 0)) ∙ ap (λ (q : ℕ). set (drop C columns) c (f q)) (sym (getD-drop C columns c 0))
+
+-- ---- the step
+
+-- what column j of byte x does to the rows of a column
+abbrev pub rowsOf : ℕ → ℕ → Registers → ℕ → ℕ
+rowsOf x j r = putRows (backplanes r) (bankRow (backplanes r) (r .i)) (backplanes r * j) x
+
+module _ (C L x j g : ℕ) (r : Registers) where
+  -- chips past the one selected keep their columns
+  past : (n i : ℕ) (columns : List ℕ) → r .a < i → map (column C L x j) (groupChips C n g i r columns) ≡ groupChips C n g i (advanced C L r) columns
+  unfolding groupChips column
+  past zero i columns l = refl
+  past (suc n) i columns l = rw (ne-eqb (r .a) i (omega arith)) (ap (λ (cs : List Chip). chipAt g i (advanced C L r) (take C columns) ∷ cs) (past n (suc i) (drop C columns) (omega arith)))
+
+  -- from subaddress i on, d chips before the one selected
+  from : (n i d : ℕ) (columns : List ℕ) → r .p < C → r .a ≡ i + d
+      → map (column C L x j) (groupChips C n g i r columns) ≡ groupChips C n g i (advanced C L r) (changed (rowsOf x j r) (C * d + r .p) columns)
+  unfolding groupChips column
+  from zero i d columns l e = refl
+  from (suc n) i zero columns l e =
+      rw (eq-eqb (r .a) i (omega arith), here C (r .p))
+      (ap₂ (λ (c : List ℕ) (cs : List Chip). chipAt g i (advanced C L r) c ∷ cs)
+      (sym (take-before C (r .p) (rowsOf x j r) columns l))
+      (past n (suc i) (drop C columns) (omega arith) ∙ ap (λ (c : List ℕ). groupChips C n g (suc i) (advanced C L r) c) (sym (drop-before C (r .p) (rowsOf x j r) columns l))))
+    where
+      here : (C p : ℕ) → C * 0 + p ≡ p
+      here C p = omega arith
+  from (suc n) i (suc d) columns l e =
+      rw (ne-eqb (r .a) i (omega arith), further C d (r .p))
+      (ap₂ (λ (c : List ℕ) (cs : List Chip). chipAt g i (advanced C L r) c ∷ cs)
+      (sym (take-after C (C * d + r .p) (rowsOf x j r) columns))
+      (from n (suc i) d (drop C columns) l (omega arith)
+      ∙ ap (λ (c : List ℕ). groupChips C n g (suc i) (advanced C L r) c) (sym (drop-after C (C * d + r .p) (rowsOf x j r) columns))))
+    where
+      further : (C d p : ℕ) → C * suc d + p ≡ C + (C * d + p)
+      further C d p = omega arith
+
+  -- the change is at the position
+  pub one-column : (n : ℕ) (columns : List ℕ) → r .p < C
+      → map (column C L x j) (groupChips C n g 0 r columns) ≡ groupChips C n g 0 (advanced C L r) (changed (rowsOf x j r) (position C r) columns)
+  unfolding position
+  one-column n columns l = from n 0 (r .a) columns l (omega arith)

@@ -1,0 +1,4 @@
+pub mod Chips
+pub mod Column
+pub mod Byte
+pub mod Data

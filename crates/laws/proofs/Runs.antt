@@ -1,0 +1,128 @@
+-- Data bytes followed one by one are a run at one position. A run keeps the length, and past the end it changes and counts nothing but discards.
+-- Assumes nothing.
+use mathlib.Core.Path.{_≡_, refl, sym, ap, _∙_}
+use mathlib.Core.Logic.{⊎-elim}
+use mathlib.Core.List.{List, [], _∷_}
+use Prim.Native.Nat.{ℕ, zero, suc, _+_, _*_, _/_, _≤_, _<_}
+use native.Mathlib.Nat.{add-zero, mul-zero, mul-suc, le-trans}
+use native.Mathlib.Omega.{arith}
+use lib.ListN.{length, getD, length-set}
+use lib.Seq.{set-out}
+use borrow.Author.Tests.{le-ltb}
+use Rattle.sheet.specs.declared.Registers.{Registers}
+use Rattle.sheet.specs.declared.Counts.{Counts}
+use Rattle.sheet.specs.declared.Expect.the-variants.{Run}
+use Rattle.sheet.specs.Commands.{backplanes, bankRow}
+use Rattle.sheet.specs.Places.{position, atPosition}
+use Rattle.sheet.specs.Data.{changed, putBits, putRun, widthOf, storedBits, counted, countedRun}
+use Rattle.sheet.specs.Long.{Group, heard, dataByte}
+use Rattle.laws.proofs.Steps.{home, on, many, p-at, a-at, settled}
+
+-- ---- lengths
+
+pub length-changed : (f : ℕ → ℕ) (c : ℕ) (ram : List ℕ) → length (changed f c ram) ≡ length ram
+unfolding changed
+length-changed f c ram = length-set ram c (f (getD ram c 0))
+
+pub length-bits : (n m b v x : ℕ) (ram : List ℕ) → length (putBits n m b v x ram) ≡ length ram
+unfolding putBits
+length-bits zero m b v x ram = refl
+length-bits (suc k) m b v x ram = length-changed _ (v + k / m) (putBits k m b v x ram) ∙ length-bits k m b v x ram
+
+pub length-run : (m b v : ℕ) (xs ram : List ℕ) → length (putRun m b v xs ram) ≡ length ram
+unfolding putRun
+length-run m b v [] ram = refl
+length-run m b v (x ∷ xs) ram = length-run m b (v + widthOf m) xs (putBits 8 m b v x ram) ∙ length-bits 8 m b v x ram
+
+-- ---- past the end
+
+pub changed-past : (f : ℕ → ℕ) (c : ℕ) (ram : List ℕ) → length ram ≤ c → changed f c ram ≡ ram
+unfolding changed
+changed-past f c ram h = set-out ram c (f (getD ram c 0)) h
+
+-- nothing is put
+pub bits-past : (n m b v x : ℕ) (ram : List ℕ) → length ram ≤ v → putBits n m b v x ram ≡ ram
+unfolding putBits
+bits-past zero m b v x ram h = refl
+bits-past (suc k) m b v x ram h = rw (bits-past k m b v x ram h) (changed-past _ (v + k / m) ram (omega arith))
+
+pub run-past : (m b v : ℕ) (xs ram : List ℕ) → length ram ≤ v → putRun m b v xs ram ≡ ram
+unfolding putRun
+run-past m b v [] ram h = refl
+run-past m b v (x ∷ xs) ram h = rw (bits-past 8 m b v x ram h) (run-past m b (v + widthOf m) xs ram (omega arith))
+
+pub stored-past : (n m v size : ℕ) → size ≤ v → storedBits n m v size ≡ 0
+unfolding storedBits
+stored-past zero m v size h = refl
+stored-past (suc k) m v size h = rw (stored-past k m v size h, le-ltb (v + k / m) size (omega arith))
+
+-- and all eight bits of each byte are discarded
+pub counts-past : (n m v size : ℕ) (t : Counts) → size ≤ v
+    → countedRun n m v size t ≡ record { acknowledged = t .acknowledged; stored = t .stored; discarded = t .discarded + 8 * n }
+unfolding countedRun counted
+counts-past zero m v size t h = rw (add-zero (t .discarded))
+counts-past (suc n) m v size t h =
+    counts-past n m (v + widthOf m) size (counted m v size t) (omega arith)
+    ∙ rw (stored-past 8 m v size h, le-ltb (v + 7 / m) size (omega arith), add-zero (t .acknowledged), add-zero (t .stored), mul-suc 8 n)
+    (ap (λ (d : ℕ). record { acknowledged = t .acknowledged; stored = t .stored; discarded = d }) (omega arith))
+
+-- ---- from the position that a place stands for
+
+-- what is the same from any two positions past the end is the same from u and from the position of the registers at u
+pub as-good : (C L u : ℕ) (r : Registers) (size : ℕ) → size ≤ C * L → {A : Type 0} (f : ℕ → A)
+    → ((v w : ℕ) → size ≤ v → size ≤ w → f v ≡ f w) → f (position C (atPosition C L r u)) ≡ f u
+as-good C L u r size h f past =
+    ⊎-elim (λ e. ap f e)
+    (λ l. past (position C (atPosition C L r u)) u (le-trans h (l .0)) (le-trans h (l .1)))
+    (settled C L u r)
+
+-- ---- the law
+
+-- the group that has followed a run at one position
+abbrev pub ran : ℕ → ℕ → List ℕ → Group → Group
+ran C L xs g =
+    let r = g .registers in
+    let m = backplanes r in
+    let v = position C r in
+    record {
+      registers = atPosition C L r (v + widthOf m * length xs);
+      ram = putRun m (bankRow m (r .i)) v xs (g .ram);
+      counts = countedRun (length xs) m v (length (g .ram)) (g .counts);
+    }
+
+-- heard byte by byte, it is the same group
+pub run-at-once : (C L : ℕ) (xs : List ℕ) (g : Group) → g .registers .p < C → g .registers .a ≤ L → length (g .ram) ≤ C * L
+    → heard C L Run xs g ≡ ran C L xs g
+unfolding heard dataByte putRun countedRun backplanes atPosition
+run-at-once C L [] g lp la ll =
+    rw (mul-zero (widthOf (backplanes (g .registers))), add-zero (position C (g .registers)))
+    (ap (λ (s : Registers). record { registers = s; ram = g .ram; counts = g .counts }) (sym (home C L (g .registers) lp la)))
+run-at-once C L (x ∷ xs) g lp la ll =
+    let r = g .registers in
+    let m = backplanes r in
+    let b = bankRow m (r .i) in
+    let v = position C r in
+    let w = widthOf m in
+    let ram = putBits 8 m b v x (g .ram) in
+    let size = length (g .ram) in
+    let el : length ram ≡ size = length-bits 8 m b v x (g .ram) in
+    let pc : 0 < C = omega arith in
+    let next = dataByte C L x g in
+    let s = atPosition C L r (v + w) in
+    run-at-once C L xs next (p-at C L (v + w) r pc) (a-at C L (v + w) r) (rw el ll)
+    ∙ (λ i. record {
+      registers =
+          (sym (many C L (w * length xs) s (p-at C L (v + w) r pc) (a-at C L (v + w) r))
+          ∙ on C L (w * length xs) (v + w) r pc
+          ∙ ap (λ (u : ℕ). atPosition C L r u) (along v w (length xs))) i;
+      ram =
+          as-good C L (v + w) r size ll (λ u. putRun m b u xs ram)
+          (λ u t hu ht. run-past m b u xs ram (rw el hu) ∙ sym (run-past m b t xs ram (rw el ht))) i;
+      counts =
+          (ap (λ (n : ℕ). countedRun (length xs) m (position C s) n (counted m v size (g .counts))) el
+          ∙ as-good C L (v + w) r size ll (λ u. countedRun (length xs) m u size (counted m v size (g .counts)))
+          (λ u t hu ht. counts-past (length xs) m u size _ hu ∙ sym (counts-past (length xs) m t size _ ht))) i;
+    })
+  where
+    along : (v w n : ℕ) → v + w + w * n ≡ v + w * suc n
+    along v w n = omega arith
