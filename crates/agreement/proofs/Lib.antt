@@ -2,3 +2,4 @@ pub mod Chips
 pub mod Column
 pub mod Byte
 pub mod Data
+pub mod Acknowledge
