@@ -3,3 +3,5 @@ pub mod Column
 pub mod Byte
 pub mod Data
 pub mod Acknowledge
+pub mod Deaf
+pub mod Group
