@@ -5,3 +5,4 @@ pub mod Data
 pub mod Acknowledge
 pub mod Deaf
 pub mod Group
+pub mod Checks
