@@ -6,3 +6,4 @@ pub mod Acknowledge
 pub mod Deaf
 pub mod Group
 pub mod Checks
+pub mod Parts
