@@ -7,3 +7,4 @@ pub mod Deaf
 pub mod Group
 pub mod Checks
 pub mod Parts
+pub mod Transfer
