@@ -8,3 +8,6 @@ pub mod Group
 pub mod Checks
 pub mod Parts
 pub mod Transfer
+pub mod Sequence
+pub mod Show
+pub mod Demand
