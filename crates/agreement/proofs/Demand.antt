@@ -1,10 +1,10 @@
 -- Demand 3, for any column count and limit, and for the PCF8532.
 -- Assumes nothing.
 use native.Mathlib.Omega.{arith}
-use Rattle.sheet.specs.Commands.{commandOf, obeyed, powerOn}
+use Rattle.sheet.specs.Commands.{powerOn}
 use Rattle.sheet.specs.Long.{powerOnCall}
 use Rattle.sheet.specs.Agree.{Demand3, Claim}
-use Rattle.laws.proofs.Ranges.{range-of, in-range, kept}
+use Rattle.laws.proofs.Kept.{pcf8532-keeps}
 use Rattle.laws.proofs.Fits.{powered-passes}
 use Rattle.agreement.proofs.Transfer as transfers
 use Rattle.agreement.proofs.Sequence as sequences
@@ -21,4 +21,4 @@ demand3 C L pc pl keeps = record {
 
 -- the commands of the PCF8532 keep P below 160 and A at most 4
 pub pcf8532 : Demand3 160 4
-pcf8532 = demand3 160 4 (omega arith) (omega arith) (λ r x h. in-range 160 4 (obeyed r (commandOf x)) (kept r x (range-of 160 4 r h)))
+pcf8532 = demand3 160 4 (omega arith) (omega arith) pcf8532-keeps

@@ -12,9 +12,10 @@ use Rattle.sheet.specs.declared.Chip.{Chip}
 use Rattle.sheet.specs.Long.{Group, acknowledged, nothing, registersOf, partOf}
 use Rattle.sheet.specs.Agree.{State, groupChips, chipsOf, Valid}
 use Rattle.laws.proofs.Nibbles.{take-nibbles, drop-nibbles, join-nibbles}
+use Rattle.laws.proofs.Kept.{Kept}
 use Rattle.laws.proofs.Fits.{Fits, check-fits}
 use Rattle.agreement.proofs.Chips.{own-columns}
-use Rattle.agreement.proofs.Group.{Kept, chipsIn}
+use Rattle.agreement.proofs.Group.{chipsOfGroup}
 
 -- two groups as one state
 abbrev pub together : Group → Group → State
@@ -25,7 +26,7 @@ abbrev pub groupOf : ℕ → Chips → ℕ → State → Group
 groupOf C n g s = record { registers = registersOf g (s .registers); ram = partOf C n g (s .ram); counts = acknowledged nothing }
 
 module _ (C L : ℕ) (n : Chips) where
-  pub chips-together : (a b : Group) → Kept C L (n .zero) a → chipsOf C n (together a b) ≡ chipsIn C (n .zero) 0 a ++ chipsIn C (n .one) 1 b
+  pub chips-together : (a b : Group) → Kept C L (n .zero) a → chipsOf C n (together a b) ≡ chipsOfGroup C (n .zero) 0 a ++ chipsOfGroup C (n .one) 1 b
   chips-together a b k =
       ap₂ (λ (x y : List Chip). x ++ y)
       (own-columns C (n .zero) 0 0 (a .registers) (a .ram) (b .ram) (k .size))

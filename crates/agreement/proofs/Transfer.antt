@@ -22,8 +22,9 @@ use Rattle.sheet.specs.Checks.{checkTransfer}
 use Rattle.sheet.specs.Long.{Group, After, heard, taken, answered, transferCall}
 use Rattle.sheet.specs.Plain.{Plain, PlainAfter, plainHeard, plainSaid, plainTaken, plainAnswered, plainCall}
 use Rattle.sheet.specs.Agree.{State, chipsOf, plainly, Keeps, Valid, Agrees}
+use Rattle.laws.proofs.Kept.{Kept, heard-keeps}
 use Rattle.laws.proofs.Fits.{Fits, fits-of}
-use Rattle.agreement.proofs.Group.{Kept, chipsIn, plainOf, heard-keeps, heard-agrees}
+use Rattle.agreement.proofs.Group.{chipsOfGroup, plainOf, heard-agrees}
 use Rattle.agreement.proofs.Checks.{group-hears, chips-hear, same-checks}
 use Rattle.agreement.proofs.Parts.{together, groupOf, chips-together, valid-together, rest-one, kept-zero, kept-one, apart}
 
@@ -37,31 +38,31 @@ record Same (C L : ℕ) (n : Chips) (p : PlainAfter) (a : After) : Type 0 where
   valid : Valid C L n (stateOf a)
 
 module _ (C L : ℕ) (keeps : Keeps C L) (n : Chips) (s : State) (bytes : List ℕ) (v : Valid C L n s) where
-  f : Fits C L n (s .registers) (s .ram)
-  f = fits-of C L n (s .registers) (s .ram) v
+  fits : Fits C L n (s .registers) (s .ram)
+  fits = fits-of C L n (s .registers) (s .ram) v
 
-  abbrev zeroth : Group
-  zeroth = groupOf C n 0 s
+  abbrev groupZero : Group
+  groupZero = groupOf C n 0 s
 
-  abbrev first : Group
-  first = groupOf C n 1 s
+  abbrev groupOne : Group
+  groupOne = groupOf C n 1 s
 
   -- a group after the bytes
   abbrev after : Group → Group
   after g = heard C L Control (drop 1 bytes) g
 
   -- the chips before
-  chips-before : chipsOf C n s ≡ chipsIn C (n .zero) 0 zeroth ++ chipsIn C (n .one) 1 first
-  chips-before = ap (λ (t : State). chipsOf C n t) (apart C L n s f) ∙ chips-together C L n zeroth first (kept-zero C L n s f)
+  chips-before : chipsOf C n s ≡ chipsOfGroup C (n .zero) 0 groupZero ++ chipsOfGroup C (n .one) 1 groupOne
+  chips-before = ap (λ (t : State). chipsOf C n t) (apart C L n s fits) ∙ chips-together C L n groupZero groupOne (kept-zero C L n s fits)
 
   -- groups a and b after the transfer
   conclude : (a b : Group) (p : Plain) (t : After) → Kept C L (n .zero) a → Kept C L (n .one) b
-      → p .chips ≡ chipsIn C (n .zero) 0 a ++ chipsIn C (n .one) 1 b → stateOf t ≡ together a b
+      → p .chips ≡ chipsOfGroup C (n .zero) 0 a ++ chipsOfGroup C (n .one) 1 b → stateOf t ≡ together a b
       → PlainAnswer.Acknowledged (p .acknowledged) ≡ plainly (t .result .answer) → Same C L n (plainSaid p) t
   conclude a b p t ka kb ep et ea = record {
     hold = ep ∙ sym (ap (λ (q : State). chipsOf C n q) et ∙ chips-together C L n a b ka);
     acknowledge = ea;
-    valid = subst (λ (q : State). Valid C L n q) (sym et) (valid-together C L n a b (f .zero-few) (f .one-few) ka kb);
+    valid = subst (λ (q : State). Valid C L n q) (sym et) (valid-together C L n a b (fits .zero-few) (fits .one-few) ka kb);
   }
 
   -- the transfer to a chip, by its address
@@ -73,30 +74,30 @@ module _ (C L : ℕ) (keeps : Keeps C L) (n : Chips) (s : State) (bytes : List �
 
   to-zero : 0 < n .zero → Same C L n (plainSaid (plain (addressOf 0))) (long (To 0))
   to-zero pn =
-      let others = chipsIn C (n .one) 1 first in
-      let e : plain (addressOf 0) ≡ plainOf C (n .zero) 0 [] others (after zeroth) =
+      let others = chipsOfGroup C (n .one) 1 groupOne in
+      let e : plain (addressOf 0) ≡ plainOf C (n .zero) 0 [] others (after groupZero) =
       ap (λ (cs : List Chip). plainHeard C L (addressOf 0) Control (drop 1 bytes) (record { acknowledged = 1; chips = cs })) chips-before
-      ∙ heard-agrees C L (n .zero) 0 keeps pn (f .zero-few) [] others refl (group-hears (addressOf 0) C (n .one) 1 (first .registers) (first .ram)) (drop 1 bytes) Control zeroth (kept-zero C L n s f) in
-      conclude (after zeroth) first (plain (addressOf 0)) (long (To 0)) (heard-keeps C L (n .zero) keeps (drop 1 bytes) Control zeroth (kept-zero C L n s f)) (kept-one C L n s f)
+      ∙ heard-agrees C L (n .zero) 0 keeps pn (fits .zero-few) [] others refl (group-hears (addressOf 0) C (n .one) 1 (groupOne .registers) (groupOne .ram)) (drop 1 bytes) Control groupZero (kept-zero C L n s fits) in
+      conclude (after groupZero) groupOne (plain (addressOf 0)) (long (To 0)) (heard-keeps C L (n .zero) keeps (drop 1 bytes) Control groupZero (kept-zero C L n s fits)) (kept-one C L n s fits)
       (ap (λ (p : Plain). p .chips) e)
       (λ i. record {
-        registers = record { zero = after zeroth .registers; one = s .registers .one };
-        ram = after zeroth .ram ++ (ap (λ (k : ℕ). drop k (s .ram)) (zero-add (C * n .zero)) ∙ sym (rest-one C L n s f)) i;
+        registers = record { zero = after groupZero .registers; one = s .registers .one };
+        ram = after groupZero .ram ++ (ap (λ (k : ℕ). drop k (s .ram)) (zero-add (C * n .zero)) ∙ sym (rest-one C L n s fits)) i;
       })
       (ap (λ (p : Plain). PlainAnswer.Acknowledged (p .acknowledged)) e)
 
   to-one : 0 < n .one → Same C L n (plainSaid (plain (addressOf 1))) (long (To 1))
   to-one pn =
-      let others = chipsIn C (n .zero) 0 zeroth in
-      let e : plain (addressOf 1) ≡ plainOf C (n .one) 1 others [] (after first) =
+      let others = chipsOfGroup C (n .zero) 0 groupZero in
+      let e : plain (addressOf 1) ≡ plainOf C (n .one) 1 others [] (after groupOne) =
       ap (λ (cs : List Chip). plainHeard C L (addressOf 1) Control (drop 1 bytes) (record { acknowledged = 1; chips = cs }))
-      (chips-before ∙ ap (λ (cs : List Chip). others ++ cs) (sym (append-nil (chipsIn C (n .one) 1 first))))
-      ∙ heard-agrees C L (n .one) 1 keeps pn (f .one-few) others [] (group-hears (addressOf 1) C (n .zero) 0 (zeroth .registers) (zeroth .ram)) refl (drop 1 bytes) Control first (kept-one C L n s f) in
-      conclude zeroth (after first) (plain (addressOf 1)) (long (To 1)) (kept-zero C L n s f) (heard-keeps C L (n .one) keeps (drop 1 bytes) Control first (kept-one C L n s f))
-      (ap (λ (p : Plain). p .chips) e ∙ ap (λ (cs : List Chip). others ++ cs) (append-nil (chipsIn C (n .one) 1 (after first))))
+      (chips-before ∙ ap (λ (cs : List Chip). others ++ cs) (sym (append-nil (chipsOfGroup C (n .one) 1 groupOne))))
+      ∙ heard-agrees C L (n .one) 1 keeps pn (fits .one-few) others [] (group-hears (addressOf 1) C (n .zero) 0 (groupZero .registers) (groupZero .ram)) refl (drop 1 bytes) Control groupOne (kept-one C L n s fits) in
+      conclude groupZero (after groupOne) (plain (addressOf 1)) (long (To 1)) (kept-zero C L n s fits) (heard-keeps C L (n .one) keeps (drop 1 bytes) Control groupOne (kept-one C L n s fits))
+      (ap (λ (p : Plain). p .chips) e ∙ ap (λ (cs : List Chip). others ++ cs) (append-nil (chipsOfGroup C (n .one) 1 (after groupOne))))
       (λ i. record {
-        registers = record { zero = s .registers .zero; one = after first .registers };
-        ram = take (C * n .zero) (s .ram) ++ (ap (λ (c : List ℕ). after first .ram ++ c) (drop-of-length-le (s .ram) {i = C * n .zero + C * n .one} (le-of-eq (f .columns ∙ mul-add C (n .zero) (n .one)))) ∙ append-nil (after first .ram)) i;
+        registers = record { zero = s .registers .zero; one = after groupOne .registers };
+        ram = take (C * n .zero) (s .ram) ++ (ap (λ (c : List ℕ). after groupOne .ram ++ c) (drop-of-length-le (s .ram) {i = C * n .zero + C * n .one} (le-of-eq (fits .columns ∙ mul-add C (n .zero) (n .one)))) ∙ append-nil (after groupOne .ram)) i;
       })
       (ap (λ (p : Plain). PlainAnswer.Acknowledged (p .acknowledged)) e)
 
