@@ -62,28 +62,26 @@ fn check_ram(chips: Chips, ram: &[u8]) -> Check
     ensures { λ r. ⌜ r ≡ checkRam 160 chips (now (ram .entry)) ⌝ }
 {
     let size = 160 * (chips.zero as usize + chips.one as usize);
-    or_else(
-        unless(ram.len() == size, Refusal::RamLength),
-        columns::first_over(ram),
-    )
+    let length = unless(ram.len() == size, Refusal::RamLength);
+    let over = columns::first_over(ram);
+    or_else(length, over)
 }
 
 fn check_state(chips: Chips, registers: Both, ram: &[u8]) -> Check
     ensures { λ r. ⌜ r ≡ checkState 160 4 chips registers (now (ram .entry)) ⌝ }
 {
-    or_else(
-        check_chips(chips),
-        or_else(check_registers(registers), check_ram(chips, ram)),
-    )
+    let counts = check_chips(chips);
+    let ranges = check_registers(registers);
+    let columns = check_ram(chips, ram);
+    or_else(counts, or_else(ranges, columns))
 }
 
 fn check_length(size: usize) -> Check
     ensures { λ r. ⌜ r ≡ checkLength size ⌝ }
 {
-    or_else(
-        unless(0 < size, Refusal::EmptyTransfer),
-        unless(size <= 4096, Refusal::LongTransfer),
-    )
+    let some = unless(0 < size, Refusal::EmptyTransfer);
+    let few = unless(size <= 4096, Refusal::LongTransfer);
+    or_else(some, few)
 }
 
 // The group that hears an address byte.
@@ -118,10 +116,10 @@ fn check_commands(chips: Chips, bytes: &[u8]) -> Check
 fn check_transfer(chips: Chips, registers: Both, ram: &[u8], bytes: &[u8]) -> Check
     ensures { λ r. ⌜ r ≡ checkTransfer 160 4 chips registers (now (ram .entry)) (now (bytes .entry)) ⌝ }
 {
-    or_else(
-        check_state(chips, registers, ram),
-        or_else(check_length(bytes.len()), check_commands(chips, bytes)),
-    )
+    let state = check_state(chips, registers, ram);
+    let length = check_length(bytes.len());
+    let commands = check_commands(chips, bytes);
+    or_else(state, or_else(length, commands))
 }
 
 fn chips_in(group: u8, chips: Chips) -> u8
@@ -141,13 +139,10 @@ fn check_picture(
     ensures { λ r. ⌜ r ≡ checkPicture 160 4 chips registers (now (ram .entry)) group phase size ⌝ }
 {
     let wanted = 160 * (chips_in(group, chips) as usize);
-    or_else(
-        check_state(chips, registers, ram),
-        or_else(
-            unless((group < 2) & (phase < 2), Refusal::GroupOrPhase),
-            unless(size == wanted, Refusal::PictureLength),
-        ),
-    )
+    let state = check_state(chips, registers, ram);
+    let numbers = unless((group < 2) & (phase < 2), Refusal::GroupOrPhase);
+    let length = unless(size == wanted, Refusal::PictureLength);
+    or_else(state, or_else(numbers, length))
 }
 
 // ---- a group's registers and part of the RAM
@@ -193,7 +188,9 @@ fn end_of(chips: Chips, group: u8) -> usize
 pub fn power_on(chips: Chips, ram: &[u8]) -> PowerOn
     ensures { λ r. ⌜ r ≡ powerOnCall 160 4 chips (now (ram .entry)) ⌝ }
 {
-    let check = or_else(check_chips(chips), check_ram(chips, ram));
+    let counts = check_chips(chips);
+    let columns = check_ram(chips, ram);
+    let check = or_else(counts, columns);
     let registers = Both {
         zero: command::power_on(),
         one: command::power_on(),
