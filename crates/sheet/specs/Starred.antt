@@ -4,8 +4,7 @@ use mathlib.Core.Bool.{Bool, _&&_}
 use mathlib.Core.List.{List, [], _∷_}
 use lib.Dec.{T, eqb}
 use lib.ListN.{getD, replicate}
-use Rattle.sheet.specs.declared.Answer.{Answer}
-use Rattle.sheet.specs.Refusals.{numberOf, placeOf}
+use Rattle.sheet.specs.Refusals.{numbers}
 use Rattle.sheet.specs.Commands.{within, powerOn, commandOf, inRange, backplanes, bankRow}
 use Rattle.sheet.specs.Places.{position, atPosition}
 use Rattle.sheet.specs.Data.{putBits, changed, withRow, storedBits, counted}
@@ -30,11 +29,6 @@ pub record Row : Type 0 where
   pub columns : List Column
   pub phase : ℕ
   pub picture : List Column
-
--- answer, place, acknowledged, stored, discarded
-abbrev pub numbers : Answer → List ℕ
-numbers (Answer.Taken t) = 0 ∷ 0 ∷ t .acknowledged ∷ t .stored ∷ t .discarded ∷ []
-numbers (Answer.Refused r) = numberOf r ∷ placeOf r ∷ 0 ∷ 0 ∷ 0 ∷ []
 
 abbrev pub same : List ℕ → List ℕ → Bool
 same [] [] = Bool.true
