@@ -1,0 +1,14 @@
+-- check_chip: by its test.
+-- Assumes nothing.
+use borrow.Author.Needs.{needs}
+use Rattle.chip.proofs.check_chip.Statement.{statement}
+use Rattle.chip.proofs.check_chip.Tie as tie
+
+returns : tie.Need-returns
+returns c = search needs
+
+returns-2 : tie.Need-returns-2
+returns-2 c = rw (c .if1 .left)
+
+pub check-chip-spec : {M : Type 1} → statement M
+check-chip-spec = tie.close (tie.spec returns returns-2)
