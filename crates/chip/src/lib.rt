@@ -12,7 +12,7 @@ ghost use lib.Dec.{ltb};
 ghost use Rattle.sheet.specs.Commands.{commandOf, obeyed, inRange, backplanes};
 ghost use Rattle.sheet.specs.Places.{advanced};
 ghost use Rattle.sheet.specs.Data.{bitOf, withRow};
-ghost use Rattle.sheet.specs.Checks.{unless, overIn};
+ghost use Rattle.sheet.specs.Checks.{unless, orElse, overIn};
 ghost use Rattle.sheet.specs.Plain.{withRegisters, putRows, column, chipData, chipAcknowledges, chipByte, chipAcknowledged, hears, passed, chipFits};
 ghost use Rattle.chip.specs.Calls.{chipPowerOn, checkChipPicture, chipPictureCall};
 
@@ -45,11 +45,10 @@ fn put_row(row: usize, k: usize, byte: u8, column: u8) -> u8
     requires { ⌜ row < 4 ⌝ }
     ensures { λ r. ⌜ r ≡ cond (ltb k 8) (withRow row (bitOf byte k) column) column ⌝ }
 {
-    if k < 8 {
-        with_row(row, bit_of(byte, k), column)
-    } else {
-        column
+    if 8 <= k {
+        return column;
     }
+    with_row(row, bit_of(byte, k), column)
 }
 
 // A column with m rows from row b on made the bits of a byte from bit k on.
@@ -136,11 +135,19 @@ fn take_data(chip: Chip, byte: u8) -> Chip
     moved
 }
 
-// The chip after a command byte: it obeys every command, selected or not.
+// The chip's registers after a command byte: it obeys every command, selected or not.
+fn obey(chip: Chip, byte: u8) -> Registers
+    ensures { λ r. ⌜ r ≡ obeyed (chip .registers) (commandOf byte) ⌝ }
+{
+    command::obey(chip.registers, byte)
+}
+
+// The chip after a command byte.
 fn take_command(mut chip: Chip, byte: u8) -> Chip
     ensures { λ r. ⌜ r ≡ withRegisters (obeyed (chip .registers) (commandOf byte)) chip ⌝ }
 {
-    chip.registers = command::obey(chip.registers, byte);
+    let registers = obey(chip, byte);
+    chip.registers = registers;
     chip
 }
 
@@ -208,14 +215,24 @@ pub fn fits(chip: Chip) -> bool
         & ((chip.subaddress < 4) & (command::in_range(chip.registers) & columns_fit(columns)))
 }
 
-// A chip that does not fit is refused.
-fn check_chip(fits: bool) -> Check
-    ensures { λ r. ⌜ r ≡ unless fits (Refusal.ChipField 0) ⌝ }
+// Refused unless a test holds.
+fn unless(holds: bool, refusal: Refusal) -> Check
+    ensures { λ r. ⌜ r ≡ unless holds refusal ⌝ }
 {
-    if fits {
+    if holds {
         Check::Passed
     } else {
-        Check::Refused(Refusal::ChipField(0))
+        Check::Refused(refusal)
+    }
+}
+
+// A refusal that comes first, or else the next check.
+fn or_else(first: Check, next: Check) -> Check
+    ensures { λ r. ⌜ r ≡ orElse first next ⌝ }
+{
+    match first {
+        Check::Passed => next,
+        Check::Refused(refusal) => Check::Refused(refusal),
     }
 }
 
@@ -227,7 +244,7 @@ pub fn power_on(mut chip: Chip) -> ChipPowerOn
     let fits = (chip.sa0 < 2) & ((chip.subaddress < 4) & columns_fit(columns));
     chip.registers = command::power_on();
     ChipPowerOn {
-        check: check_chip(fits),
+        check: unless(fits, Refusal::ChipField(0)),
         chip,
     }
 }
@@ -236,16 +253,10 @@ pub fn power_on(mut chip: Chip) -> ChipPowerOn
 fn check_picture(chip: Chip, phase: u8, size: usize) -> Check
     ensures { λ r. ⌜ r ≡ checkChipPicture 160 4 chip phase size ⌝ }
 {
-    if !fits(chip) {
-        return Check::Refused(Refusal::ChipField(0));
-    }
-    if 2 <= phase {
-        return Check::Refused(Refusal::GroupOrPhase);
-    }
-    if size != 160 {
-        return Check::Refused(Refusal::PictureLength);
-    }
-    Check::Passed
+    let fit = unless(fits(chip), Refusal::ChipField(0));
+    let shown = unless(phase < 2, Refusal::GroupOrPhase);
+    let room = unless(size == 160, Refusal::PictureLength);
+    or_else(fit, or_else(shown, room))
 }
 
 // The picture of the chip alone, and its lit elements.

@@ -17,15 +17,14 @@ columns-fit-requires c κs = search needs
 power-on-requires : tie.Need-power-on-requires
 power-on-requires c κs = search needs
 
-check-chip-requires : tie.Need-check-chip-requires
-check-chip-requires c κs = search needs
+unless-requires : tie.Need-unless-requires
+unless-requires c κs = search needs
 
 returns : tie.Need-returns
 unfolding chipPowerOn
 returns c = let chip = c .before .before .before .before .before .before .args .chip in
-    let e = c .check-chip .ensures ∙ ap (λ (t : Bool). unless (ltb (chip .sa0) 2 && (ltb (chip .subaddress) 4 && t)) (ChipField 0)) (c .before .before .columns-fit .ensures) in
+    let e = c .unless .ensures ∙ ap (λ (t : Bool). unless (ltb (chip .sa0) 2 && (ltb (chip .subaddress) 4 && t)) (ChipField 0)) (c .before .before .columns-fit .ensures) in
     λ i. record { check = e i; chip = withRegisters (c .before .power-on .ensures i) chip }
 
 pub power-on-spec : {M : Type 1} → statement M
-power-on-spec =
-    tie.close (tie.spec columns-fit-requires power-on-requires check-chip-requires returns)
+power-on-spec = tie.close (tie.spec columns-fit-requires power-on-requires unless-requires returns)

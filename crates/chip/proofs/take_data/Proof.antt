@@ -48,7 +48,7 @@ column-requires c κs = let p = c .before .loop in
     let chip = s .args .chip in
     let r = chip .registers in
     let h = range-of 160 4 r (s .pre) in
-    let l : p .j < widthOf (backplanes r) = rw (← c .before .before .backplanes .ensures) (c .loop-test .taken) in
+    let l : p .j < widthOf (backplanes r) = rw (← c .before .before .backplanes .ensures) (omega arith) in
     rw (p .inv .so-far)
     (in-range 160 4 _ (still-in 160 4 (s .args .byte) (p .j) chip h), rw (same-planes 160 4 (s .args .byte) (p .j) chip h) (begins (backplanes r) (p .j) (planes-pos r) l))
 
