@@ -15,6 +15,7 @@ use Rattle.chip.proofs.Moves.{placed}
 use Rattle.chip.proofs.acknowledges_data.Statement.{statement}
 use Rattle.chip.proofs.acknowledges_data.Tie as tie
 
+-- the registers are in range
 range : (s : tie.Start) → InRange 160 4 (s .args .chip .registers)
 range s = range-of 160 4 (s .args .chip .registers) (s .pre)
 

@@ -1,4 +1,4 @@
--- picture: by the case of the check; one that passes says that the registers are in range and that the buffer is as long as the columns.
+-- picture: by the case of the check; one that passes lets the picture be written and counted.
 -- Assumes nothing.
 use mathlib.Core.Path.{_≡_, refl, sym, ap, _∙_}
 use mathlib.Core.Bool.{true}
@@ -14,9 +14,11 @@ use Rattle.chip.proofs.Passing.{picture-passes}
 use Rattle.chip.proofs.picture.Statement.{statement}
 use Rattle.chip.proofs.picture.Tie as tie
 
+-- past the match the check has passed
 passes : (c : tie.After-enum-told) → let a = c .before .before .before .before .args in checkChipPicture 160 4 (a .chip) (a .phase) (length (a .out .now)) ≡ Passed
 passes c = sym (c .before .before .check-picture .ensures) ∙ c .enum-told .given .1
 
+-- so the registers are in range, and the buffer is as long as the columns
 known : (c : tie.After-enum-told) → let a = c .before .before .before .before .args in (inRange 160 4 (a .chip .registers) ≡ true) × (length (a .out .now) ≡ 160)
 known c = picture-passes 160 4 _ _ _ (passes c)
 

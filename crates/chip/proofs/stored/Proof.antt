@@ -12,6 +12,7 @@ use Rattle.laws.proofs.Ranges.{InRange, range-of, rows-fit}
 use Rattle.chip.proofs.stored.Statement.{statement}
 use Rattle.chip.proofs.stored.Tie as tie
 
+-- the registers are in range
 range : (s : tie.Start) → InRange 160 4 (s .args .chip .registers)
 range s = range-of 160 4 (s .args .chip .registers) (s .pre .0)
 

@@ -15,6 +15,7 @@ record Made (row bit q low : ℕ) : Type 0 where
   small : q / (2 * low) * (2 * low) + bit * low + q % low < 256
   same : q / (2 * low) * (2 * low) + bit * low + q % low ≡ withRow row bit q
 
+-- row by row
 made : (row bit q : ℕ) → row < 4 → bit < 2 → q < 256 → Made row bit q (1 * 2 ^ row % 256)
 unfolding withRow
 made zero bit q h t l = record { some = omega arith; room = omega arith; small = omega arith; same = refl }
@@ -23,6 +24,7 @@ made (suc (suc zero)) bit q h t l = record { some = omega arith; room = omega ar
 made (suc (suc (suc zero))) bit q h t l = record { some = omega arith; room = omega arith; small = omega arith; same = refl }
 made (suc (suc (suc (suc row)))) bit q h t l = omega arith
 
+-- of this call
 made-here : (c : tie.Start) → Made (c .args .row) (c .args .bit) (c .args .column) (1 * 2 ^ (c .args .row) % 256)
 made-here c = made _ _ _ (c .pre .0) (c .pre .1) (c .fits .column .fits)
 
