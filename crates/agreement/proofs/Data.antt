@@ -7,7 +7,6 @@ use native.Mathlib.Nat.{add-zero, add-suc}
 use native.Mathlib.Omega.{arith}
 use lib.ListN.{length}
 use Rattle.sheet.specs.declared.Registers.{Registers}
-use Rattle.sheet.specs.declared.Chip.{Chip}
 use Rattle.sheet.specs.Commands.{backplanes, bankRow}
 use Rattle.sheet.specs.Places.{position, atPosition}
 use Rattle.sheet.specs.Data.{changed, putBits, widthOf}

@@ -2,3 +2,13 @@ pub mod Chips
 pub mod Column
 pub mod Byte
 pub mod Data
+pub mod Acknowledge
+pub mod Deaf
+pub mod Group
+pub mod Checks
+pub mod Parts
+pub mod Transfer
+pub mod Sequence
+pub mod Show
+pub mod Demand
+pub mod Incident

@@ -6,6 +6,8 @@ use Prim.Native.Nat.{ℕ, zero, suc, _+_, _-_, _*_, _/_, _%_, _≤_, _<_, min}
 use native.Mathlib.Nat.{div-lt-iff-lt-mul, le-div-iff-mul-le, div-mul-le-self, div-add-mod', mod-lt, mul-zero, mul-le-mul-left, div-eq-of-lt, mod-eq-of-lt}
 use native.Mathlib.Omega.{arith}
 use lib.Arith.{digits-div, digits-mod}
+use mathlib.Core.Bool.{Bool, cond}
+use lib.Dec.{ltb}
 use borrow.Author.Tests.{lt-ltb, le-ltb}
 use Rattle.lemmas.proofs.Order.{lt-or-le}
 use Rattle.sheet.specs.declared.Counts.{Counts}
@@ -91,3 +93,10 @@ run-sum n m v size t p = rw (counted-at-once n m v size t p) (omega arith)
 
 pub run-acknowledged : (n m v size : ℕ) (t : Counts) → 0 < m → countedRun n m v size t .acknowledged ≤ t .acknowledged + n
 run-acknowledged n m v size t p = rw (counted-at-once n m v size t p) (omega arith)
+
+pub present-le : (size c : ℕ) → present size c ≤ 1
+present-le size c = go (ltb c size)
+  where
+    go : (t : Bool) → cond t 1 0 ≤ 1
+    go Bool.true = omega arith
+    go Bool.false = omega arith

@@ -117,12 +117,21 @@ bits-land (suc n) m b v x k ram lk lv =
 
 -- ---- a run
 
--- bit k of byte j lands in row b + k mod m of column v + w * j + k div m; all else stays
+-- bit k of byte j lands in row b + k mod m of column v + w * j + k div m
+abbrev pub LandsAt : ℕ → ℕ → ℕ → List ℕ → List ℕ → ℕ → ℕ → Type 0
+LandsAt m b v xs ram j k =
+    j < length xs → k < 8 → v + widthOf m * j + k / m < length ram
+    → rowOf (getD (putRun m b v xs ram) (v + widthOf m * j + k / m) 0) (b + k % m) ≡ bitOf (getD xs j 0) k
+
+-- row r of column c, in which no bit lands, stays
+abbrev pub StaysAt : ℕ → ℕ → ℕ → List ℕ → List ℕ → ℕ → ℕ → Type 0
+StaysAt m b v xs ram c r =
+    ((j k : ℕ) → j < length xs → k < 8 → c ≡ v + widthOf m * j + k / m → r ≡ b + k % m → ⊥)
+    → rowOf (getD (putRun m b v xs ram) c 0) r ≡ rowOf (getD ram c 0) r
+
 pub record Lands (m b v : ℕ) (xs ram : List ℕ) : Type 0 where
-  pub lands : (j k : ℕ) → j < length xs → k < 8 → v + widthOf m * j + k / m < length ram
-      → rowOf (getD (putRun m b v xs ram) (v + widthOf m * j + k / m) 0) (b + k % m) ≡ bitOf (getD xs j 0) k
-  pub stays : (c r : ℕ) → ((j k : ℕ) → j < length xs → k < 8 → c ≡ v + widthOf m * j + k / m → r ≡ b + k % m → ⊥)
-      → rowOf (getD (putRun m b v xs ram) c 0) r ≡ rowOf (getD ram c 0) r
+  pub lands : (j k : ℕ) → LandsAt m b v xs ram j k
+  pub stays : (c r : ℕ) → StaysAt m b v xs ram c r
 
 -- a byte's bits lie within its columns
 pub within-width : (m k : ℕ) → 0 < m → k < 8 → k / m < widthOf m
@@ -134,35 +143,33 @@ first v w i = omega arith
 later : (v w j i : ℕ) → v + w * suc j + i ≡ v + w + w * j + i
 later v w j i = omega arith
 
-run-stays : (m b v : ℕ) (xs ram : List ℕ) (c r : ℕ) → ((j k : ℕ) → j < length xs → k < 8 → c ≡ v + widthOf m * j + k / m → r ≡ b + k % m → ⊥)
-    → rowOf (getD (putRun m b v xs ram) c 0) r ≡ rowOf (getD ram c 0) r
+each-stays : (m b v : ℕ) (xs ram : List ℕ) (c r : ℕ) → StaysAt m b v xs ram c r
 unfolding putRun
-run-stays m b v [] ram c r apart = refl
-run-stays m b v (x ∷ xs) ram c r apart =
-    run-stays m b (v + widthOf m) xs (putBits 8 m b v x ram) c r
+each-stays m b v [] ram c r apart = refl
+each-stays m b v (x ∷ xs) ram c r apart =
+    each-stays m b (v + widthOf m) xs (putBits 8 m b v x ram) c r
     (λ j k lj lk e. apart (suc j) k (suc-le-suc lj) lk (e ∙ sym (later v (widthOf m) j (k / m))))
     ∙ bits-stay 8 m b v x c r ram (λ k lk e. apart 0 k (omega arith) lk (e ∙ sym (first v (widthOf m) (k / m))))
 
-run-hits : (m b v : ℕ) (xs ram : List ℕ) → 0 < m → (j k : ℕ) → j < length xs → k < 8 → v + widthOf m * j + k / m < length ram
-    → rowOf (getD (putRun m b v xs ram) (v + widthOf m * j + k / m) 0) (b + k % m) ≡ bitOf (getD xs j 0) k
+each-lands : (m b v : ℕ) (xs ram : List ℕ) → 0 < m → (j k : ℕ) → LandsAt m b v xs ram j k
 unfolding putRun
-run-hits m b v [] ram pm j k lj lk lv = absurd (not-suc-le-zero lj)
-run-hits m b v (x ∷ xs) ram pm zero k lj lk lv =
+each-lands m b v [] ram pm j k lj lk lv = absurd (not-suc-le-zero lj)
+each-lands m b v (x ∷ xs) ram pm zero k lj lk lv =
     rw (first v (widthOf m) (k / m))
-    (run-stays m b (v + widthOf m) xs (putBits 8 m b v x ram) (v + k / m) (b + k % m)
+    (each-stays m b (v + widthOf m) xs (putBits 8 m b v x ram) (v + k / m) (b + k % m)
     (λ i h li lh e f. lt-irrefl (k / m) (omega (arith, e, within-width m k pm lk)))
     ∙ bits-land 8 m b v x k ram lk (rw (← first v (widthOf m) (k / m)) lv))
-run-hits m b v (x ∷ xs) ram pm (suc j) k lj lk lv =
+each-lands m b v (x ∷ xs) ram pm (suc j) k lj lk lv =
     rw (later v (widthOf m) j (k / m))
-    (run-hits m b (v + widthOf m) xs (putBits 8 m b v x ram) pm j k (le-of-suc-le-suc lj) lk
+    (each-lands m b (v + widthOf m) xs (putBits 8 m b v x ram) pm j k (le-of-suc-le-suc lj) lk
     (rw (length-bits 8 m b v x ram, ← later v (widthOf m) j (k / m)) lv))
 
 pub run-lands : (m b v : ℕ) (xs ram : List ℕ) → 0 < m → Lands m b v xs ram
 run-lands m b v xs ram pm = record {
-  lands = run-hits m b v xs ram pm;
-  stays = run-stays m b v xs ram;
+  lands = each-lands m b v xs ram pm;
+  stays = each-stays m b v xs ram;
 }
 
 -- 1:3: a byte's last column gets rows 0 and 1 only, its row 2 stays
 pub third-row-stays : (v j : ℕ) (xs ram : List ℕ) → rowOf (getD (putRun 3 0 v xs ram) (v + 3 * j + 2) 0) 2 ≡ rowOf (getD ram (v + 3 * j + 2) 0) 2
-third-row-stays v j xs ram = run-stays 3 0 v xs ram (v + 3 * j + 2) 2 (λ i k li lk e f. lt-irrefl k (omega (arith, e, f, lk)))
+third-row-stays v j xs ram = each-stays 3 0 v xs ram (v + 3 * j + 2) 2 (λ i k li lk e f. lt-irrefl k (omega (arith, e, f, lk)))

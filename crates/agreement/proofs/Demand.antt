@@ -1,0 +1,24 @@
+-- Demand 3, for any column count and limit, and for the PCF8532.
+-- Assumes nothing.
+use native.Mathlib.Omega.{arith}
+use Rattle.sheet.specs.Commands.{powerOn}
+use Rattle.sheet.specs.Long.{powerOnCall}
+use Rattle.sheet.specs.Agree.{Demand3, Claim}
+use Rattle.laws.proofs.Kept.{pcf8532-keeps}
+use Rattle.laws.proofs.Fits.{powered-passes}
+use Rattle.agreement.proofs.Transfer as transfers
+use Rattle.agreement.proofs.Sequence as sequences
+use Rattle.agreement.proofs.Show as pictures
+
+pub demand3 : Claim
+unfolding powerOnCall
+demand3 C L pc pl keeps = record {
+  transfer = λ n s bytes v. transfers.transfer C L keeps n s bytes v;
+  sequence = λ n s ts v. sequences.sequence C L keeps n s ts v;
+  powered-on = λ n ram ts e. sequences.sequence C L keeps n (record { registers = record { zero = powerOn; one = powerOn }; ram = ram }) ts (powered-passes C L n ram pc e);
+  show = λ n r phase columns e. pictures.show C r phase n columns e;
+}
+
+-- the commands of the PCF8532 keep P below 160 and A at most 4
+pub pcf8532 : Demand3 160 4
+pcf8532 = demand3 160 4 (omega arith) (omega arith) pcf8532-keeps

@@ -1,0 +1,146 @@
+-- One transfer: the chips hold and acknowledge what the long account does, and no call refuses the state after it.
+-- Assumes nothing.
+use mathlib.Core.Path.{_≡_, refl, sym, ap, subst, _∙_}
+use mathlib.Core.Bool.{Bool, true, false, cond, _&&_, _||_}
+use mathlib.Core.List.{List, [], _++_, append-nil}
+use Prim.Native.Nat.{ℕ, _+_, _*_, _<_}
+use native.Mathlib.Nat.{mul-add, le-of-eq, zero-add}
+use lib.Dec.{eqb, ltb}
+use lib.ListN.{getD, take, drop, drop-of-length-le}
+use borrow.Author.Tests.{eqb-true, ltb-true}
+use Rattle.lemmas.proofs.Tests.{both-true}
+use Rattle.sheet.specs.declared.Chips.{Chips}
+use Rattle.sheet.specs.declared.Chip.{Chip}
+use Rattle.sheet.specs.declared.Check.{Check}
+use Rattle.sheet.specs.declared.Check.the-variants.{Passed, Refused}
+use Rattle.sheet.specs.declared.Addressed.{Addressed}
+use Rattle.sheet.specs.declared.Addressed.the-variants.{To, Nobody}
+use Rattle.sheet.specs.declared.Expect.the-variants.{Control}
+use Rattle.sheet.specs.declared.PlainAnswer.{PlainAnswer}
+use Rattle.sheet.specs.Protocol.{addressOf, heardBy}
+use Rattle.sheet.specs.Checks.{checkTransfer}
+use Rattle.sheet.specs.Long.{Group, After, heard, taken, answered, transferCall}
+use Rattle.sheet.specs.Plain.{Plain, PlainAfter, plainHeard, plainSaid, plainTaken, plainAnswered, plainCall}
+use Rattle.sheet.specs.Agree.{State, chipsOf, plainly, Keeps, Valid, Agrees}
+use Rattle.laws.proofs.Kept.{Kept, heard-keeps}
+use Rattle.laws.proofs.Fits.{Fits, fits-of}
+use Rattle.agreement.proofs.Group.{chipsOfGroup, plainOf, heard-agrees}
+use Rattle.agreement.proofs.Checks.{group-hears, chips-hear, same-checks}
+use Rattle.agreement.proofs.Parts.{together, groupOf, chips-together, valid-together, rest-one, kept-zero, kept-one, apart}
+
+abbrev stateOf : After → State
+stateOf a = record { registers = a .result .registers; ram = a .ram }
+
+-- what the two accounts leave and answer is the same
+record Same (C L : ℕ) (n : Chips) (p : PlainAfter) (a : After) : Type 0 where
+  hold : p .chips ≡ chipsOf C n (stateOf a)
+  acknowledge : p .answer ≡ plainly (a .result .answer)
+  valid : Valid C L n (stateOf a)
+
+module _ (C L : ℕ) (keeps : Keeps C L) (n : Chips) (s : State) (bytes : List ℕ) (v : Valid C L n s) where
+  fits : Fits C L n (s .registers) (s .ram)
+  fits = fits-of C L n (s .registers) (s .ram) v
+
+  abbrev groupZero : Group
+  groupZero = groupOf C n 0 s
+
+  abbrev groupOne : Group
+  groupOne = groupOf C n 1 s
+
+  -- a group after the bytes
+  abbrev after : Group → Group
+  after g = heard C L Control (drop 1 bytes) g
+
+  -- the chips before
+  chips-before : chipsOf C n s ≡ chipsOfGroup C (n .zero) 0 groupZero ++ chipsOfGroup C (n .one) 1 groupOne
+  chips-before = ap (λ (t : State). chipsOf C n t) (apart C L n s fits) ∙ chips-together C L n groupZero groupOne (kept-zero C L n s fits)
+
+  -- groups a and b after the transfer
+  conclude : (a b : Group) (p : Plain) (t : After) → Kept C L (n .zero) a → Kept C L (n .one) b
+      → p .chips ≡ chipsOfGroup C (n .zero) 0 a ++ chipsOfGroup C (n .one) 1 b → stateOf t ≡ together a b
+      → PlainAnswer.Acknowledged (p .acknowledged) ≡ plainly (t .result .answer) → Same C L n (plainSaid p) t
+  conclude a b p t ka kb ep et ea = record {
+    hold = ep ∙ sym (ap (λ (q : State). chipsOf C n q) et ∙ chips-together C L n a b ka);
+    acknowledge = ea;
+    valid = subst (λ (q : State). Valid C L n q) (sym et) (valid-together C L n a b (fits .zero-few) (fits .one-few) ka kb);
+  }
+
+  -- the transfer to a chip, by its address
+  abbrev plain : ℕ → Plain
+  plain address = plainHeard C L address Control (drop 1 bytes) (record { acknowledged = 1; chips = chipsOf C n s })
+
+  abbrev long : Addressed → After
+  long to = taken C L n (s .registers) (s .ram) bytes to
+
+  to-zero : 0 < n .zero → Same C L n (plainSaid (plain (addressOf 0))) (long (To 0))
+  to-zero pn =
+      let others = chipsOfGroup C (n .one) 1 groupOne in
+      let e : plain (addressOf 0) ≡ plainOf C (n .zero) 0 [] others (after groupZero) =
+      ap (λ (cs : List Chip). plainHeard C L (addressOf 0) Control (drop 1 bytes) (record { acknowledged = 1; chips = cs })) chips-before
+      ∙ heard-agrees C L (n .zero) 0 keeps pn (fits .zero-few) [] others refl (group-hears (addressOf 0) C (n .one) 1 (groupOne .registers) (groupOne .ram)) (drop 1 bytes) Control groupZero (kept-zero C L n s fits) in
+      conclude (after groupZero) groupOne (plain (addressOf 0)) (long (To 0)) (heard-keeps C L (n .zero) keeps (drop 1 bytes) Control groupZero (kept-zero C L n s fits)) (kept-one C L n s fits)
+      (ap (λ (p : Plain). p .chips) e)
+      (λ i. record {
+        registers = record { zero = after groupZero .registers; one = s .registers .one };
+        ram = after groupZero .ram ++ (ap (λ (k : ℕ). drop k (s .ram)) (zero-add (C * n .zero)) ∙ sym (rest-one C L n s fits)) i;
+      })
+      (ap (λ (p : Plain). PlainAnswer.Acknowledged (p .acknowledged)) e)
+
+  to-one : 0 < n .one → Same C L n (plainSaid (plain (addressOf 1))) (long (To 1))
+  to-one pn =
+      let others = chipsOfGroup C (n .zero) 0 groupZero in
+      let e : plain (addressOf 1) ≡ plainOf C (n .one) 1 others [] (after groupOne) =
+      ap (λ (cs : List Chip). plainHeard C L (addressOf 1) Control (drop 1 bytes) (record { acknowledged = 1; chips = cs }))
+      (chips-before ∙ ap (λ (cs : List Chip). others ++ cs) (sym (append-nil (chipsOfGroup C (n .one) 1 groupOne))))
+      ∙ heard-agrees C L (n .one) 1 keeps pn (fits .one-few) others [] (group-hears (addressOf 1) C (n .zero) 0 (groupZero .registers) (groupZero .ram)) refl (drop 1 bytes) Control groupOne (kept-one C L n s fits) in
+      conclude groupZero (after groupOne) (plain (addressOf 1)) (long (To 1)) (kept-zero C L n s fits) (heard-keeps C L (n .one) keeps (drop 1 bytes) Control groupOne (kept-one C L n s fits))
+      (ap (λ (p : Plain). p .chips) e ∙ ap (λ (cs : List Chip). others ++ cs) (append-nil (chipsOfGroup C (n .one) 1 (after groupOne))))
+      (λ i. record {
+        registers = record { zero = s .registers .zero; one = after groupOne .registers };
+        ram = take (C * n .zero) (s .ram) ++ (ap (λ (c : List ℕ). after groupOne .ram ++ c) (drop-of-length-le (s .ram) {i = C * n .zero + C * n .one} (le-of-eq (fits .columns ∙ mul-add C (n .zero) (n .one)))) ∙ append-nil (after groupOne .ram)) i;
+      })
+      (ap (λ (p : Plain). PlainAnswer.Acknowledged (p .acknowledged)) e)
+
+  -- nobody hears: all stays
+  to-nobody : Same C L n (plainSaid (record { acknowledged = 0; chips = chipsOf C n s })) (long Nobody)
+  to-nobody = record { hold = refl; acknowledge = refl; valid = v }
+
+  -- ---- by byte 0
+
+  abbrev called : ℕ → ℕ → Bool
+  called g k = eqb (getD bytes 0 0) (addressOf g) && ltb 0 k
+
+  -- byte 0 is the group's address, and the group has a chip
+  called-true : (g k : ℕ) → called g k ≡ true → (getD bytes 0 0 ≡ addressOf g) × (0 < k)
+  called-true g k e =
+      let t = both-true (eqb (getD bytes 0 0) (addressOf g)) (ltb 0 k) e in
+      (eqb-true (getD bytes 0 0) (addressOf g) (t .0), ltb-true 0 k (t .1))
+
+  abbrev Taken : Bool → Bool → Type 0
+  Taken zero one =
+      Same C L n (plainSaid (cond (zero || one) (plain (getD bytes 0 0)) (record { acknowledged = 0; chips = chipsOf C n s })))
+      (long (cond zero (To 0) (cond one (To 1) Nobody)))
+
+  by-address : (zero one : Bool) → (zero ≡ true → (getD bytes 0 0 ≡ addressOf 0) × (0 < n .zero)) → (one ≡ true → (getD bytes 0 0 ≡ addressOf 1) × (0 < n .one)) → Taken zero one
+  by-address true one hz ho = let h = hz refl in subst (λ (a : ℕ). Same C L n (plainSaid (plain a)) (long (To 0))) (sym (h .0)) (to-zero (h .1))
+  by-address false true hz ho = let h = ho refl in subst (λ (a : ℕ). Same C L n (plainSaid (plain a)) (long (To 1))) (sym (h .0)) (to-one (h .1))
+  by-address false false hz ho = to-nobody
+
+  taken-same : Same C L n (plainSaid (plainTaken C L (chipsOf C n s) bytes)) (long (heardBy n (getD bytes 0 0)))
+  unfolding heardBy
+  taken-same =
+      rw (chips-hear C n s (getD bytes 0 0))
+      (by-address (called 0 (n .zero)) (called 1 (n .one)) (called-true 0 (n .zero)) (called-true 1 (n .one)))
+
+  -- ---- by the check
+
+  by-check : (k : Check) (p : PlainAfter) (t : After) → Same C L n p t → Same C L n (plainAnswered k (chipsOf C n s) p) (answered k (s .registers) (s .ram) t)
+  by-check Passed p t h = h
+  by-check (Refused r) p t h = record { hold = refl; acknowledge = refl; valid = v }
+
+  pub transfer : Agrees C L n s bytes
+  unfolding plainCall transferCall
+  transfer =
+      let h : Same C L n (plainCall C L (chipsOf C n s) bytes) (transferCall C L n (s .registers) (s .ram) bytes) =
+      rw (same-checks C L n s bytes v) (by-check (checkTransfer C L n (s .registers) (s .ram) bytes) (plainSaid (plainTaken C L (chipsOf C n s) bytes)) (long (heardBy n (getD bytes 0 0))) taken-same) in
+      record { hold = h .hold; acknowledge = h .acknowledge; valid = h .valid }

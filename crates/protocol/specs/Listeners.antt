@@ -1,0 +1,21 @@
+-- The code's state beside the RAM, and the group of `sheet` that the two stand for.
+use mathlib.Core.List.{List}
+use Prim.Native.Nat.{ℕ}
+use Rattle.sheet.specs.declared.Expect.{Expect}
+use Rattle.sheet.specs.declared.Registers.{Registers}
+use Rattle.sheet.specs.Long.{Group, acknowledged, nothing}
+use Rattle.protocol.specs.declared.Listener.{Listener}
+use Rattle.protocol.specs.declared.Heard.{Heard}
+
+abbrev pub groupOf : Listener → List ℕ → Group
+groupOf l ram = record { registers = l .registers; ram = ram; counts = l .counts }
+
+abbrev pub listenerOf : Expect → Group → Listener
+listenerOf e g = record { expect = e; registers = g .registers; counts = g .counts }
+
+-- a group whose address was acknowledged
+abbrev pub begun : Registers → List ℕ → Group
+begun r ram = record { registers = r; ram = ram; counts = acknowledged nothing }
+
+abbrev pub heardOf : Group → Heard
+heardOf g = record { registers = g .registers; counts = g .counts }
