@@ -1,0 +1,20 @@
+-- or_else: by the case of the first check.
+-- Assumes nothing.
+use borrow.Author.Needs.{needs}
+use Rattle.chip.proofs.or_else.Statement.{statement}
+use Rattle.chip.proofs.or_else.Tie as tie
+
+enum-told : tie.Need-enum-told
+enum-told c = search needs
+
+enum-known-first : tie.Need-enum-known-first
+enum-known-first c = search needs
+
+returns : tie.Need-returns
+returns c = search needs
+
+returns-2 : tie.Need-returns-2
+returns-2 c = rw (c .before .first .given .1)
+
+pub or-else-spec : {M : Type 1} → statement M
+or-else-spec = tie.close (tie.spec enum-told enum-known-first returns returns-2)
