@@ -12,7 +12,7 @@ ghost use lib.Dec.{ltb};
 ghost use Rattle.sheet.specs.Commands.{commandOf, obeyed, inRange, backplanes};
 ghost use Rattle.sheet.specs.Places.{advanced};
 ghost use Rattle.sheet.specs.Data.{bitOf, withRow};
-ghost use Rattle.sheet.specs.Checks.{unless, orElse, overIn};
+ghost use Rattle.sheet.specs.Checks.{overIn};
 ghost use Rattle.sheet.specs.Plain.{withRegisters, putRows, column, chipData, chipAcknowledges, chipByte, chipAcknowledged, hears, passed, chipFits};
 ghost use Rattle.chip.specs.Calls.{chipPowerOn, checkChipPicture, chipPictureCall};
 
@@ -200,7 +200,7 @@ pub fn hears(chip: Chip, address: u8) -> bool
 fn columns_fit(columns: [u8; 160]) -> bool
     ensures { λ r. ⌜ r ≡ passed (overIn 0 columns) ⌝ }
 {
-    match columns::first_over(&columns) {
+    match checks::first_over(&columns) {
         Check::Passed => true,
         Check::Refused(_) => false,
     }
@@ -215,27 +215,6 @@ pub fn fits(chip: Chip) -> bool
         & ((chip.subaddress < 4) & (command::in_range(chip.registers) & columns_fit(columns)))
 }
 
-// Refused unless a test holds.
-fn unless(holds: bool, refusal: Refusal) -> Check
-    ensures { λ r. ⌜ r ≡ unless holds refusal ⌝ }
-{
-    if holds {
-        Check::Passed
-    } else {
-        Check::Refused(refusal)
-    }
-}
-
-// A refusal that comes first, or else the next check.
-fn or_else(first: Check, next: Check) -> Check
-    ensures { λ r. ⌜ r ≡ orElse first next ⌝ }
-{
-    match first {
-        Check::Passed => next,
-        Check::Refused(refusal) => Check::Refused(refusal),
-    }
-}
-
 // Power-on. Taken or refused, the registers become the power-on ones and the rest stays.
 pub fn power_on(mut chip: Chip) -> ChipPowerOn
     ensures { λ r. ⌜ r ≡ chipPowerOn 160 4 chip ⌝ }
@@ -244,7 +223,7 @@ pub fn power_on(mut chip: Chip) -> ChipPowerOn
     let fits = (chip.sa0 < 2) & ((chip.subaddress < 4) & columns_fit(columns));
     chip.registers = command::power_on();
     ChipPowerOn {
-        check: unless(fits, Refusal::ChipField(0)),
+        check: checks::unless(fits, Refusal::ChipField(0)),
         chip,
     }
 }
@@ -253,10 +232,10 @@ pub fn power_on(mut chip: Chip) -> ChipPowerOn
 fn check_picture(chip: Chip, phase: u8, size: usize) -> Check
     ensures { λ r. ⌜ r ≡ checkChipPicture 160 4 chip phase size ⌝ }
 {
-    let fit = unless(fits(chip), Refusal::ChipField(0));
-    let shown = unless(phase < 2, Refusal::GroupOrPhase);
-    let room = unless(size == 160, Refusal::PictureLength);
-    or_else(fit, or_else(shown, room))
+    let fit = checks::unless(fits(chip), Refusal::ChipField(0));
+    let shown = checks::unless(phase < 2, Refusal::GroupOrPhase);
+    let room = checks::unless(size == 160, Refusal::PictureLength);
+    checks::or_else(fit, checks::or_else(shown, room))
 }
 
 // The picture of the chip alone, and its lit elements.

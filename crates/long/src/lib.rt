@@ -22,29 +22,10 @@ ghost use Rattle.sheet.specs.Long.{nothing, registersOf, replaced, startOf, end
 
 // ---- the checks, in the order of their numbers in each call
 
-fn or_else(first: Check, next: Check) -> Check
-    ensures { λ r. ⌜ r ≡ orElse first next ⌝ }
-{
-    match first {
-        Check::Passed => next,
-        Check::Refused(refusal) => Check::Refused(refusal),
-    }
-}
-
-fn unless(fine: bool, refusal: Refusal) -> Check
-    ensures { λ r. ⌜ r ≡ unless fine refusal ⌝ }
-{
-    if fine {
-        Check::Passed
-    } else {
-        Check::Refused(refusal)
-    }
-}
-
 fn check_chips(chips: Chips) -> Check
     ensures { λ r. ⌜ r ≡ checkChips 4 chips ⌝ }
 {
-    unless((chips.zero <= 4) & (chips.one <= 4), Refusal::ChipCount)
+    checks::unless((chips.zero <= 4) & (chips.one <= 4), Refusal::ChipCount)
 }
 
 fn check_registers(registers: Both) -> Check
@@ -52,7 +33,7 @@ fn check_registers(registers: Both) -> Check
 {
     let zero = registers.zero;
     let one = registers.one;
-    unless(
+    checks::unless(
         command::in_range(zero) & command::in_range(one),
         Refusal::Register,
     )
@@ -62,9 +43,9 @@ fn check_ram(chips: Chips, ram: &[u8]) -> Check
     ensures { λ r. ⌜ r ≡ checkRam 160 chips (now (ram .entry)) ⌝ }
 {
     let size = 160 * (chips.zero as usize + chips.one as usize);
-    let length = unless(ram.len() == size, Refusal::RamLength);
-    let over = columns::first_over(ram);
-    or_else(length, over)
+    let length = checks::unless(ram.len() == size, Refusal::RamLength);
+    let over = checks::first_over(ram);
+    checks::or_else(length, over)
 }
 
 fn check_state(chips: Chips, registers: Both, ram: &[u8]) -> Check
@@ -73,15 +54,7 @@ fn check_state(chips: Chips, registers: Both, ram: &[u8]) -> Check
     let counts = check_chips(chips);
     let ranges = check_registers(registers);
     let columns = check_ram(chips, ram);
-    or_else(counts, or_else(ranges, columns))
-}
-
-fn check_length(size: usize) -> Check
-    ensures { λ r. ⌜ r ≡ checkLength size ⌝ }
-{
-    let some = unless(0 < size, Refusal::EmptyTransfer);
-    let few = unless(size <= 4096, Refusal::LongTransfer);
-    or_else(some, few)
+    checks::or_else(counts, checks::or_else(ranges, columns))
 }
 
 // The group that hears an address byte.
@@ -117,9 +90,9 @@ fn check_transfer(chips: Chips, registers: Both, ram: &[u8], bytes: &[u8]) -> Ch
     ensures { λ r. ⌜ r ≡ checkTransfer 160 4 chips registers (now (ram .entry)) (now (bytes .entry)) ⌝ }
 {
     let state = check_state(chips, registers, ram);
-    let length = check_length(bytes.len());
+    let length = checks::check_length(bytes.len());
     let commands = check_commands(chips, bytes);
-    or_else(state, or_else(length, commands))
+    checks::or_else(state, checks::or_else(length, commands))
 }
 
 fn chips_in(group: u8, chips: Chips) -> u8
@@ -140,9 +113,9 @@ fn check_picture(
 {
     let wanted = 160 * (chips_in(group, chips) as usize);
     let state = check_state(chips, registers, ram);
-    let numbers = unless((group < 2) & (phase < 2), Refusal::GroupOrPhase);
-    let length = unless(size == wanted, Refusal::PictureLength);
-    or_else(state, or_else(numbers, length))
+    let numbers = checks::unless((group < 2) & (phase < 2), Refusal::GroupOrPhase);
+    let length = checks::unless(size == wanted, Refusal::PictureLength);
+    checks::or_else(state, checks::or_else(numbers, length))
 }
 
 // ---- a group's registers and part of the RAM
@@ -190,7 +163,7 @@ pub fn power_on(chips: Chips, ram: &[u8]) -> PowerOn
 {
     let counts = check_chips(chips);
     let columns = check_ram(chips, ram);
-    let check = or_else(counts, columns);
+    let check = checks::or_else(counts, columns);
     let registers = Both {
         zero: command::power_on(),
         one: command::power_on(),

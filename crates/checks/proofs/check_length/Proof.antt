@@ -1,10 +1,10 @@
--- `long::check_length` meets its contract.
+-- `checks::check_length` meets its contract.
 -- Assumes nothing.
 use mathlib.Core.Path.{ap₂, _∙_}
 use Rattle.sheet.specs.Checks.{orElse, checkLength}
 use borrow.Author.Needs.{needs}
-use Rattle.long.proofs.check_length.Statement.{statement}
-use Rattle.long.proofs.check_length.Tie as tie
+use Rattle.checks.proofs.check_length.Statement.{statement}
+use Rattle.checks.proofs.check_length.Tie as tie
 
 unless-requires : tie.Need-unless-requires
 unless-requires c κs = search needs

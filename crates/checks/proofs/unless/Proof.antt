@@ -1,8 +1,8 @@
--- unless: by its test.
+-- `checks::unless` meets its contract.
 -- Assumes nothing.
 use borrow.Author.Needs.{needs}
-use Rattle.chip.proofs.unless.Statement.{statement}
-use Rattle.chip.proofs.unless.Tie as tie
+use Rattle.checks.proofs.unless.Statement.{statement}
+use Rattle.checks.proofs.unless.Tie as tie
 
 returns : tie.Need-returns
 returns c = search needs

@@ -13,8 +13,8 @@ use Rattle.lemmas.proofs.Lists.{next}
 use Rattle.sheet.specs.declared.Refusal.the-variants.{RamByte}
 use Rattle.sheet.specs.declared.Check.the-variants.{Refused}
 use Rattle.sheet.specs.Checks.{overIn}
-use Rattle.columns.proofs.first_over.Statement.{statement}
-use Rattle.columns.proofs.first_over.Tie as tie
+use Rattle.checks.proofs.first_over.Statement.{statement}
+use Rattle.checks.proofs.first_over.Tie as tie
 
 -- column i decides, or those after it do
 turn : (columns : List ℕ) (i : ℕ) → i < length columns
