@@ -13,7 +13,7 @@ use Rattle.sheet.specs.Commands.{inRange}
 use Rattle.sheet.specs.Checks.{unless}
 use Rattle.sheet.specs.Plain.{chipFits}
 use Rattle.laws.proofs.Fits.{both-pass, unless-passes}
-use Rattle.chip.specs.Calls.{checkChipPicture}
+use Rattle.sheet.specs.Plain.{checkChipPicture}
 
 -- a chip that fits has registers in range
 pub registers-in : (C L : ℕ) (c : Chip) → chipFits C L c ≡ true → inRange C L (c .registers) ≡ true

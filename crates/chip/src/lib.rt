@@ -1,6 +1,7 @@
 // One chip of the plain account: it follows every byte by itself, over its own registers and columns.
 use sheet::Check;
 use sheet::Chip;
+use sheet::ChipPowerOn;
 use sheet::Expect;
 use sheet::Pictured;
 use sheet::Refusal;
@@ -13,14 +14,7 @@ ghost use Rattle.sheet.specs.Commands.{commandOf, obeyed, inRange, backplanes};
 ghost use Rattle.sheet.specs.Places.{advanced};
 ghost use Rattle.sheet.specs.Data.{bitOf, withRow};
 ghost use Rattle.sheet.specs.Checks.{overIn};
-ghost use Rattle.sheet.specs.Plain.{withRegisters, putRows, column, chipData, chipAcknowledges, chipByte, chipAcknowledged, hears, passed, chipFits};
-ghost use Rattle.chip.specs.Calls.{chipPowerOn, checkChipPicture, chipPictureCall};
-
-// A chip after power-on, and whether it is refused.
-pub struct ChipPowerOn {
-    pub check: Check,
-    pub chip: Chip,
-}
+ghost use Rattle.sheet.specs.Plain.{withRegisters, putRows, column, chipData, chipAcknowledges, chipByte, chipAcknowledged, hears, passed, chipFits, chipPowerOn, checkChipPicture, chipPictureCall};
 
 // Bit k of a byte, numbered from the most significant.
 fn bit_of(byte: u8, k: usize) -> u8
@@ -247,8 +241,7 @@ pub fn picture(chip: Chip, phase: u8, out: &mut [u8]) -> Pictured
         Check::Refused(refusal) => Pictured::Refused(refusal),
         Check::Passed => {
             let columns = chip.columns;
-            picture::write(&columns, chip.registers, phase, out);
-            Pictured::Lit(picture::count(out))
+            Pictured::Lit(picture::show(&columns, chip.registers, phase, out))
         }
     }
 }

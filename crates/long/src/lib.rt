@@ -11,13 +11,10 @@ use sheet::Refusal;
 use sheet::Registers;
 use sheet::Transferred;
 ghost use mathlib.Core.Path.{_≡_};
-ghost use mathlib.Core.Bool.{true};
 ghost use Prim.Native.Nat.{_*_, _<_, _≤_};
 ghost use lib.ListN.{length, getD};
-ghost use Rattle.sheet.specs.Commands.{inRange};
 ghost use Rattle.sheet.specs.Protocol.{heardBy};
 ghost use Rattle.sheet.specs.Checks.{orElse, unless, chipsIn, checkChips, checkRegisters, checkRam, checkLength, checkCommands, checkState, checkTransfer, checkPicture};
-ghost use Rattle.sheet.specs.Pictures.{pictureOf, litIn};
 ghost use Rattle.sheet.specs.Long.{nothing, registersOf, replaced, startOf, endOf, taken, powerOnCall, transferCall, pictureCall};
 
 // ---- the checks, in the order of their numbers in each call
@@ -219,16 +216,6 @@ pub fn transfer(chips: Chips, registers: Both, ram: &mut [u8], bytes: &[u8]) -> 
     }
 }
 
-// Writes a group's picture and then walks it again to count what is lit.
-fn show(columns: &[u8], registers: Registers, phase: u8, out: &mut [u8]) -> Pictured
-    requires { ⌜ (length (now out) ≡ length (now columns)) × (length (now out) ≤ 1280) × (inRange 160 4 registers ≡ true) ⌝ }
-    ensures { λ _. ⌜ now (out .exit) ≡ pictureOf registers phase (now (columns .entry)) ⌝ }
-    ensures { λ r. ⌜ r ≡ Pictured.Lit (litIn (pictureOf registers phase (now (columns .entry)))) ⌝ }
-{
-    picture::write(columns, registers, phase, out);
-    Pictured::Lit(picture::count(out))
-}
-
 pub fn picture(
     chips: Chips,
     registers: Both,
@@ -245,7 +232,8 @@ pub fn picture(
         Check::Passed => {
             let start = start_of(chips, group);
             let end = end_of(chips, group);
-            show(&ram[start..end], registers_of(group, registers), phase, out)
+            let shown = registers_of(group, registers);
+            Pictured::Lit(picture::show(&ram[start..end], shown, phase, out))
         }
     }
 }

@@ -1,7 +1,7 @@
 -- check_picture: its checks are the definition's, in its order.
 -- Assumes nothing.
 use borrow.Author.Needs.{needs}
-use Rattle.chip.specs.Calls.{checkChipPicture}
+use Rattle.sheet.specs.Plain.{checkChipPicture}
 use Rattle.chip.proofs.check_picture.Statement.{statement}
 use Rattle.chip.proofs.check_picture.Tie as tie
 

@@ -1,16 +1,15 @@
--- picture: by the case of the check; one that passes lets the picture be written and counted.
+-- `chip::picture` meets its contract, by the case of the check; one that passes lets the chip be shown.
 -- Assumes nothing.
 use mathlib.Core.Path.{_≡_, refl, sym, ap, _∙_}
 use mathlib.Core.Bool.{true}
 use native.Mathlib.Omega.{arith}
 use lib.ListN.{length}
-use borrow.Author.Needs.{needs}
 use Rattle.sheet.specs.declared.Check.the-variants.{Passed}
 use Rattle.sheet.specs.declared.Pictured.{Pictured}
 use Rattle.sheet.specs.Commands.{inRange}
-use Rattle.sheet.specs.Pictures.{litIn}
-use Rattle.chip.specs.Calls.{checkChipPicture, chipPictureCall}
+use Rattle.sheet.specs.Plain.{checkChipPicture, chipPictureCall}
 use Rattle.chip.proofs.Passing.{picture-passes}
+use borrow.Author.Needs.{needs}
 use Rattle.chip.proofs.picture.Statement.{statement}
 use Rattle.chip.proofs.picture.Tie as tie
 
@@ -31,14 +30,11 @@ enum-known-refusal c = search needs
 enum-told : tie.Need-enum-told
 enum-told c = search needs
 
-slice-aggregate-write : tie.Need-slice-aggregate-write
-slice-aggregate-write c = search needs
+slice-aggregate-show : tie.Need-slice-aggregate-show
+slice-aggregate-show c = search needs
 
-write-requires : tie.Need-write-requires
-write-requires c κs = let h = known (c .before .before .before) in (h .1 ∙ slice-aggregate-write (c .before), h .0)
-
-count-requires : tie.Need-count-requires
-count-requires c κs = omega (arith, c .before .before .before .write .kept .1 .1 .1 .0, known (c .before .before .before .before .before .before .before) .1)
+show-requires : tie.Need-show-requires
+show-requires c κs = let h = known (c .before .before .before) in (h .1 ∙ slice-aggregate-show (c .before), omega (arith, h .1), h .0)
 
 returns : tie.Need-returns
 unfolding chipPictureCall
@@ -49,8 +45,7 @@ same-length c = search needs
 
 returns-2 : tie.Need-returns-2
 unfolding chipPictureCall
-returns-2 c = let w = c .before .before .before .before .write .ensures in
-    rw (passes (c .before .before .before .before .before .before .before .before)) (ap Pictured.Lit (c .count .ensures ∙ ap litIn w), w)
+returns-2 c = rw (passes (c .before .before .before .before .before .before)) (ap Pictured.Lit (c .before .before .show .ensures .1), c .before .before .show .ensures .0)
 
 pub picture-spec : {M : Type 1} → statement M
 picture-spec =
@@ -59,9 +54,8 @@ picture-spec =
     check-picture-requires
     enum-known-refusal
     enum-told
-    slice-aggregate-write
-    write-requires
-    count-requires
+    slice-aggregate-show
+    show-requires
     returns
     same-length
     returns-2)

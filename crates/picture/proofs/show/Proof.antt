@@ -1,12 +1,10 @@
--- `long::show` meets its contract: the picture is written, and what was written is counted.
+-- `picture::show` meets its contract: the picture is written, and what was written is counted.
 -- Assumes nothing.
 use mathlib.Core.Path.{ap, _∙_}
-use Prim.Native.Nat.{ℕ}
-use Rattle.sheet.specs.declared.Pictured.{Pictured}
 use Rattle.sheet.specs.Pictures.{litIn}
 use borrow.Author.Needs.{needs}
-use Rattle.long.proofs.show.Statement.{statement}
-use Rattle.long.proofs.show.Tie as tie
+use Rattle.picture.proofs.show.Statement.{statement}
+use Rattle.picture.proofs.show.Tie as tie
 
 write-requires : tie.Need-write-requires
 write-requires c κs = search needs
@@ -18,7 +16,7 @@ same-length : tie.Need-same-length
 same-length c = search needs
 
 returns : tie.Need-returns
-returns c = (c .before .before .before .before .write .ensures, ap (λ (n : ℕ). Pictured.Lit n) (c .count .ensures ∙ ap litIn (c .before .before .before .before .write .ensures)))
+returns c = (c .before .before .before .before .write .ensures, (c .count .ensures ∙ ap litIn (c .before .before .before .before .write .ensures)))
 
 pub show-spec : {M : Type 1} → statement M
 show-spec = tie.close (tie.spec write-requires count-requires same-length returns)
