@@ -16,7 +16,7 @@ demand3 C L pc pl keeps = record {
   transfer = λ n s bytes v. transfers.transfer C L keeps n s bytes v;
   sequence = λ n s ts v. sequences.sequence C L keeps n s ts v;
   powered-on = λ n ram ts e. sequences.sequence C L keeps n (record { registers = record { zero = powerOn; one = powerOn }; ram = ram }) ts (powered-passes C L n ram pc e);
-  show = λ n r phase columns e. pictures.show C r phase n columns e;
+  show = λ n g r phase columns e. pictures.show C g r phase n columns e;
 }
 
 -- the commands of the PCF8532 keep P below 160 and A at most 4

@@ -11,4 +11,3 @@ pub mod Transfer
 pub mod Sequence
 pub mod Show
 pub mod Demand
-pub mod Incident

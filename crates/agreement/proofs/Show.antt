@@ -1,4 +1,4 @@
--- Each chip shows its slice of the long picture, and the lit elements of the chips add up.
+-- The chips' pictures one after the other are the long picture, and their lit elements add up.
 -- Assumes nothing.
 use mathlib.Core.Path.{_≡_, refl, sym, ap, _∙_}
 use mathlib.Core.List.{List, [], _∷_, _++_, map, map-append}
@@ -9,38 +9,32 @@ use lib.Count.{ones}
 use lib.ListN.{length, take, drop, length-drop, take-append-drop}
 use Rattle.sheet.specs.declared.Registers.{Registers}
 use Rattle.sheet.specs.Pictures.{pictureOf, litIn}
-use Rattle.sheet.specs.Agree.{litOver, Shows}
-
-module _ (f : ℕ → ℕ) where
-  map-take : (n : ℕ) (l : List ℕ) → map f (take n l) ≡ take n (map f l)
-  map-take zero l = refl
-  map-take (suc n) [] = refl
-  map-take (suc n) (q ∷ qs) = ap (λ (r : List ℕ). f q ∷ r) (map-take n qs)
-
-  map-drop : (n : ℕ) (l : List ℕ) → map f (drop n l) ≡ drop n (map f l)
-  map-drop zero l = refl
-  map-drop (suc n) [] = refl
-  map-drop (suc n) (q ∷ qs) = map-drop n qs
+use Rattle.sheet.specs.Agree.{groupChips, Shows}
 
 lit-join : (a b : List ℕ) → litIn (a ++ b) ≡ litIn a + litIn b
 unfolding litIn
 lit-join [] b = sym (zero-add (litIn b))
 lit-join (q ∷ qs) b = rw (lit-join qs b) (sym (add-assoc (ones q) (litIn qs) (litIn b)))
 
-module _ (C : ℕ) (r : Registers) (phase : ℕ) where
-  part : (i : ℕ) (columns : List ℕ) → pictureOf r phase (take C (drop (C * i) columns)) ≡ take C (drop (C * i) (pictureOf r phase columns))
+module _ (C g : ℕ) (r : Registers) (phase : ℕ) where
+  -- the first C columns and the rest
+  apart : (columns : List ℕ) → pictureOf r phase (take C columns) ++ pictureOf r phase (drop C columns) ≡ pictureOf r phase columns
   unfolding pictureOf
-  part i columns = map-take _ C (drop (C * i) columns) ∙ ap (take C) (map-drop _ (C * i) columns)
+  apart columns = sym (map-append _ (take C columns) (drop C columns)) ∙ ap (λ (c : List ℕ). pictureOf r phase c) (take-append-drop C columns)
 
-  lit-adds : (n : ℕ) (columns : List ℕ) → length columns ≡ C * n → litOver C n r phase columns ≡ litIn (pictureOf r phase columns)
-  unfolding pictureOf litIn
-  lit-adds zero [] e = refl
-  lit-adds zero (q ∷ qs) e = absurd (suc-ne-zero (length qs) (e ∙ mul-zero C))
-  lit-adds (suc n) columns e =
-      ap (λ (k : ℕ). litIn (pictureOf r phase (take C columns)) + k) (lit-adds n (drop C columns) (length-drop C columns ∙ omega (arith, e)))
-      ∙ sym (lit-join (pictureOf r phase (take C columns)) (pictureOf r phase (drop C columns)))
-      ∙ ap litIn (sym (map-append _ (take C columns) (drop C columns)))
-      ∙ ap (λ (c : List ℕ). litIn (pictureOf r phase c)) (take-append-drop C columns)
+  shows-from : (n i : ℕ) (columns : List ℕ) → length columns ≡ C * n → Shows phase (groupChips C n g i r columns) r columns
+  unfolding groupChips pictureOf litIn
+  shows-from zero i [] e = record { picture = refl; lit = refl }
+  shows-from zero i (q ∷ qs) e = absurd (suc-ne-zero (length qs) (e ∙ mul-zero C))
+  shows-from (suc n) i columns e =
+      let rest = shows-from n (suc i) (drop C columns) (length-drop C columns ∙ omega (arith, e)) in
+      record {
+        picture = ap (λ (l : List ℕ). pictureOf r phase (take C columns) ++ l) (rest .picture) ∙ apart columns;
+        lit =
+            ap (λ (k : ℕ). litIn (pictureOf r phase (take C columns)) + k) (rest .lit)
+            ∙ sym (lit-join (pictureOf r phase (take C columns)) (pictureOf r phase (drop C columns)))
+            ∙ ap litIn (apart columns);
+      }
 
-  pub show : (n : ℕ) (columns : List ℕ) → length columns ≡ C * n → Shows C n r phase columns
-  show n columns e = record { slice = λ i. part i columns; lit = lit-adds n columns e }
+  pub show : (n : ℕ) (columns : List ℕ) → length columns ≡ C * n → Shows phase (groupChips C n g 0 r columns) r columns
+  show n columns e = shows-from n 0 columns e

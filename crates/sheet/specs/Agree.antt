@@ -81,14 +81,21 @@ pub record AgreesAll (C L : ℕ) (n : Chips) (s : State) (ts : List (List ℕ)) 
   pub acknowledge : plainAnswers C L (chipsOf C n s) ts ≡ longAnswers C L n s ts
   pub valid : Valid C L n (longAll C L n s ts)
 
--- show: chip i's picture is its slice of the long picture, and the lit elements of the chips add up
-abbrev pub litOver : ℕ → ℕ → Registers → ℕ → List ℕ → ℕ
-litOver C zero r phase columns = 0
-litOver C (suc n) r phase columns = litIn (pictureOf r phase (take C columns)) + litOver C n r phase (drop C columns)
+-- show: the chips' pictures, each by its own registers and columns, are the long picture one after the other, and their lit elements add up
+abbrev pub chipPicture : ℕ → Chip → List ℕ
+chipPicture phase c = pictureOf (c .registers) phase (c .columns)
 
-pub record Shows (C n : ℕ) (r : Registers) (phase : ℕ) (columns : List ℕ) : Type 0 where
-  pub slice : (i : ℕ) → pictureOf r phase (take C (drop (C * i) columns)) ≡ take C (drop (C * i) (pictureOf r phase columns))
-  pub lit : litOver C n r phase columns ≡ litIn (pictureOf r phase columns)
+abbrev pub chipPictures : ℕ → List Chip → List ℕ
+chipPictures phase [] = []
+chipPictures phase (c ∷ cs) = chipPicture phase c ++ chipPictures phase cs
+
+abbrev pub chipsLit : ℕ → List Chip → ℕ
+chipsLit phase [] = 0
+chipsLit phase (c ∷ cs) = litIn (chipPicture phase c) + chipsLit phase cs
+
+pub record Shows (phase : ℕ) (chips : List Chip) (r : Registers) (columns : List ℕ) : Type 0 where
+  pub picture : chipPictures phase chips ≡ pictureOf r phase columns
+  pub lit : chipsLit phase chips ≡ litIn (pictureOf r phase columns)
 
 -- the demand
 pub record Demand3 (C L : ℕ) : Type 1 where
@@ -96,7 +103,7 @@ pub record Demand3 (C L : ℕ) : Type 1 where
   pub sequence : (n : Chips) (s : State) (ts : List (List ℕ)) → Valid C L n s → AgreesAll C L n s ts
   pub powered-on : (n : Chips) (ram : List ℕ) (ts : List (List ℕ)) → powerOnCall C L n ram .check ≡ Passed
       → AgreesAll C L n (record { registers = powerOnCall C L n ram .registers; ram = ram }) ts
-  pub show : (n : ℕ) (r : Registers) (phase : ℕ) (columns : List ℕ) → length columns ≡ C * n → Shows C n r phase columns
+  pub show : (n g : ℕ) (r : Registers) (phase : ℕ) (columns : List ℕ) → length columns ≡ C * n → Shows phase (groupChips C n g 0 r columns) r columns
 
 -- for any part whose commands keep the ranges
 abbrev pub Claim : Type 1

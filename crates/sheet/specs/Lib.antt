@@ -11,3 +11,4 @@ pub mod Plain
 pub mod Agree
 pub mod Starred
 pub mod Worked
+pub mod Incident

@@ -1,12 +1,16 @@
--- The starred cases of paper 01, "Both sides of each edge": one table, one claim.
+-- The starred cases of paper 01, "Both sides of each edge": one table, one claim. Each row is claimed of the long account and of the chips followed one by one.
 use Prim.Native.Nat.{ℕ, _*_}
 use mathlib.Core.Bool.{Bool, _&&_}
-use mathlib.Core.List.{List, [], _∷_}
+use mathlib.Core.List.{List, [], _∷_, _++_}
 use lib.Dec.{T, eqb}
-use lib.ListN.{getD, replicate}
-use Rattle.sheet.specs.Refusals.{numbers}
+use lib.ListN.{getD, take, replicate}
+use Rattle.sheet.specs.declared.Chip.{Chip}
+use Rattle.sheet.specs.declared.PlainAnswer.{PlainAnswer}
+use Rattle.sheet.specs.Refusals.{numberOf, placeOf, numbers}
 use Rattle.sheet.specs.Commands.{within, powerOn, commandOf, inRange, backplanes, bankRow}
-use Rattle.sheet.specs.Places.{position, atPosition}
+use Rattle.sheet.specs.Places.{advanced, position, atPosition}
+use Rattle.sheet.specs.Plain.{putRows, column, columns, chipData, chipAcknowledges, plainHeard, chipFits, misfitIn, checkPlain, plainCall}
+use Rattle.sheet.specs.Agree.{groupChips}
 use Rattle.sheet.specs.Data.{putBits, changed, withRow, storedBits, counted}
 use Rattle.sheet.specs.Protocol.{heardBy, controlOf, undefinedIn}
 use Rattle.sheet.specs.Checks.{checkChips, checkRegisters, overIn, checkRam, checkLength, checkState, checkTransfer}
@@ -48,9 +52,27 @@ passes row =
     same (numbers (s .result .answer)) (row .answer) && (eqb (r .a) (row .a) && (eqb (r .p) (row .p)
     && (holds (s .ram) (row .columns) && holds (pictureOf r (row .phase) (s .ram)) (row .picture))))
 
+-- the same of the plain account: acknowledged, every chip's A and P, and the chips' columns one after the other
+abbrev pub plainNumbers : PlainAnswer → List ℕ
+plainNumbers (PlainAnswer.Acknowledged n) = 0 ∷ 0 ∷ n ∷ []
+plainNumbers (PlainAnswer.Refused r) = numberOf r ∷ placeOf r ∷ 0 ∷ []
+
+abbrev pub allAt : ℕ → ℕ → List Chip → Bool
+allAt a p [] = Bool.true
+allAt a p (c ∷ cs) = eqb (c .registers .a) a && (eqb (c .registers .p) p && allAt a p cs)
+
+abbrev pub chipColumns : List Chip → List ℕ
+chipColumns [] = []
+chipColumns (c ∷ cs) = c .columns ++ chipColumns cs
+
+abbrev pub passesPlain : Row → Bool
+passesPlain row =
+    let s = plainCall 160 4 (groupChips 160 (row .chips) 0 0 powerOn (replicate (160 * row .chips) (row .fill))) (row .bytes) in
+    same (plainNumbers (s .answer)) (take 3 (row .answer)) && (allAt (row .a) (row .p) (s .chips) && holds (chipColumns (s .chips)) (row .columns))
+
 abbrev pub every : List Row → Bool
 every [] = Bool.true
-every (r ∷ rs) = passes r && every rs
+every (r ∷ rs) = passes r && (passesPlain r && every rs)
 
 abbrev col : ℕ → ℕ → Column
 col c q = record { at = c; value = q }
@@ -90,5 +112,5 @@ table =
     ∷ []
 
 pub starred : T (every table)
-unfolding transferCall checkTransfer checkState checkChips checkRegisters checkRam checkLength overIn undefinedIn heardBy heard dataByte controlOf commandOf within inRange backplanes bankRow position atPosition putBits changed withRow storedBits counted shown pictureOf
+unfolding plainCall checkPlain misfitIn chipFits plainHeard groupChips chipData column columns putRows advanced chipAcknowledges transferCall checkTransfer checkState checkChips checkRegisters checkRam checkLength overIn undefinedIn heardBy heard dataByte controlOf commandOf within inRange backplanes bankRow position atPosition putBits changed withRow storedBits counted shown pictureOf
 starred = tt

@@ -1,21 +1,20 @@
--- Beside the theorem, one case computed of both accounts: 1:3, two chips, a byte FF that starts at column 159 and so is shared by the chips.
--- Assumes nothing.
+-- The incident, computed of both accounts: 1:3, two chips, a byte FF that starts at column 159, so that its bits after the chip edge are chip 1's.
 use mathlib.Core.Bool.{_&&_}
 use mathlib.Core.List.{List, [], _∷_}
 use Prim.Native.Nat.{ℕ, zero, suc}
 use lib.Dec.{T}
 use lib.ListN.{replicate}
 use Rattle.sheet.specs.declared.Chips.{Chips}
 use Rattle.sheet.specs.declared.Chip.{Chip}
 use Rattle.sheet.specs.Commands.{within, powerOn, commandOf, inRange, backplanes, bankRow}
 use Rattle.sheet.specs.Places.{advanced, position, atPosition}
 use Rattle.sheet.specs.Data.{putBits, changed, withRow, storedBits, counted}
 use Rattle.sheet.specs.Protocol.{heardBy, controlOf, undefinedIn}
 use Rattle.sheet.specs.Checks.{checkChips, checkRegisters, overIn, checkRam, checkLength, checkState, checkTransfer}
 use Rattle.sheet.specs.Long.{heard, dataByte, transferCall, State, stateAfter}
 use Rattle.sheet.specs.Plain.{putRows, column, columns, chipData, chipAcknowledges, plainHeard, chipFits, misfitIn, checkPlain, plainCall}
 use Rattle.sheet.specs.Starred.{Column, holds}
 use Rattle.sheet.specs.Agree.{groupChips, chipsOf}
 
 -- two chips of group 0, powered on, RAM 0
 abbrev two : Chips
