@@ -14,10 +14,10 @@ use Rattle.lemmas.proofs.Order.{lt-or-le}
 use Rattle.sheet.specs.declared.Registers.{Registers}
 use Rattle.sheet.specs.declared.Chip.{Chip}
 use Rattle.sheet.specs.Commands.{backplanes}
-use Rattle.sheet.specs.Places.{advanced, advancedBy, position, atPosition}
-use Rattle.sheet.specs.Plain.{any, column, columns, chipAcknowledges}
+use Rattle.sheet.specs.Places.{advancedBy, position, atPosition}
+use Rattle.sheet.specs.Plain.{any, chipAcknowledges}
 use Rattle.sheet.specs.Agree.{groupChips}
-use Rattle.laws.proofs.Steps.{many}
+use Rattle.laws.proofs.Steps.{many, columns-move}
 use Rattle.agreement.proofs.Chips.{chipAt}
 
 -- ---- some chip of a group
@@ -44,11 +44,6 @@ module _ (f : Chip → Bool) (C g : ℕ) (r : Registers) where
       rw (e i (take C ram), ne-eqb a i (omega arith)) (any-one a n (suc i) d (drop C ram) e (omega arith) ∙ sym (leb·suc-suc (suc d) n))
 
 -- ---- the byte's last column
-
-columns-move : (C L x k : ℕ) (c : Chip) → columns C L x k c .registers ≡ advancedBy C L k (c .registers)
-unfolding columns column advancedBy
-columns-move C L x zero c = refl
-columns-move C L x (suc k) c = ap (λ (r : Registers). advanced C L r) (columns-move C L x k c)
 
 -- the subaddress of a position is below n if the position is
 below : (C L n u : ℕ) → 0 < C → n ≤ L → ltb (min L (u / C)) n ≡ ltb u (C * n)

@@ -1,7 +1,7 @@
 -- The chips' pictures one after the other are the long picture, and their lit elements add up.
 -- Assumes nothing.
 use mathlib.Core.Path.{_≡_, refl, sym, ap, _∙_}
-use mathlib.Core.List.{List, [], _∷_, _++_, map, map-append}
+use mathlib.Core.List.{List, [], _∷_, _++_, map-append}
 use Prim.Native.Nat.{ℕ, zero, suc, _+_, _*_}
 use native.Mathlib.Nat.{add-assoc, zero-add, mul-zero, suc-ne-zero}
 use native.Mathlib.Omega.{arith}

@@ -4,7 +4,6 @@ use mathlib.Core.Path.{_≡_, _∙_}
 use mathlib.Core.List.{List, [], _∷_}
 use Prim.Native.Nat.{ℕ, _+_, _*_, _≤_}
 use native.Mathlib.Nat.{mul-le-mul-left, le-of-suc-le-suc}
-use native.Mathlib.Omega.{arith}
 use lib.ListN.{length}
 use Rattle.sheet.specs.declared.Registers.{Registers}
 use Rattle.sheet.specs.declared.Expect.{Expect}
@@ -16,7 +15,7 @@ use Rattle.sheet.specs.Protocol.{next}
 use Rattle.sheet.specs.Long.{Group, byte, dataByte, heard}
 use Rattle.sheet.specs.Agree.{Keeps}
 use Rattle.laws.proofs.Ranges.{InRange, range-of, in-range, kept, rows-fit}
-use Rattle.laws.proofs.Steps.{p-at, a-at}
+use Rattle.laws.proofs.Steps.{stays-in}
 use Rattle.laws.proofs.Runs.{length-bits}
 use Rattle.laws.proofs.Nibbles.{Nibbles, bits-nibbles}
 
@@ -43,7 +42,7 @@ module _ (C L n : ℕ) (keeps : Keeps C L) where
       let u : ℕ = position C r + widthOf m in
       let fit = rows-fit r (r .i) (h .m-in) (h .i-in) in
       record {
-        range = record { e-in = h .e-in; b-in = h .b-in; m-in = h .m-in; p-in = p-at C L u r (omega (arith, h .p-in)); a-in = a-at C L u r; i-in = h .i-in; o-in = h .o-in; ab-in = h .ab-in; bf-in = h .bf-in };
+        range = stays-in C L u r h;
         size = length-bits 8 m (bankRow m (r .i)) (position C r) x (s .ram) ∙ k .size;
         nibbles = bits-nibbles 8 m (bankRow m (r .i)) (position C r) x (s .ram) (fit .0) (le-of-suc-le-suc (fit .1)) (k .nibbles);
       }

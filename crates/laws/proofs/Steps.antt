@@ -1,6 +1,6 @@
 -- The column arithmetic: columns one after the other are one step to a position. For any column count from 1 up, any pointer below it and any limit.
 -- Assumes nothing.
-use mathlib.Core.Path.{_≡_, sym, ap, ap₂, _∙_}
+use mathlib.Core.Path.{_≡_, refl, sym, ap, ap₂, _∙_}
 use mathlib.Core.Logic.{_⊎_, inl, inr, ⊎-elim}
 use Prim.Native.Nat.{ℕ, zero, suc, _+_, _*_, _/_, _%_, _≤_, _<_, min}
 use native.Mathlib.Nat.{add-zero, add-suc, mul-comm, mul-le-mul-left, le-of-lt, mod-lt, div-add-mod, div-add-mod', min-le-left, min-eq-left, min-eq-right}
@@ -9,8 +9,11 @@ use lib.Arith.{digits-div, digits-mod}
 use borrow.Author.Tests.{eq-eqb, ne-eqb}
 use Rattle.lemmas.proofs.Order.{lt-or-le}
 use Rattle.sheet.specs.declared.Registers.{Registers}
+use Rattle.sheet.specs.declared.Chip.{Chip}
 use Rattle.sheet.specs.Commands.{atPlace}
 use Rattle.sheet.specs.Places.{advanced, advancedBy, position, atPosition}
+use Rattle.sheet.specs.Plain.{column, columns}
+use Rattle.laws.proofs.Ranges.{InRange}
 
 -- one column on from a position
 pub one : (C L u : ℕ) (r : Registers) → 0 < C → advanced C L (atPosition C L r u) ≡ atPosition C L r (suc u)
@@ -64,3 +67,24 @@ settled C L u r =
     inr (rw (min-eq-left (le-of-lt h)) (omega arith), omega (arith, mul-le-mul-left C (le-of-lt h), div-add-mod u C)))
     (λ (h : u / C ≤ L). inl (rw (min-eq-right h) (div-add-mod u C)))
     (lt-or-le L (u / C))
+
+-- registers in range are in range at any position
+pub stays-in : (C L u : ℕ) (r : Registers) → InRange C L r → InRange C L (atPosition C L r u)
+unfolding atPosition
+stays-in C L u r h = record {
+  e-in = h .e-in;
+  b-in = h .b-in;
+  m-in = h .m-in;
+  p-in = p-at C L u r (omega (arith, h .p-in));
+  a-in = a-at C L u r;
+  i-in = h .i-in;
+  o-in = h .o-in;
+  ab-in = h .ab-in;
+  bf-in = h .bf-in;
+}
+
+-- stored or not, each column of a data byte moves a chip's P and A on
+pub columns-move : (C L x n : ℕ) (c : Chip) → columns C L x n c .registers ≡ advancedBy C L n (c .registers)
+unfolding columns column advancedBy
+columns-move C L x zero c = refl
+columns-move C L x (suc n) c = ap (advanced C L) (columns-move C L x n c)

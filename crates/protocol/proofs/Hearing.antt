@@ -3,7 +3,6 @@
 use mathlib.Core.Path.{_≡_, sym, ap, _∙_, subst}
 use mathlib.Core.List.{List, [], _∷_}
 use Prim.Native.Nat.{ℕ, suc, _+_, _*_, _/_, _≤_, _<_}
-use native.Mathlib.Nat.{mod-lt}
 use native.Mathlib.Omega.{arith}
 use lib.ListN.{length, getD, drop, drop-of-length-le, length-drop}
 use Rattle.lemmas.proofs.Lists.{next}
@@ -17,6 +16,7 @@ use Rattle.sheet.specs.Protocol as protocol
 use Rattle.sheet.specs.Long.{Group, command, byte, dataByte, heard}
 use Rattle.laws.proofs.Ranges.{InRange, kept, planes-pos}
 use Rattle.laws.proofs.Counts.{stored-closed, present-le}
+use Rattle.laws.proofs.Steps.{stays-in}
 use Rattle.laws.proofs.Runs.{length-bits}
 use Rattle.protocol.specs.declared.Listener.{Listener}
 use Rattle.protocol.specs.Listeners.{groupOf, begun}
@@ -36,17 +36,7 @@ data-sound x g i size s =
     let m = backplanes r in
     let v = position 160 r in
     record {
-      range = record {
-        e-in = s .range .e-in;
-        b-in = s .range .b-in;
-        m-in = s .range .m-in;
-        p-in = mod-lt (v + (7 / m + 1)) {m = 160} (omega arith);
-        a-in = omega arith;
-        i-in = s .range .i-in;
-        o-in = s .range .o-in;
-        ab-in = s .range .ab-in;
-        bf-in = s .range .bf-in;
-      };
+      range = stays-in 160 4 (v + (7 / m + 1)) r (s .range);
       acknowledged = omega (arith, s .acknowledged, present-le (length (g .ram)) (v + 7 / m));
       bits = omega (arith, s .bits, stored-closed 8 m v (length (g .ram)) (planes-pos r));
       long = length-bits 8 m (bankRow m (r .i)) v x (g .ram) ∙ s .long;
