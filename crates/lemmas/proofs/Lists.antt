@@ -1,12 +1,12 @@
 -- Parts of a list as the code takes them: the elements from i on, one of them, and all that are left.
 -- Assumes nothing.
-use mathlib.Core.Path.{_≡_}
-use mathlib.Core.List.{List, [], _∷_}
+use mathlib.Core.Path.{_≡_, ap, _∙_}
+use mathlib.Core.List.{List, [], _∷_, _++_, append-nil}
 use Prim.Native.Nat.{ℕ, _+_, _-_, _<_}
-use native.Mathlib.Nat.{add-sub-cancel-left, le-refl}
+use native.Mathlib.Nat.{zero-add, add-sub-cancel-left, le-refl}
 use native.Mathlib.Numerals.{add-one}
-use lib.ListN.{length, getD, take, drop, length-drop}
-use lib.Seq.{drop-cons, take-all}
+use lib.ListN.{length, getD, take, drop, length-drop, drop-of-length-le}
+use lib.Seq.{drop-cons, take-all, sets, sets-eq}
 
 -- those from i on are element i and those from i + 1 on
 pub next : (l : List ℕ) (i : ℕ) → i < length l → drop i l ≡ getD l i 0 ∷ drop (i + 1) l
@@ -19,3 +19,10 @@ part-one l i h = rw (add-sub-cancel-left i 1, next l i h)
 -- the part from i to the end
 pub part-rest : (l : List ℕ) (i : ℕ) → take (length l - i) (drop i l) ≡ drop i l
 part-rest l i = take-all (length l - i) (drop i l) (rw (length-drop i l) (le-refl (length l - i)))
+
+-- a list set whole from its start is what it was set to
+pub filled : (vs l : List ℕ) → length l ≡ length vs → sets l 0 vs ≡ vs
+filled vs l e =
+    sets-eq vs l 0 (rw (zero-add (length vs), e) (le-refl (length vs)))
+    ∙ ap (λ (r : List ℕ). vs ++ r) (drop-of-length-le l {i = 0 + length vs} (rw (zero-add (length vs), e) (le-refl (length vs))))
+    ∙ append-nil vs

@@ -1,0 +1,46 @@
+-- `cabi::both_of` meets its contract.
+-- Assumes nothing.
+use mathlib.Core.Path.{ap, _∙_}
+use native.Mathlib.Omega.{arith}
+use lib.ListN.{length-take}
+use denote.Ref.{now}
+use Rattle.lemmas.proofs.Lists.{part-rest}
+use Rattle.cabi.specs.Calls.{registersIn}
+use borrow.Author.Needs.{needs}
+use Rattle.cabi.proofs.both_of.Statement.{statement}
+use Rattle.cabi.proofs.both_of.Tie as tie
+
+slice-aggregate-registers-of : tie.Need-slice-aggregate-registers-of
+slice-aggregate-registers-of c = simp length-take (omega (arith, c .before .before .pre))
+
+registers-of-requires : tie.Need-registers-of-requires
+registers-of-requires c κs = simp length-take (omega (arith, c .before .before .pre))
+
+sub-registers-of : tie.Need-sub-registers-of
+sub-registers-of c = search needs
+
+part-registers-of-start : tie.Need-part-registers-of-start
+part-registers-of-start c = search needs
+
+part-registers-of-end : tie.Need-part-registers-of-end
+part-registers-of-end c = search needs
+
+registers-of-requires-2 : tie.Need-registers-of-requires-2
+registers-of-requires-2 c κs = search needs
+
+returns : tie.Need-returns
+returns c = let bytes = now (c .before .before .before .before .before .args .bytes) in
+    let one = c .registers-of2 .ensures ∙ ap registersIn (part-rest bytes 9) in
+    λ j. record { zero = c .before .before .registers-of .ensures j; one = one j }
+
+pub both-of-spec : {M : Type 1} → statement M
+both-of-spec =
+    tie.close
+    (tie.spec
+    slice-aggregate-registers-of
+    registers-of-requires
+    sub-registers-of
+    part-registers-of-start
+    part-registers-of-end
+    registers-of-requires-2
+    returns)

@@ -1,0 +1,66 @@
+-- `cabi::humtrellis_picture` meets its contract.
+-- Assumes nothing.
+use mathlib.Core.Path.{_≡_, refl, ap, _∙_}
+use lib.Dec.{eqb}
+use lib.ListN.{length, getD}
+use borrow.Author.Tests.{eqb-true}
+use denote.Ref.{now}
+use Rattle.lemmas.proofs.Tests.{both-true}
+use Rattle.sheet.specs.declared.Both.{Both}
+use Rattle.sheet.specs.declared.Pictured.{Pictured}
+use Rattle.sheet.specs.Long.{pictureCall}
+use Rattle.cabi.specs.Calls.{bothOf, chipsOf, pictureNumbers, pictureC}
+use borrow.Author.Needs.{needs}
+use Rattle.cabi.proofs.humtrellis_picture.Statement.{statement}
+use Rattle.cabi.proofs.humtrellis_picture.Tie as tie
+
+-- past the test both buffers have their sizes
+sizes : (c : tie.Then1) → (length (now (c .before .before .before .before .before .args .registers)) ≡ 18) × (length (now (c .before .before .before .before .before .args .answer)) ≡ 5)
+sizes c =
+    let t = both-true (eqb (length (now (c .before .before .before .before .before .args .registers))) 18) (eqb (length (now (c .before .before .before .before .before .args .answer))) 5) (c .if1 .taken) in
+    (eqb-true _ 18 (t .0), eqb-true _ 5 (t .1))
+
+both-of-requires : tie.Need-both-of-requires
+both-of-requires c κs = sizes c .0
+
+picture-requires : tie.Need-picture-requires
+picture-requires c κs = search needs
+
+put-pictured-requires : tie.Need-put-pictured-requires
+put-pictured-requires c κs = sizes (c .before .before .before .before .before .before) .1
+
+same-length : tie.Need-same-length
+same-length c = search needs
+
+same-length-2 : tie.Need-same-length-2
+same-length-2 c = search needs
+
+returns : tie.Need-returns
+unfolding pictureC
+returns c = let a = c .before .before .before .before .before .before .before .before .before .before .before .before .before .before .args in
+    let before = c .before .before .before .before .before .before .before .before .both-of .ensures in
+    let shown : c .before .before .before .before .before .before .picture .result ≡ pictureCall 160 4 (chipsOf (a .chips0) (a .chips1)) (bothOf (now (a .registers))) (now (a .ram)) (a .group) (a .phase) (now (a .out)) .result =
+    c .before .before .before .before .before .before .picture .ensures .1 ∙ ap (λ (r : Both). pictureCall 160 4 (chipsOf (a .chips0) (a .chips1)) r (now (a .ram)) (a .group) (a .phase) (now (a .out)) .result) before in
+    rw (c .before .before .before .before .before .before .before .before .before .if1 .taken) (
+      c .before .before .put-pictured .ensures .0 ∙ ap (λ (t : Pictured). getD (pictureNumbers t) 0 0) shown,
+      (
+        c .before .before .before .before .before .before .picture .ensures .0 ∙ ap (λ (r : Both). pictureCall 160 4 (chipsOf (a .chips0) (a .chips1)) r (now (a .ram)) (a .group) (a .phase) (now (a .out)) .out) before,
+        c .before .before .put-pictured .ensures .1 ∙ ap pictureNumbers shown,
+      ),
+    )
+
+returns-2 : tie.Need-returns-2
+unfolding pictureC
+returns-2 c = rw (c .if1 .left) (refl, (refl, refl))
+
+pub humtrellis-picture-spec : {M : Type 1} → statement M
+humtrellis-picture-spec =
+    tie.close
+    (tie.spec
+    both-of-requires
+    picture-requires
+    put-pictured-requires
+    same-length
+    same-length-2
+    returns
+    returns-2)

@@ -1,0 +1,78 @@
+-- `cabi::humtrellis_transfer` meets its contract: the call of the long account between bytes and registers.
+-- Assumes nothing.
+use mathlib.Core.Path.{_≡_, refl, ap, _∙_}
+use lib.Dec.{eqb}
+use lib.ListN.{length, getD}
+use borrow.Author.Tests.{eqb-true}
+use denote.Ref.{now}
+use Rattle.lemmas.proofs.Tests.{both-true}
+use Rattle.sheet.specs.declared.Both.{Both}
+use Rattle.sheet.specs.declared.Transferred.{Transferred}
+use Rattle.sheet.specs.Refusals.{numbers}
+use Rattle.sheet.specs.Long.{transferCall}
+use Rattle.cabi.specs.Calls.{bothOf, bothBytes, chipsOf, transferC}
+use borrow.Author.Needs.{needs}
+use Rattle.cabi.proofs.humtrellis_transfer.Statement.{statement}
+use Rattle.cabi.proofs.humtrellis_transfer.Tie as tie
+
+-- past the test both buffers have their sizes
+sizes : (c : tie.Then1) → (length (now (c .before .before .before .before .before .args .registers)) ≡ 18) × (length (now (c .before .before .before .before .before .args .answer)) ≡ 5)
+sizes c =
+    let t = both-true (eqb (length (now (c .before .before .before .before .before .args .registers))) 18) (eqb (length (now (c .before .before .before .before .before .args .answer))) 5) (c .if1 .taken) in
+    (eqb-true _ 18 (t .0), eqb-true _ 5 (t .1))
+
+both-of-requires : tie.Need-both-of-requires
+both-of-requires c κs = sizes (c .before) .0
+
+transfer-requires : tie.Need-transfer-requires
+transfer-requires c κs = search needs
+
+put-both-requires : tie.Need-put-both-requires
+put-both-requires c κs = sizes (c .before .before .before .before .before .before .before .before) .0
+
+put-answer-requires : tie.Need-put-answer-requires
+put-answer-requires c κs = sizes (c .before .before .before .before .before .before .before .before .before .before .before .before) .1
+
+same-length : tie.Need-same-length
+same-length c = search needs
+
+same-length-2 : tie.Need-same-length-2
+same-length-2 c = search needs
+
+same-length-3 : tie.Need-same-length-3
+same-length-3 c = search needs
+
+returns : tie.Need-returns
+unfolding transferC
+returns c = let a = c .before .before .before .before .before .before .before .before .before .before .before .before .before .before .before .before .before .before .before .before .args in
+    let before = c .before .before .before .before .before .before .before .before .before .before .before .before .before .both-of .ensures in
+    let after : c .before .before .before .before .before .before .before .before .before .before .before .transfer .result ≡ transferCall 160 4 (chipsOf (a .chips0) (a .chips1)) (bothOf (now (a .registers))) (now (a .ram)) (now (a .bytes)) .result =
+    c .before .before .before .before .before .before .before .before .before .before .before .transfer .ensures .1 ∙ ap (λ (r : Both). transferCall 160 4 (chipsOf (a .chips0) (a .chips1)) r (now (a .ram)) (now (a .bytes)) .result) before in
+    rw (c .before .before .before .before .before .before .before .before .before .before .before .before .before .before .before .if1 .taken) (
+      c .before .before .put-answer .ensures .0 ∙ ap (λ (t : Transferred). getD (numbers (t .answer)) 0 0) after,
+      (
+        c .before .before .before .before .before .before .put-both .ensures ∙ ap (λ (t : Transferred). bothBytes (t .registers)) after,
+        (
+          c .before .before .before .before .before .before .before .before .before .before .before .transfer .ensures .0 ∙ ap (λ (r : Both). transferCall 160 4 (chipsOf (a .chips0) (a .chips1)) r (now (a .ram)) (now (a .bytes)) .ram) before,
+          c .before .before .put-answer .ensures .1 ∙ ap (λ (t : Transferred). numbers (t .answer)) after,
+        ),
+      ),
+    )
+
+returns-2 : tie.Need-returns-2
+unfolding transferC
+returns-2 c = rw (c .if1 .left) (refl, (refl, (refl, refl)))
+
+pub humtrellis-transfer-spec : {M : Type 1} → statement M
+humtrellis-transfer-spec =
+    tie.close
+    (tie.spec
+    both-of-requires
+    transfer-requires
+    put-both-requires
+    put-answer-requires
+    same-length
+    same-length-2
+    same-length-3
+    returns
+    returns-2)
