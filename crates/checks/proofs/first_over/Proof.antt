@@ -1,67 +1,34 @@
--- first_over: what is left from column i on gives the whole answer.
+-- `checks::first_over` meets its contract: where the highest column is at most 15, none is over.
 -- Assumes nothing.
-use mathlib.Core.Path.{_≡_, refl, sym, _∙_}
-use mathlib.Core.List.{List}
-use mathlib.Core.Bool.{cond}
-use Prim.Native.Nat.{ℕ, _+_, _-_, _<_}
-use native.Mathlib.Numerals.{add-one}
-use lib.Dec.{ltb}
-use lib.ListN.{length, getD, drop, drop-of-length-le}
-use borrow.Author.Tests.{lt-ltb, le-ltb}
-use borrow.Author.Needs.{needs}
-use Rattle.lemmas.proofs.Lists.{next}
-use Rattle.sheet.specs.declared.Refusal.the-variants.{RamByte}
-use Rattle.sheet.specs.declared.Check.the-variants.{Refused}
+use mathlib.Core.Path.{_≡_, refl, sym}
+use mathlib.Core.List.{List, [], _∷_}
+use Prim.Native.Nat.{ℕ, suc, _≤_}
+use native.Mathlib.Omega.{arith}
+use borrow.Author.Tests.{le-ltb}
+use denote.Ref.{now}
+use Rattle.sheet.specs.declared.Check.the-variants.{Passed}
 use Rattle.sheet.specs.Checks.{overIn}
+use Rattle.checks.specs.Highest.{highestOf}
+use borrow.Author.Needs.{needs}
 use Rattle.checks.proofs.first_over.Statement.{statement}
 use Rattle.checks.proofs.first_over.Tie as tie
 
--- column i decides, or those after it do
-turn : (columns : List ℕ) (i : ℕ) → i < length columns
-    → overIn i (drop i columns) ≡ cond (ltb 15 (getD columns i 0)) (Refused (RamByte i)) (overIn (i + 1) (drop (i + 1) columns))
-unfolding overIn
-turn columns i h = rw (next columns i h, add-one i) refl
+none-over : (i : ℕ) (l : List ℕ) → highestOf l ≤ 15 → overIn i l ≡ Passed
+unfolding highestOf overIn
+none-over i [] h = refl
+none-over i (q ∷ qs) h = rw (le-ltb 15 q (omega arith)) (none-over (suc i) qs (omega arith))
 
-abbrev Inv-loop : tie.InvT-loop
-Inv-loop columns i₀ i = overIn i (drop i columns) ≡ overIn 0 columns
+highest-requires : tie.Need-highest-requires
+highest-requires c κs = search needs
 
-abbrev μ-loop : tie.MeasureT-loop
-μ-loop columns i₀ i = length columns - i
+search-over-requires : tie.Need-search-over-requires
+search-over-requires c κs = search needs
 
-loop-holds : tie.Need-loop-holds Inv-loop μ-loop
-loop-holds c = refl
+returns : tie.Need-returns
+returns c = sym (none-over 0 (now (c .before .before .before .args .columns)) (omega (arith, c .before .highest .ensures, c .if1 .taken)))
 
-shared-slice-read-if1 : tie.Need-shared-slice-read-if1 Inv-loop μ-loop
-shared-slice-read-if1 c = search needs
-
-returns : tie.Need-returns Inv-loop μ-loop
-returns c = let p = c .before .before .before in
-    sym (rw (lt-ltb _ _ (c .if1 .taken)) at (turn (p .before .args .columns .now) (p .loop .i) (c .before .before .loop-test .taken))) ∙ p .loop .inv
-
-add-i : tie.Need-add-i Inv-loop μ-loop
-add-i c = search needs
-
-loop-less : tie.Need-loop-less Inv-loop μ-loop
-loop-less c = search needs
-
-loop-again : tie.Need-loop-again Inv-loop μ-loop
-loop-again c = let p = c .before .before .before in
-    sym (rw (le-ltb _ _ (c .if1 .left)) at (turn (p .before .args .columns .now) (p .loop .i) (c .before .before .loop-test .taken))) ∙ p .loop .inv
-
-returns-2 : tie.Need-returns-2 Inv-loop μ-loop
-unfolding overIn
-returns-2 c = rw (drop-of-length-le (c .before .before .args .columns .now) {i = c .before .loop .i} (c .loop-test .left)) at (c .before .loop .inv)
+returns-2 : tie.Need-returns-2
+returns-2 c = search needs
 
 pub first-over-spec : {M : Type 1} → statement M
-first-over-spec =
-    tie.close
-    (tie.spec
-    Inv-loop
-    μ-loop
-    loop-holds
-    shared-slice-read-if1
-    returns
-    add-i
-    loop-less
-    loop-again
-    returns-2)
+first-over-spec = tie.close (tie.spec highest-requires search-over-requires returns returns-2)
