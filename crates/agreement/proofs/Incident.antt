@@ -12,10 +12,10 @@ use Rattle.sheet.specs.Places.{advanced, position, atPosition}
 use Rattle.sheet.specs.Data.{putBits, changed, withRow, storedBits, counted}
 use Rattle.sheet.specs.Protocol.{heardBy, controlOf, undefinedIn}
 use Rattle.sheet.specs.Checks.{checkChips, checkRegisters, overIn, checkRam, checkLength, checkState, checkTransfer}
-use Rattle.sheet.specs.Long.{heard, dataByte, transferCall}
+use Rattle.sheet.specs.Long.{heard, dataByte, transferCall, State, stateAfter}
 use Rattle.sheet.specs.Plain.{putRows, column, columns, chipData, chipAcknowledges, plainHeard, chipFits, misfitIn, checkPlain, plainCall}
 use Rattle.sheet.specs.Starred.{Column, holds}
-use Rattle.sheet.specs.Agree.{State, groupChips, chipsOf, stateAfter}
+use Rattle.sheet.specs.Agree.{groupChips, chipsOf}
 
 -- two chips of group 0, powered on, RAM 0
 abbrev two : Chips

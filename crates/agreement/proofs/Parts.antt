@@ -9,8 +9,8 @@ use lib.ListN.{length, take, drop, length-append, length-drop, take-append-drop}
 use lib.Seq.{length-take-le, take-all, drop-at}
 use Rattle.sheet.specs.declared.Chips.{Chips}
 use Rattle.sheet.specs.declared.Chip.{Chip}
-use Rattle.sheet.specs.Long.{Group, acknowledged, nothing, registersOf, partOf}
-use Rattle.sheet.specs.Agree.{State, groupChips, chipsOf, Valid}
+use Rattle.sheet.specs.Long.{Group, acknowledged, nothing, registersOf, partOf, State}
+use Rattle.sheet.specs.Agree.{groupChips, chipsOf, Valid}
 use Rattle.laws.proofs.Nibbles.{take-nibbles, drop-nibbles, join-nibbles}
 use Rattle.laws.proofs.Kept.{Kept}
 use Rattle.laws.proofs.Fits.{Fits, check-fits}

@@ -6,7 +6,8 @@ use Prim.Native.Nat.{ℕ}
 use Rattle.sheet.specs.declared.Chips.{Chips}
 use Rattle.sheet.specs.declared.Chip.{Chip}
 use Rattle.sheet.specs.declared.PlainAnswer.{PlainAnswer}
-use Rattle.sheet.specs.Agree.{State, stateAfter, answerTo, longAll, longAnswers, plainAll, plainAnswers, Keeps, Valid, AgreesAll}
+use Rattle.sheet.specs.Long.{State, stateAfter}
+use Rattle.sheet.specs.Agree.{answerTo, longAll, longAnswers, plainAll, plainAnswers, Keeps, Valid, AgreesAll}
 use Rattle.agreement.proofs.Transfer.{transfer}
 
 pub sequence : (C L : ℕ) → Keeps C L → (n : Chips) (s : State) (ts : List (List ℕ)) → Valid C L n s → AgreesAll C L n s ts

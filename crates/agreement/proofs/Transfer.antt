@@ -19,9 +19,9 @@ use Rattle.sheet.specs.declared.Expect.the-variants.{Control}
 use Rattle.sheet.specs.declared.PlainAnswer.{PlainAnswer}
 use Rattle.sheet.specs.Protocol.{addressOf, heardBy}
 use Rattle.sheet.specs.Checks.{checkTransfer}
-use Rattle.sheet.specs.Long.{Group, After, heard, taken, answered, transferCall}
+use Rattle.sheet.specs.Long.{Group, After, heard, taken, answered, transferCall, State}
 use Rattle.sheet.specs.Plain.{Plain, PlainAfter, plainHeard, plainSaid, plainTaken, plainAnswered, plainCall}
-use Rattle.sheet.specs.Agree.{State, chipsOf, plainly, Keeps, Valid, Agrees}
+use Rattle.sheet.specs.Agree.{chipsOf, plainly, Keeps, Valid, Agrees}
 use Rattle.laws.proofs.Kept.{Kept, heard-keeps}
 use Rattle.laws.proofs.Fits.{Fits, fits-of}
 use Rattle.agreement.proofs.Group.{chipsOfGroup, plainOf, heard-agrees}

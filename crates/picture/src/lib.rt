@@ -49,7 +49,7 @@ fn write_rows(columns: &[u8], first: usize, height: usize, out: &mut [u8])
 }
 
 // Writes the picture, a byte a column. Dark is a picture of no rows.
-pub fn write(columns: &[u8], registers: Registers, phase: u8, out: &mut [u8])
+fn write(columns: &[u8], registers: Registers, phase: u8, out: &mut [u8])
     requires { ⌜ (length (now out) ≡ length (now columns)) × (inRange 160 4 registers ≡ true) ⌝ }
     ensures { λ _. ⌜ now (out .exit) ≡ pictureOf registers phase (now (columns .entry)) ⌝ }
 {
@@ -60,7 +60,7 @@ pub fn write(columns: &[u8], registers: Registers, phase: u8, out: &mut [u8])
 }
 
 // The lit elements: the ones of each masked column nibble, summed.
-pub fn count(picture: &[u8]) -> usize
+fn count(picture: &[u8]) -> usize
     requires { ⌜ length (now picture) ≤ 1280 ⌝ }
     ensures { λ r. ⌜ r ≡ litIn (now (picture .entry)) ⌝ }
 {
@@ -71,4 +71,14 @@ pub fn count(picture: &[u8]) -> usize
         i += 1;
     }
     total
+}
+
+// The picture is written and then walked again to count what is lit.
+pub fn show(columns: &[u8], registers: Registers, phase: u8, out: &mut [u8]) -> usize
+    requires { ⌜ (length (now out) ≡ length (now columns)) × (length (now out) ≤ 1280) × (inRange 160 4 registers ≡ true) ⌝ }
+    ensures { λ _. ⌜ now (out .exit) ≡ pictureOf registers phase (now (columns .entry)) ⌝ }
+    ensures { λ r. ⌜ r ≡ litIn (pictureOf registers phase (now (columns .entry))) ⌝ }
+{
+    write(columns, registers, phase, out);
+    count(out)
 }

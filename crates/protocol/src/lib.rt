@@ -112,7 +112,7 @@ fn acknowledged(mut counts: Counts) -> Counts
 
 impl Listener {
     // After a control byte.
-    pub fn control(self, byte: u8) -> Listener
+    fn control(self, byte: u8) -> Listener
         requires { ⌜ self .counts .acknowledged < 2 ^ 32 ⌝ }
         ensures { λ r. ⌜ r ≡ listenerOf (controlOf byte) (control (groupOf self [])) ⌝ }
     {
@@ -126,7 +126,7 @@ impl Listener {
     }
 
     // After a command byte, with what follows it.
-    pub fn command(self, then: Expect, byte: u8) -> Listener
+    fn command(self, then: Expect, byte: u8) -> Listener
         requires { ⌜ self .counts .acknowledged < 2 ^ 32 ⌝ }
         ensures { λ r. ⌜ r ≡ listenerOf then (command byte (groupOf self [])) ⌝ }
     {
@@ -140,7 +140,7 @@ impl Listener {
     }
 
     // After a run of data bytes, with what follows it.
-    pub fn data(self, then: Expect, ram: &mut [u8], run: &[u8]) -> Listener
+    fn data(self, then: Expect, ram: &mut [u8], run: &[u8]) -> Listener
         requires { ⌜ (inRange 160 4 (self .registers) ≡ true) × (length (now ram) ≤ 640) × (length (now run) < 65536) × (self .counts .acknowledged < 2 ^ 32) × (self .counts .stored < 2 ^ 32) × (self .counts .discarded < 2 ^ 32) ⌝ }
         ensures { λ _. ⌜ now (ram .exit) ≡ heard 160 4 Expect.Run (now (run .entry)) (groupOf self (now (ram .entry))) .ram ⌝ }
         ensures { λ r. ⌜ r ≡ listenerOf then (heard 160 4 Expect.Run (now (run .entry)) (groupOf self (now (ram .entry)))) ⌝ }

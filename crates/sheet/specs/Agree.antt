@@ -14,7 +14,7 @@ use Rattle.sheet.specs.declared.Answer.{Answer}
 use Rattle.sheet.specs.declared.PlainAnswer.{PlainAnswer}
 use Rattle.sheet.specs.Commands.{commandOf, obeyed, inRange}
 use Rattle.sheet.specs.Checks.{checkState}
-use Rattle.sheet.specs.Long.{powerOnCall, transferCall}
+use Rattle.sheet.specs.Long.{State, powerOnCall, transferCall, stateAfter}
 use Rattle.sheet.specs.Pictures.{pictureOf, litIn}
 use Rattle.sheet.specs.Plain.{plainCall}
 
@@ -26,21 +26,12 @@ groupChips C zero g i r columns = []
 groupChips C (suc n) g i r columns =
     record { columns = take C columns; sa0 = g; subaddress = i; registers = r } ∷ groupChips C n g (suc i) r (drop C columns)
 
-pub record State : Type 0 where
-  pub registers : Both
-  pub ram : List ℕ
-
 -- both groups' chips in order
 abbrev pub chipsOf : ℕ → Chips → State → List Chip
 chipsOf C n s =
     groupChips C (n .zero) 0 0 (s .registers .zero) (s .ram) ++ groupChips C (n .one) 1 0 (s .registers .one) (drop (C * n .zero) (s .ram))
 
 -- ---- what the two accounts make of one transfer
-
-abbrev pub stateAfter : ℕ → ℕ → Chips → State → List ℕ → State
-stateAfter C L n s bytes =
-    let a = transferCall C L n (s .registers) (s .ram) bytes in
-    record { registers = a .result .registers; ram = a .ram }
 
 -- the plain account reports acknowledged only
 abbrev pub plainly : Answer → PlainAnswer

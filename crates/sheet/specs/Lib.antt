@@ -6,6 +6,8 @@ pub mod Protocol
 pub mod Checks
 pub mod Long
 pub mod Pictures
+pub mod Logs
 pub mod Plain
 pub mod Agree
 pub mod Starred
+pub mod Worked

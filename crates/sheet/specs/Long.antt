@@ -118,6 +118,16 @@ unfoldable pub transferCall : ℕ → ℕ → Chips → Both → List ℕ → Li
 transferCall C L n r ram bytes =
     answered (checkTransfer C L n r ram bytes) r ram (taken C L n r ram bytes (heardBy n (getD bytes 0 0)))
 
+-- what the calls go on with, and what it is after a transfer, taken or refused
+pub record State : Type 0 where
+  pub registers : Both
+  pub ram : List ℕ
+
+abbrev pub stateAfter : ℕ → ℕ → Chips → State → List ℕ → State
+stateAfter C L n s bytes =
+    let a = transferCall C L n (s .registers) (s .ram) bytes in
+    record { registers = a .result .registers; ram = a .ram }
+
 pub record Seen : Type 0 where
   pub result : Pictured
   pub out : List ℕ

@@ -9,14 +9,17 @@ use Rattle.sheet.specs.declared.Registers.{Registers}
 use Rattle.sheet.specs.declared.Chip.{Chip}
 use Rattle.sheet.specs.declared.Expect.{Expect}
 use Rattle.sheet.specs.declared.Expect.the-variants.{Control, OneCommand, Commands, OneData, Run}
-use Rattle.sheet.specs.declared.Refusal.the-variants.{ManyChips, ChipField}
+use Rattle.sheet.specs.declared.Refusal.the-variants.{ManyChips, ChipField, GroupOrPhase, PictureLength}
 use Rattle.sheet.specs.declared.Check.{Check}
 use Rattle.sheet.specs.declared.Check.the-variants.{Passed, Refused}
 use Rattle.sheet.specs.declared.PlainAnswer.{PlainAnswer}
-use Rattle.sheet.specs.Commands.{commandOf, obeyed, inRange, backplanes, bankRow}
+use Rattle.sheet.specs.declared.ChipPowerOn.{ChipPowerOn}
+use Rattle.sheet.specs.Commands.{powerOn, commandOf, obeyed, inRange, backplanes, bankRow}
 use Rattle.sheet.specs.Places.{advanced}
 use Rattle.sheet.specs.Data.{bitOf, withRow, changed, widthOf}
 use Rattle.sheet.specs.Protocol.{addressOf, next, undefinedIn}
+use Rattle.sheet.specs.Pictures.{pictureOf}
+use Rattle.sheet.specs.Long.{Seen, seen}
 use Rattle.sheet.specs.Checks.{unless, orElse, overIn, checkLength}
 
 -- ---- one chip
@@ -98,7 +101,7 @@ plainHeard C L address e (x ∷ xs) s =
     plainHeard C L address (next e x) xs
     (record { acknowledged = s .acknowledged + counts C L address e x (s .chips); chips = map (takes C L address e x) (s .chips) })
 
--- ---- a transfer
+-- ---- which chips fit
 
 abbrev pub passed : Check → Bool
 passed Passed = Bool.true
@@ -107,6 +110,26 @@ passed (Refused r) = Bool.false
 -- a chip with every field and column in range
 unfoldable pub chipFits : ℕ → ℕ → Chip → Bool
 chipFits C L c = ltb (c .sa0) 2 && (ltb (c .subaddress) L && (inRange C L (c .registers) && passed (overIn 0 (c .columns))))
+
+-- ---- one chip's calls
+
+-- power-on: 11, place 0, only for SA0, subaddress or a column. Taken or refused, the registers become the power-on ones and the rest stays
+unfoldable pub chipPowerOn : ℕ → ℕ → Chip → ChipPowerOn
+chipPowerOn C L c = record {
+  check = unless (ltb (c .sa0) 2 && (ltb (c .subaddress) L && passed (overIn 0 (c .columns)))) (ChipField 0);
+  chip = withRegisters powerOn c;
+}
+
+-- picture into a buffer of the given size: 11, place 0, then 8, 9
+unfoldable pub checkChipPicture : ℕ → ℕ → Chip → ℕ → ℕ → Check
+checkChipPicture C L c phase size =
+    orElse (unless (chipFits C L c) (ChipField 0)) (orElse (unless (ltb phase 2) GroupOrPhase) (unless (eqb size C) PictureLength))
+
+-- the chip is shown alone, over its own registers and columns
+unfoldable pub chipPictureCall : ℕ → ℕ → Chip → ℕ → List ℕ → Seen
+chipPictureCall C L c phase out = seen (checkChipPicture C L c phase (length out)) (pictureOf (c .registers) phase (c .columns)) out
+
+-- ---- the call of the list
 
 -- the first chip that does not fit, counted from i
 unfoldable pub misfitIn : ℕ → ℕ → ℕ → List Chip → Check

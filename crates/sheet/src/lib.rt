@@ -121,6 +121,11 @@ pub struct Chip {
     pub registers: Registers,
 }
 
+pub struct ChipPowerOn {
+    pub check: Check,
+    pub chip: Chip,
+}
+
 pub enum PlainAnswer {
     Acknowledged(usize),
     Refused(Refusal),

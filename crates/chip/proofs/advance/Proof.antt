@@ -1,0 +1,33 @@
+-- advance: by its test.
+-- Assumes nothing.
+use borrow.Author.Tests.{eq-eqb, ne-eqb}
+use borrow.Author.Needs.{needs}
+use Rattle.sheet.specs.Commands.{atPlace}
+use Rattle.sheet.specs.Places.{advanced}
+use Rattle.chip.proofs.advance.Statement.{statement}
+use Rattle.chip.proofs.advance.Tie as tie
+
+add-if1 : tie.Need-add-if1
+add-if1 c = search needs
+
+add-least : tie.Need-add-least
+add-least c = search needs
+
+least-requires : tie.Need-least-requires
+least-requires c κs = search needs
+
+add-registers : tie.Need-add-registers
+add-registers c = search needs
+
+returns : tie.Need-returns
+unfolding advanced
+returns c = let r = c .before .before .before .before .args .registers in
+    rw (eq-eqb _ _ (c .before .before .if1 .taken)) (λ j. atPlace r 0 (c .least .ensures j))
+
+returns-2 : tie.Need-returns-2
+unfolding advanced
+returns-2 c = rw (ne-eqb _ _ (c .before .if1 .left))
+
+pub advance-spec : {M : Type 1} → statement M
+advance-spec =
+    tie.close (tie.spec add-if1 add-least least-requires add-registers returns returns-2)

@@ -1,0 +1,61 @@
+-- `chip::picture` meets its contract, by the case of the check; one that passes lets the chip be shown.
+-- Assumes nothing.
+use mathlib.Core.Path.{_≡_, refl, sym, ap, _∙_}
+use mathlib.Core.Bool.{true}
+use native.Mathlib.Omega.{arith}
+use lib.ListN.{length}
+use Rattle.sheet.specs.declared.Check.the-variants.{Passed}
+use Rattle.sheet.specs.declared.Pictured.{Pictured}
+use Rattle.sheet.specs.Commands.{inRange}
+use Rattle.sheet.specs.Plain.{checkChipPicture, chipPictureCall}
+use Rattle.chip.proofs.Passing.{picture-passes}
+use borrow.Author.Needs.{needs}
+use Rattle.chip.proofs.picture.Statement.{statement}
+use Rattle.chip.proofs.picture.Tie as tie
+
+-- past the match the check has passed
+passes : (c : tie.After-enum-told) → let a = c .before .before .before .before .args in checkChipPicture 160 4 (a .chip) (a .phase) (length (a .out .now)) ≡ Passed
+passes c = sym (c .before .before .check-picture .ensures) ∙ c .enum-told .given .1
+
+-- so the registers are in range, and the buffer is as long as the columns
+known : (c : tie.After-enum-told) → let a = c .before .before .before .before .args in (inRange 160 4 (a .chip .registers) ≡ true) × (length (a .out .now) ≡ 160)
+known c = picture-passes 160 4 _ _ _ (passes c)
+
+check-picture-requires : tie.Need-check-picture-requires
+check-picture-requires c κs = search needs
+
+enum-known-refusal : tie.Need-enum-known-refusal
+enum-known-refusal c = search needs
+
+enum-told : tie.Need-enum-told
+enum-told c = search needs
+
+slice-aggregate-show : tie.Need-slice-aggregate-show
+slice-aggregate-show c = search needs
+
+show-requires : tie.Need-show-requires
+show-requires c κs = let h = known (c .before .before .before) in (h .1 ∙ slice-aggregate-show (c .before), omega (arith, h .1), h .0)
+
+returns : tie.Need-returns
+unfolding chipPictureCall
+returns c = rw (sym (c .before .before .before .check-picture .ensures) ∙ c .before .refusal .given .1) (refl, refl)
+
+same-length : tie.Need-same-length
+same-length c = search needs
+
+returns-2 : tie.Need-returns-2
+unfolding chipPictureCall
+returns-2 c = rw (passes (c .before .before .before .before .before .before)) (ap Pictured.Lit (c .before .before .show .ensures .1), c .before .before .show .ensures .0)
+
+pub picture-spec : {M : Type 1} → statement M
+picture-spec =
+    tie.close
+    (tie.spec
+    check-picture-requires
+    enum-known-refusal
+    enum-told
+    slice-aggregate-show
+    show-requires
+    returns
+    same-length
+    returns-2)

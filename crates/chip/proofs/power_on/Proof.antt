@@ -1,0 +1,30 @@
+-- power_on: its two parts are the definition's.
+-- Assumes nothing.
+use mathlib.Core.Path.{ap, _∙_}
+use mathlib.Core.Bool.{Bool, _&&_}
+use lib.Dec.{ltb}
+use borrow.Author.Needs.{needs}
+use Rattle.sheet.specs.declared.Refusal.the-variants.{ChipField}
+use Rattle.sheet.specs.Checks.{unless}
+use Rattle.sheet.specs.Plain.{withRegisters}
+use Rattle.sheet.specs.Plain.{chipPowerOn}
+use Rattle.chip.proofs.power_on.Statement.{statement}
+use Rattle.chip.proofs.power_on.Tie as tie
+
+columns-fit-requires : tie.Need-columns-fit-requires
+columns-fit-requires c κs = search needs
+
+power-on-requires : tie.Need-power-on-requires
+power-on-requires c κs = search needs
+
+unless-requires : tie.Need-unless-requires
+unless-requires c κs = search needs
+
+returns : tie.Need-returns
+unfolding chipPowerOn
+returns c = let chip = c .before .before .before .before .before .before .args .chip in
+    let e = c .unless .ensures ∙ ap (λ (t : Bool). unless (ltb (chip .sa0) 2 && (ltb (chip .subaddress) 4 && t)) (ChipField 0)) (c .before .before .columns-fit .ensures) in
+    λ i. record { check = e i; chip = withRegisters (c .before .power-on .ensures i) chip }
+
+pub power-on-spec : {M : Type 1} → statement M
+power-on-spec = tie.close (tie.spec columns-fit-requires power-on-requires unless-requires returns)

@@ -1,0 +1,247 @@
+// One chip of the plain account: it follows every byte by itself, over its own registers and columns.
+use sheet::Check;
+use sheet::Chip;
+use sheet::ChipPowerOn;
+use sheet::Expect;
+use sheet::Pictured;
+use sheet::Refusal;
+use sheet::Registers;
+ghost use mathlib.Core.Path.{_≡_};
+ghost use mathlib.Core.Bool.{cond, true};
+ghost use Prim.Native.Nat.{_+_, _*_, _≤_, _<_, min};
+ghost use lib.Dec.{ltb};
+ghost use Rattle.sheet.specs.Commands.{commandOf, obeyed, inRange, backplanes};
+ghost use Rattle.sheet.specs.Places.{advanced};
+ghost use Rattle.sheet.specs.Data.{bitOf, withRow};
+ghost use Rattle.sheet.specs.Checks.{overIn};
+ghost use Rattle.sheet.specs.Plain.{withRegisters, putRows, column, chipData, chipAcknowledges, chipByte, chipAcknowledged, hears, passed, chipFits, chipPowerOn, checkChipPicture, chipPictureCall};
+
+// Bit k of a byte, numbered from the most significant.
+fn bit_of(byte: u8, k: usize) -> u8
+    requires { ⌜ k < 8 ⌝ }
+    ensures { λ r. ⌜ r ≡ bitOf byte k ⌝ }
+{
+    (byte >> (7 - k)) % 2
+}
+
+// A column with one row made a bit, the other rows kept.
+fn with_row(row: usize, bit: u8, column: u8) -> u8
+    requires { ⌜ (row < 4) × (bit < 2) ⌝ }
+    ensures { λ r. ⌜ r ≡ withRow row bit column ⌝ }
+{
+    let low = 1u8 << row;
+    let high = 2 * low;
+    column / high * high + bit * low + column % low
+}
+
+// A column with one row made bit k of a byte. A byte has no bit past 7: then the row stays.
+fn put_row(row: usize, k: usize, byte: u8, column: u8) -> u8
+    requires { ⌜ row < 4 ⌝ }
+    ensures { λ r. ⌜ r ≡ cond (ltb k 8) (withRow row (bitOf byte k) column) column ⌝ }
+{
+    if 8 <= k {
+        return column;
+    }
+    with_row(row, bit_of(byte, k), column)
+}
+
+// A column with m rows from row b on made the bits of a byte from bit k on.
+fn put_rows(m: usize, b: usize, k: usize, byte: u8, column: u8) -> u8
+    requires { ⌜ (b + m < 5) × (k < 8) ⌝ }
+    ensures { λ r. ⌜ r ≡ putRows m b k byte column ⌝ }
+{
+    let mut put = column;
+    let mut n = 0;
+    while n < m {
+        put = put_row(b + n, k + n, byte, put);
+        n += 1;
+    }
+    put
+}
+
+// The lesser of two numbers.
+fn least(a: usize, b: usize) -> usize
+    ensures { λ r. ⌜ r ≡ min a b ⌝ }
+{
+    if a < b { a } else { b }
+}
+
+// A column on: P rises by 1; at 160 it becomes 0 and A rises by 1, stopping at 4.
+fn advance(mut registers: Registers) -> Registers
+    requires { ⌜ (registers .p < 160) × (registers .a ≤ 4) ⌝ }
+    ensures { λ r. ⌜ r ≡ advanced 160 4 registers ⌝ }
+{
+    if registers.p + 1 == 160 {
+        registers.p = 0;
+        registers.a = least(4, registers.a + 1);
+        registers
+    } else {
+        registers.p = registers.p + 1;
+        registers
+    }
+}
+
+// The chip's columns after column j of a byte: stored if A is the chip's subaddress.
+fn stored(chip: Chip, byte: u8, j: usize) -> [u8; 160]
+    requires { ⌜ (inRange 160 4 (chip .registers) ≡ true) × (backplanes (chip .registers) * j < 8) ⌝ }
+    ensures { λ r. ⌜ r ≡ column 160 4 byte j chip .columns ⌝ }
+{
+    let registers = chip.registers;
+    let mut columns = chip.columns;
+    if registers.a == chip.subaddress as usize {
+        let m = command::backplanes(registers);
+        let b = command::bank_row(m, registers.i);
+        let p = registers.p;
+        columns[p] = put_rows(m, b, m * j, byte, columns[p]);
+        columns
+    } else {
+        columns
+    }
+}
+
+// The chip after column j of a byte: P and A move, stored or not.
+fn column(chip: Chip, byte: u8, j: usize) -> Chip
+    requires { ⌜ (inRange 160 4 (chip .registers) ≡ true) × (backplanes (chip .registers) * j < 8) ⌝ }
+    ensures { λ r. ⌜ r ≡ column 160 4 byte j chip ⌝ }
+{
+    let columns = stored(chip, byte, j);
+    Chip {
+        columns,
+        sa0: chip.sa0,
+        subaddress: chip.subaddress,
+        registers: advance(chip.registers),
+    }
+}
+
+// The chip after a data byte: all its columns, one after the other.
+fn take_data(chip: Chip, byte: u8) -> Chip
+    requires { ⌜ inRange 160 4 (chip .registers) ≡ true ⌝ }
+    ensures { λ r. ⌜ r ≡ chipData 160 4 byte chip ⌝ }
+{
+    let width = 7 / command::backplanes(chip.registers) + 1;
+    let mut moved = chip;
+    let mut j = 0;
+    while j < width {
+        let next = column(moved, byte, j);
+        moved = next;
+        j += 1;
+    }
+    moved
+}
+
+// The chip's registers after a command byte: it obeys every command, selected or not.
+fn obey(chip: Chip, byte: u8) -> Registers
+    ensures { λ r. ⌜ r ≡ obeyed (chip .registers) (commandOf byte) ⌝ }
+{
+    command::obey(chip.registers, byte)
+}
+
+// The chip after a command byte.
+fn take_command(mut chip: Chip, byte: u8) -> Chip
+    ensures { λ r. ⌜ r ≡ withRegisters (obeyed (chip .registers) (commandOf byte)) chip ⌝ }
+{
+    let registers = obey(chip, byte);
+    chip.registers = registers;
+    chip
+}
+
+// The chip after a byte, by what the byte is.
+pub fn step(chip: Chip, expect: Expect, byte: u8) -> Chip
+    requires { ⌜ inRange 160 4 (chip .registers) ≡ true ⌝ }
+    ensures { λ r. ⌜ r ≡ chipByte 160 4 expect byte chip ⌝ }
+{
+    match expect {
+        Expect::Control => chip,
+        Expect::OneCommand => take_command(chip, byte),
+        Expect::Commands => take_command(chip, byte),
+        Expect::OneData => take_data(chip, byte),
+        Expect::Run => take_data(chip, byte),
+    }
+}
+
+// Whether the chip acknowledges a data byte, whatever it holds: A is its subaddress at the byte's last column.
+fn acknowledges_data(chip: Chip, byte: u8) -> bool
+    requires { ⌜ inRange 160 4 (chip .registers) ≡ true ⌝ }
+    ensures { λ r. ⌜ r ≡ chipAcknowledges 160 4 byte chip ⌝ }
+{
+    let registers = chip.registers;
+    let last = 160 * registers.a + registers.p + 7 / command::backplanes(registers);
+    least(4, last / 160) == chip.subaddress as usize
+}
+
+// Whether the chip acknowledges a byte.
+pub fn acknowledges(chip: Chip, expect: Expect, byte: u8) -> bool
+    requires { ⌜ inRange 160 4 (chip .registers) ≡ true ⌝ }
+    ensures { λ r. ⌜ r ≡ chipAcknowledged 160 4 expect byte chip ⌝ }
+{
+    match expect {
+        Expect::Control => true,
+        Expect::OneCommand => true,
+        Expect::Commands => true,
+        Expect::OneData => acknowledges_data(chip, byte),
+        Expect::Run => acknowledges_data(chip, byte),
+    }
+}
+
+// Whether an address byte is the chip's.
+pub fn hears(chip: Chip, address: u8) -> bool
+    ensures { λ r. ⌜ r ≡ hears address chip ⌝ }
+{
+    address as usize == 112 + 2 * (chip.sa0 as usize)
+}
+
+// Whether no column is over 15.
+fn columns_fit(columns: [u8; 160]) -> bool
+    ensures { λ r. ⌜ r ≡ passed (overIn 0 columns) ⌝ }
+{
+    match checks::first_over(&columns) {
+        Check::Passed => true,
+        Check::Refused(_) => false,
+    }
+}
+
+// Whether every field and column of the chip is in range.
+pub fn fits(chip: Chip) -> bool
+    ensures { λ r. ⌜ r ≡ chipFits 160 4 chip ⌝ }
+{
+    let columns = chip.columns;
+    (chip.sa0 < 2)
+        & ((chip.subaddress < 4) & (command::in_range(chip.registers) & columns_fit(columns)))
+}
+
+// Power-on. Taken or refused, the registers become the power-on ones and the rest stays.
+pub fn power_on(mut chip: Chip) -> ChipPowerOn
+    ensures { λ r. ⌜ r ≡ chipPowerOn 160 4 chip ⌝ }
+{
+    let columns = chip.columns;
+    let fits = (chip.sa0 < 2) & ((chip.subaddress < 4) & columns_fit(columns));
+    chip.registers = command::power_on();
+    ChipPowerOn {
+        check: checks::unless(fits, Refusal::ChipField(0)),
+        chip,
+    }
+}
+
+// Whether a picture of the chip into a buffer of this size is refused.
+fn check_picture(chip: Chip, phase: u8, size: usize) -> Check
+    ensures { λ r. ⌜ r ≡ checkChipPicture 160 4 chip phase size ⌝ }
+{
+    let fit = checks::unless(fits(chip), Refusal::ChipField(0));
+    let shown = checks::unless(phase < 2, Refusal::GroupOrPhase);
+    let room = checks::unless(size == 160, Refusal::PictureLength);
+    checks::or_else(fit, checks::or_else(shown, room))
+}
+
+// The picture of the chip alone, and its lit elements.
+pub fn picture(chip: Chip, phase: u8, out: &mut [u8]) -> Pictured
+    ensures { λ r. ⌜ r ≡ chipPictureCall 160 4 chip phase (now (out .entry)) .result ⌝ }
+    ensures { λ _. ⌜ now (out .exit) ≡ chipPictureCall 160 4 chip phase (now (out .entry)) .out ⌝ }
+{
+    match check_picture(chip, phase, out.len()) {
+        Check::Refused(refusal) => Pictured::Refused(refusal),
+        Check::Passed => {
+            let columns = chip.columns;
+            Pictured::Lit(picture::show(&columns, chip.registers, phase, out))
+        }
+    }
+}

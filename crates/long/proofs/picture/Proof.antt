@@ -1,0 +1,100 @@
+-- `long::picture` meets its contract: refused, or the group's part shown.
+-- Assumes nothing.
+use mathlib.Core.Path.{_≡_, refl, sym, ap, ap₂, _∙_}
+use mathlib.Core.List.{List}
+use Prim.Native.Nat.{ℕ, _-_, _*_}
+use native.Mathlib.Omega.{arith}
+use lib.ListN.{length, take, drop}
+use denote.Ref.{now}
+use Rattle.sheet.specs.declared.Registers.{Registers}
+use Rattle.sheet.specs.declared.Check.the-variants.{Passed}
+use Rattle.sheet.specs.declared.Pictured.{Pictured}
+use Rattle.sheet.specs.Checks.{chipsIn, checkPicture}
+use Rattle.sheet.specs.Pictures.{pictureOf, litIn}
+use Rattle.sheet.specs.Long.{partOf, pictureCall}
+use Rattle.laws.proofs.Ranges.{in-range}
+use Rattle.laws.proofs.Fits.{Fits, fits-of}
+use Rattle.long.proofs.Parts.{picture-passed, part-in, part-ends, part-few, part-long, part-taken}
+use borrow.Author.Needs.{needs}
+use Rattle.long.proofs.picture.Statement.{statement}
+use Rattle.long.proofs.picture.Tie as tie
+
+-- past the match the check has passed
+passes : (c : tie.After-enum-told) → let a = c .before .before .before .before .before .args in checkPicture 160 4 (a .chips) (a .registers) (now (a .ram)) (a .group) (a .phase) (length (now (a .out))) ≡ Passed
+passes c = sym (c .before .before .check-picture .ensures) ∙ c .enum-told .given .1
+
+-- so the state fits, and the buffer is as long as the group's part
+fitting : (c : tie.After-enum-told) → let a = c .before .before .before .before .before .args in Fits 160 4 (a .chips) (a .registers) (now (a .ram))
+fitting c = let a = c .before .before .before .before .before .args in fits-of 160 4 (a .chips) (a .registers) (now (a .ram)) (picture-passed (a .chips) (a .registers) (now (a .ram)) (a .group) (a .phase) (length (now (a .out))) (passes c) .0)
+
+sized : (c : tie.After-enum-told) → let a = c .before .before .before .before .before .args in length (now (a .out)) ≡ 160 * chipsIn (a .group) (a .chips)
+sized c = let a = c .before .before .before .before .before .args in picture-passed (a .chips) (a .registers) (now (a .ram)) (a .group) (a .phase) (length (now (a .out))) (passes c) .1
+
+-- and the part is the group's
+part : (c : tie.After-end-of) → let a = c .before .before .before .before .before .before .before .args in take (c .end-of .result - c .before .start-of .result) (drop (c .before .start-of .result) (now (a .ram))) ≡ partOf 160 (a .chips) (a .group) (now (a .ram))
+part c = let a = c .before .before .before .before .before .before .before .args in part-taken (a .chips) (a .registers) (now (a .ram)) (a .group) (fitting (c .before .before)) (c .before .start-of .result) (c .end-of .result) (c .before .start-of .ensures) (c .end-of .ensures)
+
+check-picture-requires : tie.Need-check-picture-requires
+check-picture-requires c κs = search needs
+
+enum-known-refusal : tie.Need-enum-known-refusal
+enum-known-refusal c = search needs
+
+enum-told : tie.Need-enum-told
+enum-told c = search needs
+
+start-of-requires : tie.Need-start-of-requires
+start-of-requires c κs = search needs
+
+end-of-requires : tie.Need-end-of-requires
+end-of-requires c κs = search needs
+
+registers-of-requires : tie.Need-registers-of-requires
+registers-of-requires c κs = search needs
+
+sub-show : tie.Need-sub-show
+sub-show c = search needs
+
+part-show-start : tie.Need-part-show-start
+part-show-start c = search needs
+
+part-show-end : tie.Need-part-show-end
+part-show-end c = let a = c .before .before .before .before .before .before .before .before .args in
+    omega (arith, c .before .end-of .ensures, part-ends (a .chips) (a .registers) (now (a .ram)) (a .group) (fitting (c .before .before .before)))
+
+show-requires : tie.Need-show-requires
+show-requires c κs = let a = c .before .before .before .before .before .before .before .before .before .before .args in
+    let f = fitting (c .before .before .before .before .before) in
+    let size = sized (c .before .before .before .before .before) in
+    (size ∙ sym (ap length (part (c .before .before .before)) ∙ part-long (a .chips) (a .registers) (now (a .ram)) (a .group) f), omega (arith, size, part-few (a .chips) (a .registers) (now (a .ram)) (a .group) f), rw (c .before .before .registers-of .ensures) (in-range 160 4 _ (part-in (a .chips) (a .registers) (now (a .ram)) (a .group) f)))
+
+returns : tie.Need-returns
+unfolding pictureCall
+returns c = rw (sym (c .before .before .before .check-picture .ensures) ∙ c .before .refusal .given .1) (refl, refl)
+
+same-length : tie.Need-same-length
+same-length c = search needs
+
+returns-2 : tie.Need-returns-2
+unfolding pictureCall
+returns-2 c = let a = c .before .before .before .before .before .before .before .before .before .before .before .before .before .args in
+    let same = ap₂ (λ (r : Registers) (l : List ℕ). pictureOf r (a .phase) l) (c .before .before .before .before .before .registers-of .ensures) (part (c .before .before .before .before .before .before)) in
+    rw (passes (c .before .before .before .before .before .before .before .before)) (c .before .before .show .ensures .0 ∙ same, ap (λ (n : ℕ). Pictured.Lit n) (c .before .before .show .ensures .1 ∙ ap litIn same))
+
+pub picture-spec : {M : Type 1} → statement M
+picture-spec =
+    tie.close
+    (tie.spec
+    check-picture-requires
+    enum-known-refusal
+    enum-told
+    start-of-requires
+    end-of-requires
+    registers-of-requires
+    sub-show
+    part-show-start
+    part-show-end
+    show-requires
+    returns
+    same-length
+    returns-2)

@@ -1,0 +1,96 @@
+-- `long::transfer` meets its contract: refused, delivered to a group, or heard by nobody.
+-- Assumes nothing.
+use mathlib.Core.Path.{sym, ap, _∙_}
+use denote.Ref.{now}
+use lib.ListN.{getD}
+use Rattle.sheet.specs.declared.Addressed.{Addressed}
+use Rattle.sheet.specs.declared.Check.{Check}
+use Rattle.sheet.specs.Protocol.{heardBy}
+use Rattle.sheet.specs.Long.{After, taken, answered, transferCall}
+use Rattle.long.proofs.Parts.{transfer-passed}
+use borrow.Author.Needs.{needs}
+use Rattle.long.proofs.transfer.Statement.{statement}
+use Rattle.long.proofs.transfer.Tie as tie
+
+check-transfer-requires : tie.Need-check-transfer-requires
+check-transfer-requires c κs = search needs
+
+enum-known-refusal : tie.Need-enum-known-refusal
+enum-known-refusal c = search needs
+
+enum-told : tie.Need-enum-told
+enum-told c = search needs
+
+address-of-requires : tie.Need-address-of-requires
+address-of-requires c κs = search needs
+
+heard-by-requires : tie.Need-heard-by-requires
+heard-by-requires c κs = search needs
+
+enum-known-group : tie.Need-enum-known-group
+enum-known-group c = search needs
+
+deliver-requires : tie.Need-deliver-requires
+deliver-requires c κs = let a = c .before .before .before .before .before .before .before .before .before .before .before .before .args in
+    let p = transfer-passed (a .chips) (a .registers) (now (a .ram)) (now (a .bytes)) (sym (c .before .before .before .before .before .before .before .before .check-transfer .ensures) ∙ c .before .before .before .before .before .before .enum-told .given .1) in
+    (p .0, p .1 .0, p .1 .1)
+
+enum-told-2 : tie.Need-enum-told-2
+enum-told-2 c = search needs
+
+unheard-requires : tie.Need-unheard-requires
+unheard-requires c κs = search needs
+
+same-length : tie.Need-same-length
+same-length c = search needs
+
+returns : tie.Need-returns
+unfolding transferCall
+returns c = let a = c .before .before .before .before .before .before .before .args in
+    let told = sym (c .before .before .before .check-transfer .ensures) ∙ c .before .refusal .given .1 in
+    let e = ap (λ (k : Check). answered k (a .registers) (now (a .ram)) (taken 160 4 (a .chips) (a .registers) (now (a .ram)) (now (a .bytes)) (heardBy (a .chips) (getD (now (a .bytes)) 0 0)))) told in
+    (sym (ap (λ (t : After). t .ram) e), sym (ap (λ (t : After). t .result) e))
+
+same-length-2 : tie.Need-same-length-2
+same-length-2 c = search needs
+
+returns-2 : tie.Need-returns-2
+unfolding transferCall
+returns-2 c = let a = c .before .before .before .before .before .before .before .before .before .before .before .before .before .before .before .args in
+    let told = sym (c .before .before .before .before .before .before .before .before .before .before .before .check-transfer .ensures) ∙ c .before .before .before .before .before .before .before .before .before .enum-told .given .1 in
+    let heard = sym (c .before .before .before .before .before .before .before .heard-by .ensures ∙ ap (heardBy (a .chips)) (c .before .before .before .before .before .before .before .before .address-of .ensures)) ∙ c .before .before .before .before .before .group .given .1 in
+    let e = ap (λ (k : Check). answered k (a .registers) (now (a .ram)) (taken 160 4 (a .chips) (a .registers) (now (a .ram)) (now (a .bytes)) (heardBy (a .chips) (getD (now (a .bytes)) 0 0)))) told
+    ∙ ap (λ (k : Addressed). taken 160 4 (a .chips) (a .registers) (now (a .ram)) (now (a .bytes)) k) heard in
+    (c .before .before .deliver .ensures .0 ∙ sym (ap (λ (t : After). t .ram) e), c .before .before .deliver .ensures .1 ∙ sym (ap (λ (t : After). t .result) e))
+
+same-length-3 : tie.Need-same-length-3
+same-length-3 c = search needs
+
+returns-3 : tie.Need-returns-3
+unfolding transferCall
+returns-3 c = let a = c .before .before .before .before .before .before .before .before .before .before .before .args in
+    let told = sym (c .before .before .before .before .before .before .before .check-transfer .ensures) ∙ c .before .before .before .before .before .enum-told .given .1 in
+    let heard = sym (c .before .before .before .heard-by .ensures ∙ ap (heardBy (a .chips)) (c .before .before .before .before .address-of .ensures)) ∙ c .before .enum-told2 .given .1 in
+    let e = ap (λ (k : Check). answered k (a .registers) (now (a .ram)) (taken 160 4 (a .chips) (a .registers) (now (a .ram)) (now (a .bytes)) (heardBy (a .chips) (getD (now (a .bytes)) 0 0)))) told
+    ∙ ap (λ (k : Addressed). taken 160 4 (a .chips) (a .registers) (now (a .ram)) (now (a .bytes)) k) heard in
+    (sym (ap (λ (t : After). t .ram) e), c .unheard .ensures ∙ sym (ap (λ (t : After). t .result) e))
+
+pub transfer-spec : {M : Type 1} → statement M
+transfer-spec =
+    tie.close
+    (tie.spec
+    check-transfer-requires
+    enum-known-refusal
+    enum-told
+    address-of-requires
+    heard-by-requires
+    enum-known-group
+    deliver-requires
+    enum-told-2
+    unheard-requires
+    same-length
+    returns
+    same-length-2
+    returns-2
+    same-length-3
+    returns-3)

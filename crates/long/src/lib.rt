@@ -1,0 +1,239 @@
+// THE LONG ACCOUNT: one register set a group and one long RAM. Every input gets an answer; a refused call changes nothing.
+use sheet::Addressed;
+use sheet::Answer;
+use sheet::Both;
+use sheet::Check;
+use sheet::Chips;
+use sheet::Counts;
+use sheet::Pictured;
+use sheet::PowerOn;
+use sheet::Refusal;
+use sheet::Registers;
+use sheet::Transferred;
+ghost use mathlib.Core.Path.{_≡_};
+ghost use Prim.Native.Nat.{_*_, _<_, _≤_};
+ghost use lib.ListN.{length, getD};
+ghost use Rattle.sheet.specs.Protocol.{heardBy};
+ghost use Rattle.sheet.specs.Checks.{orElse, unless, chipsIn, checkChips, checkRegisters, checkRam, checkLength, checkCommands, checkState, checkTransfer, checkPicture};
+ghost use Rattle.sheet.specs.Long.{nothing, registersOf, replaced, startOf, endOf, taken, powerOnCall, transferCall, pictureCall};
+
+// ---- the checks, in the order of their numbers in each call
+
+fn check_chips(chips: Chips) -> Check
+    ensures { λ r. ⌜ r ≡ checkChips 4 chips ⌝ }
+{
+    checks::unless((chips.zero <= 4) & (chips.one <= 4), Refusal::ChipCount)
+}
+
+fn check_registers(registers: Both) -> Check
+    ensures { λ r. ⌜ r ≡ checkRegisters 160 4 registers ⌝ }
+{
+    let zero = registers.zero;
+    let one = registers.one;
+    checks::unless(
+        command::in_range(zero) & command::in_range(one),
+        Refusal::Register,
+    )
+}
+
+fn check_ram(chips: Chips, ram: &[u8]) -> Check
+    ensures { λ r. ⌜ r ≡ checkRam 160 chips (now (ram .entry)) ⌝ }
+{
+    let size = 160 * (chips.zero as usize + chips.one as usize);
+    let length = checks::unless(ram.len() == size, Refusal::RamLength);
+    let over = checks::first_over(ram);
+    checks::or_else(length, over)
+}
+
+fn check_state(chips: Chips, registers: Both, ram: &[u8]) -> Check
+    ensures { λ r. ⌜ r ≡ checkState 160 4 chips registers (now (ram .entry)) ⌝ }
+{
+    let counts = check_chips(chips);
+    let ranges = check_registers(registers);
+    let columns = check_ram(chips, ram);
+    checks::or_else(counts, checks::or_else(ranges, columns))
+}
+
+// The group that hears an address byte.
+fn heard_by(chips: Chips, address: u8) -> Addressed
+    ensures { λ r. ⌜ r ≡ heardBy chips address ⌝ }
+{
+    if (address == 112) & (0 < chips.zero) {
+        return Addressed::To(0);
+    }
+    if (address == 114) & (0 < chips.one) {
+        return Addressed::To(1);
+    }
+    Addressed::Nobody
+}
+
+// Byte 0; an empty transfer has none, and 0 is nobody's address.
+fn address_of(bytes: &[u8]) -> u8
+    ensures { λ r. ⌜ r ≡ getD (now (bytes .entry)) 0 0 ⌝ }
+{
+    if 0 < bytes.len() { bytes[0] } else { 0 }
+}
+
+fn check_commands(chips: Chips, bytes: &[u8]) -> Check
+    ensures { λ r. ⌜ r ≡ checkCommands (heardBy chips (getD (now (bytes .entry)) 0 0)) (now (bytes .entry)) ⌝ }
+{
+    match heard_by(chips, address_of(bytes)) {
+        Addressed::To(_) => protocol::first_undefined(bytes),
+        Addressed::Nobody => Check::Passed,
+    }
+}
+
+fn check_transfer(chips: Chips, registers: Both, ram: &[u8], bytes: &[u8]) -> Check
+    ensures { λ r. ⌜ r ≡ checkTransfer 160 4 chips registers (now (ram .entry)) (now (bytes .entry)) ⌝ }
+{
+    let state = check_state(chips, registers, ram);
+    let length = checks::check_length(bytes.len());
+    let commands = check_commands(chips, bytes);
+    checks::or_else(state, checks::or_else(length, commands))
+}
+
+fn chips_in(group: u8, chips: Chips) -> u8
+    ensures { λ r. ⌜ r ≡ chipsIn group chips ⌝ }
+{
+    if group == 0 { chips.zero } else { chips.one }
+}
+
+fn check_picture(
+    chips: Chips,
+    registers: Both,
+    ram: &[u8],
+    group: u8,
+    phase: u8,
+    size: usize,
+) -> Check
+    ensures { λ r. ⌜ r ≡ checkPicture 160 4 chips registers (now (ram .entry)) group phase size ⌝ }
+{
+    let wanted = 160 * (chips_in(group, chips) as usize);
+    let state = check_state(chips, registers, ram);
+    let numbers = checks::unless((group < 2) & (phase < 2), Refusal::GroupOrPhase);
+    let length = checks::unless(size == wanted, Refusal::PictureLength);
+    checks::or_else(state, checks::or_else(numbers, length))
+}
+
+// ---- a group's registers and part of the RAM
+
+fn registers_of(group: u8, registers: Both) -> Registers
+    ensures { λ r. ⌜ r ≡ registersOf group registers ⌝ }
+{
+    let zero = registers.zero;
+    let one = registers.one;
+    if group == 0 { zero } else { one }
+}
+
+fn replaced(group: u8, after: Registers, registers: Both) -> Both
+    ensures { λ r. ⌜ r ≡ replaced group after registers ⌝ }
+{
+    let zero = registers.zero;
+    let one = registers.one;
+    if group == 0 {
+        Both { zero: after, one }
+    } else {
+        Both { zero, one: after }
+    }
+}
+
+fn start_of(chips: Chips, group: u8) -> usize
+    ensures { λ r. ⌜ r ≡ startOf 160 chips group ⌝ }
+{
+    if group == 0 {
+        0
+    } else {
+        160 * (chips.zero as usize)
+    }
+}
+
+fn end_of(chips: Chips, group: u8) -> usize
+    ensures { λ r. ⌜ r ≡ endOf 160 chips group ⌝ }
+{
+    start_of(chips, group) + 160 * (chips_in(group, chips) as usize)
+}
+
+// ---- the calls
+
+pub fn power_on(chips: Chips, ram: &[u8]) -> PowerOn
+    ensures { λ r. ⌜ r ≡ powerOnCall 160 4 chips (now (ram .entry)) ⌝ }
+{
+    let counts = check_chips(chips);
+    let columns = check_ram(chips, ram);
+    let check = checks::or_else(counts, columns);
+    let registers = Both {
+        zero: command::power_on(),
+        one: command::power_on(),
+    };
+    PowerOn { check, registers }
+}
+
+// A transfer that passed its checks, at the group that hears it.
+fn deliver(chips: Chips, registers: Both, ram: &mut [u8], bytes: &[u8], group: u8) -> Transferred
+    requires { ⌜ (checkState 160 4 chips registers (now ram) ≡ Check.Passed) × (0 < length (now bytes)) × (length (now bytes) < 4097) ⌝ }
+    ensures { λ _. ⌜ now (ram .exit) ≡ taken 160 4 chips registers (now (ram .entry)) (now (bytes .entry)) (Addressed.To group) .ram ⌝ }
+    ensures { λ r. ⌜ r ≡ taken 160 4 chips registers (now (ram .entry)) (now (bytes .entry)) (Addressed.To group) .result ⌝ }
+{
+    let start = start_of(chips, group);
+    let end = end_of(chips, group);
+    let before = registers_of(group, registers);
+    let heard = protocol::hear(&mut ram[start..end], before, bytes);
+    let after = heard.registers;
+    let counts = heard.counts;
+    Transferred {
+        answer: Answer::Taken(counts),
+        registers: replaced(group, after, registers),
+    }
+}
+
+// A transfer that nobody hears.
+fn unheard(registers: Both) -> Transferred
+    ensures { λ r. ⌜ r ≡ record { answer = Answer.Taken nothing; registers = registers } ⌝ }
+{
+    Transferred {
+        answer: Answer::Taken(Counts {
+            acknowledged: 0,
+            stored: 0,
+            discarded: 0,
+        }),
+        registers,
+    }
+}
+
+pub fn transfer(chips: Chips, registers: Both, ram: &mut [u8], bytes: &[u8]) -> Transferred
+    ensures { λ _. ⌜ now (ram .exit) ≡ transferCall 160 4 chips registers (now (ram .entry)) (now (bytes .entry)) .ram ⌝ }
+    ensures { λ r. ⌜ r ≡ transferCall 160 4 chips registers (now (ram .entry)) (now (bytes .entry)) .result ⌝ }
+{
+    match check_transfer(chips, registers, ram, bytes) {
+        Check::Refused(refusal) => Transferred {
+            answer: Answer::Refused(refusal),
+            registers,
+        },
+        Check::Passed => match heard_by(chips, address_of(bytes)) {
+            Addressed::To(group) => deliver(chips, registers, ram, bytes, group),
+            Addressed::Nobody => unheard(registers),
+        },
+    }
+}
+
+pub fn picture(
+    chips: Chips,
+    registers: Both,
+    ram: &[u8],
+    group: u8,
+    phase: u8,
+    out: &mut [u8],
+) -> Pictured
+    ensures { λ _. ⌜ now (out .exit) ≡ pictureCall 160 4 chips registers (now (ram .entry)) group phase (now (out .entry)) .out ⌝ }
+    ensures { λ r. ⌜ r ≡ pictureCall 160 4 chips registers (now (ram .entry)) group phase (now (out .entry)) .result ⌝ }
+{
+    match check_picture(chips, registers, ram, group, phase, out.len()) {
+        Check::Refused(refusal) => Pictured::Refused(refusal),
+        Check::Passed => {
+            let start = start_of(chips, group);
+            let end = end_of(chips, group);
+            let shown = registers_of(group, registers);
+            Pictured::Lit(picture::show(&ram[start..end], shown, phase, out))
+        }
+    }
+}

@@ -1,0 +1,44 @@
+-- The worked log of paper 01, "Bus logs", and its text, computed of the definitions.
+use Prim.Native.Nat.{ℕ}
+use mathlib.Core.Bool.{Bool}
+use mathlib.Core.List.{List, [], _∷_, _++_}
+use lib.Dec.{T}
+use Rattle.sheet.specs.Commands.{within, commandOf, inRange, backplanes, bankRow}
+use Rattle.sheet.specs.Places.{position, atPosition}
+use Rattle.sheet.specs.Data.{putBits, changed, withRow, storedBits, counted}
+use Rattle.sheet.specs.Protocol.{heardBy, controlOf, undefinedIn}
+use Rattle.sheet.specs.Checks.{checkChips, checkRegisters, overIn, checkRam, checkLength, checkState, checkTransfer}
+use Rattle.sheet.specs.Pictures.{shown, pictureOf, litIn}
+use Rattle.sheet.specs.Long.{heard, dataByte, transferCall}
+use Rattle.sheet.specs.Logs.{recordsIn, cutIn, checkLog, digitsIn, decimal, spaced, transferLines, columnLines, replayed, textOf}
+use Rattle.sheet.specs.Starred.{same}
+use lib.Count.{ones, onesIn}
+
+abbrev pub workedLog : List ℕ
+workedLog =
+    0x01 ∷ 0x02 ∷ 0x00
+    ∷ 0x00 ∷ 0x09 ∷ 0x70 ∷ 0x80 ∷ 0xC8 ∷ 0x80 ∷ 0x09 ∷ 0x80 ∷ 0x4F ∷ 0x40 ∷ 0xA5
+    ∷ 0x00 ∷ 0x03 ∷ 0x70 ∷ 0x00 ∷ 0xFC
+    ∷ 0x00 ∷ 0x01 ∷ 0x50 ∷ []
+
+-- a digit's character, a space, an end of line
+abbrev pub workedText : List ℕ
+workedText =
+    -- T 0 0 0 9 8 0
+    84 ∷ 32 ∷ 48 ∷ 32 ∷ 48 ∷ 32 ∷ 48 ∷ 32 ∷ 57 ∷ 32 ∷ 56 ∷ 32 ∷ 48 ∷ 10
+    -- T 1 7 2 0 0 0
+    ∷ 84 ∷ 32 ∷ 49 ∷ 32 ∷ 55 ∷ 32 ∷ 50 ∷ 32 ∷ 48 ∷ 32 ∷ 48 ∷ 32 ∷ 48 ∷ 10
+    -- T 2 0 0 0 0 0
+    ∷ 84 ∷ 32 ∷ 50 ∷ 32 ∷ 48 ∷ 32 ∷ 48 ∷ 32 ∷ 48 ∷ 32 ∷ 48 ∷ 32 ∷ 48 ∷ 10
+    -- S 0 159 5
+    ∷ 83 ∷ 32 ∷ 48 ∷ 32 ∷ 49 ∷ 53 ∷ 57 ∷ 32 ∷ 53 ∷ 10
+    -- S 0 160 10
+    ∷ 83 ∷ 32 ∷ 48 ∷ 32 ∷ 49 ∷ 54 ∷ 48 ∷ 32 ∷ 49 ∷ 48 ∷ 10
+    -- G 0 4
+    ∷ 71 ∷ 32 ∷ 48 ∷ 32 ∷ 52 ∷ 10
+    -- G 1 0
+    ∷ 71 ∷ 32 ∷ 49 ∷ 32 ∷ 48 ∷ 10 ∷ []
+
+pub worked : T (same (textOf workedLog) workedText)
+unfolding textOf recordsIn cutIn checkLog digitsIn decimal spaced transferLines columnLines replayed transferCall checkTransfer checkState checkChips checkRegisters checkRam checkLength overIn undefinedIn heardBy heard dataByte controlOf commandOf within inRange backplanes bankRow position atPosition putBits changed withRow storedBits counted shown pictureOf litIn ones onesIn
+worked = tt
