@@ -1,0 +1,97 @@
+// THE PLAIN ACCOUNT: a lent list of at most eight chips, each of which follows every byte by itself. Every input gets an answer; a refused call changes nothing.
+// What is decided and done is decided and done by value. The functions over the list only go along it, and are proved by hand.
+use sheet::Check;
+use sheet::Chip;
+use sheet::Expect;
+use sheet::PlainAnswer;
+use sheet::Refusal;
+ghost use mathlib.Core.Path.{_≡_};
+ghost use mathlib.Core.Bool.{cond, _&&_};
+ghost use mathlib.Core.List.{map};
+ghost use Prim.Native.Nat.{_≤_, _<_};
+ghost use lib.ListN.{length, getD};
+ghost use Rattle.sheet.specs.Plain.{plainCall};
+ghost use Rattle.plain.specs.Asking.{takesPart, yes, taken, firstYes};
+
+// ---- one chip, by value
+
+// A byte after the address: to whom it goes, what it is, and its value.
+pub struct BusByte {
+    pub address: u8,
+    pub expect: Expect,
+    pub byte: u8,
+}
+
+// What a chip is asked.
+pub enum Question {
+    Misfit,
+    Hears(u8),
+    Acknowledges(BusByte),
+}
+
+// Whether a chip takes part in a byte. One with a register out of range never does; a transfer in which there is one is refused before.
+fn takes_part(chip: Chip, heard: BusByte) -> bool
+    ensures { λ r. ⌜ r ≡ takesPart heard chip ⌝ }
+{
+    chip::hears(chip, heard.address) & command::in_range(chip.registers)
+}
+
+fn acknowledges(chip: Chip, heard: BusByte) -> bool
+    ensures { λ r. ⌜ r ≡ yes (Question.Acknowledges heard) chip ⌝ }
+{
+    let expect = heard.expect;
+    if takes_part(chip, heard) {
+        chip::acknowledges(chip, expect, heard.byte)
+    } else {
+        false
+    }
+}
+
+fn says_yes(chip: Chip, question: Question) -> bool
+    ensures { λ r. ⌜ r ≡ yes question chip ⌝ }
+{
+    match question {
+        Question::Misfit => !chip::fits(chip),
+        Question::Hears(address) => chip::hears(chip, address),
+        Question::Acknowledges(heard) => acknowledges(chip, heard),
+    }
+}
+
+// The chip after a byte: as it was, if it takes no part.
+fn take(chip: Chip, heard: BusByte) -> Chip
+    ensures { λ r. ⌜ r ≡ taken heard chip ⌝ }
+{
+    let expect = heard.expect;
+    if takes_part(chip, heard) {
+        chip::step(chip, expect, heard.byte)
+    } else {
+        chip
+    }
+}
+
+// ---- the list
+
+// The place of the first chip that says yes, or the count.
+fn first(chips: &[Chip], question: Question) -> usize
+    ensures { λ r. ⌜ r ≡ firstYes (yes question) (now (chips .entry)) ⌝ }
+{
+    let mut i = 0;
+    while i < chips.len() {
+        if says_yes(chips[i], question) {
+            return i;
+        }
+        i += 1;
+    }
+    i
+}
+
+// Every chip takes the byte.
+fn take_all(chips: &mut [Chip], heard: BusByte)
+    ensures { λ _. ⌜ now (chips .exit) ≡ map (taken heard) (now (chips .entry)) ⌝ }
+{
+    let mut i = 0;
+    while i < chips.len() {
+        chips[i] = take(chips[i], heard);
+        i += 1;
+    }
+}
