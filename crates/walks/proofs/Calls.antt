@@ -73,7 +73,7 @@ module _ {M : Type 1} {𝓤 : URA M} {H : Heap 𝓤} {A : Atoms 𝓤} {K : Type 
     pub calls : (x : Bound 𝓤 H A (g .signature)) (gh : cl (x .0) (x .3) .ghost) → ent 𝓤 (emp 𝓤) (cl (x .0) (x .3) .requires gh)
         → Opds K W (frame E σ ∷ (raw (alive 𝓤 H A (g .signature) (x .0) (x .1)) ⊛ ‵ (owns (typesAt (g .signature .params) (x .0)) (x .3) (x .4))) ∷ Γ) E xs (passed 𝓤 H A (g .signature) x)
         → (D : Data (typeAt (g .signature .result) (x .0))) → Within E σ d → spotOf 𝓤 H E d .0 ≡ D .ty
-        → (φ : Res (g .signature) (x .0) → Lasts g (x .0) (x .3) → Type 0) → ((r : Res (g .signature) (x .0)) (ws : Lasts g (x .0) (x .3)) → cl (x .0) (x .3) .ensures gh r (atExit g (x .0) (x .3) ws) ≡ fact 𝓤 (φ r ws))
+        → (φ : Res (g .signature) (x .0) → Lasts g (x .0) (x .3) → Type 0) → ((r : Res (g .signature) (x .0)) (ws : Lasts g (x .0) (x .3)) → ent 𝓤 (cl (x .0) (x .3) .ensures gh r (atExit g (x .0) (x .3) ws)) (fact 𝓤 (φ r ws)))
         → (y : Res (g .signature) (x .0)) → ((r : Res (g .signature) (x .0)) (ws : Lasts g (x .0) (x .3)) → φ r ws → r ≡ y)
         → ((ws : Lasts g (x .0) (x .3)) → φ y ws → Is (typeAt (g .signature .result) (x .0)) y (D .val y ∷ [])
         → Seq K W (frame E (stored σ d (D .val y)) ∷ raw (alive 𝓤 H A (g .signature) (x .0) (x .1)) ∷ ‵ (lasts g (x .0) (x .3) ws) ∷ Γ) (goes (𝓣 .C) (𝓣 .Λ) E q u))
@@ -87,7 +87,7 @@ module _ {M : Type 1} {𝓤 : URA M} {H : Heap 𝓤} {A : Atoms 𝓤} {K : Type 
         ⊛ some (λ (ws : Ws). ‵ (lasts g (x .0) (x .3) ws) ⊛ raw (cl (x .0) (x .3) .ensures gh r (atExit g (x .0) (x .3) ws)))))) (id⊢ 𝓤 _) $
         await t (soaks (𝓣 .C) (𝓣 .Λ) E q (place d []) w u) $ pick t (λ r. split t $ move t (1 ∷ []) $ pick t (λ ws. split t $ move t (1 ∷ []) $
         -- [the ensures; the last values; the tokens and the result; the frame]
-        rewrite t 0 (λ (P : SProp 𝓤). raw P) (says r ws) refl $ heard t (φ r ws) (λ e. move t (1 ∷ []) $ split t $ move t (1 ∷ []) $
+        use1 W (raw (fact 𝓤 (φ r ws))) (says r ws) $ heard t (φ r ws) (λ e. move t (1 ∷ []) $ split t $ move t (1 ∷ []) $
         rewrite t 0 (λ (z : R′). ‵ (typeAt (g .signature .result) (x .0) .own z (w ∷ []))) (told r ws e) refl $
         peeks t (typeAt (g .signature .result) (x .0)) (Is (typeAt (g .signature .result) (x .0))) (shows 𝓤 H A (typeAt (g .signature .result) (x .0))) y (w ∷ []) (λ is. drop t $ move t (2 ∷ []) $
         lands-in 𝓣 E q t u d (stores t d in-it (typed-at w is)) $ rewrite t 0 (λ (v : Val). frame E (stored σ d v)) (ap only (D .tells y _ is)) refl $

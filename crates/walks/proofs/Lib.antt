@@ -6,3 +6,4 @@ pub mod Loops
 pub mod Calls
 pub mod Callees
 pub mod Proved
+pub mod Firsts

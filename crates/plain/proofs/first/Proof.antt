@@ -90,7 +90,7 @@ module _ {M : Type 1} (𝓤 : URA M) (H : Heap 𝓤) (A : Atoms 𝓤) (W : Given
         sets ! (bin ! (get ! refl) (lit ! tt) (record { fits = far })) tt (tt, record { fits = far }) $ sets ! (bin ! (field ! refl refl refl) (get ! refl) tt) tt (tt, tt) $
         reads-element T.the-type T′.the-laws ! s′ xs b o i blank small refl tt refl (λ is-c.
         calls-plain ! 6 𝓣 bool truth tt refl (yes q c) (then _) (plain (λ _. T.the-row) ∷ plain (λ _. TQ.the-row) ∷ []) (λ _. (chip, (question, tt))) (λ _. (c, (q, tt))) (λ _. (is-c, (is-q, tt))) (g.clauses 𝓤 H A mem run) known tt (id⊢ 𝓤 (emp 𝓤))
-        (λ Δ. and-then ! (get ! refl) (and-then ! (get ! refl) (no-more !))) (λ r ws. refl) (λ _.
+        (λ Δ. and-then ! (get ! refl) (and-then ! (get ! refl) (no-more !))) (λ r ws. id⊢ 𝓤 _) (λ _.
         tests ! (get ! refl)
         (λ said. sets ! (of-opd ! (get ! refl)) tt (tt, record { fits = fits }) $ move ! (1 ∷ 2 ∷ []) $ looked T.the-row ! tt s′ xs b o space $ move ! (1 ∷ []) $ leaves ! Kf (returned W 𝓣 loop i) refl $
         ends i (refl, fits) (found (yes q) xs i so blank small (is-true (yes q c) said)))
@@ -115,5 +115,5 @@ first-spec 𝓤 H 𝓜 𝓖 𝓡 =
     let 𝓣 = tablesOf 𝓤 H 𝓜 (tables 𝓤 H 𝓜 𝓡 code.env) in
     entered 𝓤 H (tripleOf 𝓤 H A f.signature (f.spec 𝓤 H A (𝓜 .mem) (𝓡 .run))) (𝓣 .C) (𝓣 .Λ) #plain·first code.function (code.unfolded 𝓤 H 𝓜 𝓡)
     (shared-meets 𝓤 H A W 𝓣 code.function usize (number w64) T.the-row (plain (λ _. TQ.the-row) ∷ []) (λ _. (question, tt)) (f.clauses 𝓤 H A (𝓜 .mem) (𝓡 .run)) (λ κs a. Unit {0}) (λ κs a r. r ≡ firstYes (yes (a .1 .0)) (a .0 .now))
-    (λ κs a gh. factI 𝓤 (Unit {0}) _ tt) (λ κs a gh r ws. refl)
+    (λ κs a gh. factI 𝓤 (Unit {0}) _ tt) (λ κs a gh r ws. id⊢ 𝓤 _)
     (walk 𝓤 H A W (𝓜 .mem) (𝓡 .run) 𝓣 (cited 𝓤 H (tripleOf 𝓤 H A g.signature (g.spec 𝓤 H A (𝓜 .mem) (𝓡 .run))) 𝓜 𝓡 code.env #plain·says-yes g-def.routine code.calls-plain·says-yes (g-thm.met 𝓤 H 𝓜 𝓖 𝓡))))
