@@ -1,2 +1,3 @@
 pub mod Searching
 pub mod Agreeing
+pub mod Following

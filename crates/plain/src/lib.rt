@@ -8,10 +8,12 @@ use sheet::Refusal;
 ghost use mathlib.Core.Path.{_≡_};
 ghost use mathlib.Core.Bool.{cond, _&&_};
 ghost use mathlib.Core.List.{map};
-ghost use Prim.Native.Nat.{_≤_, _<_};
+ghost use Prim.Native.Nat.{_+_, _≤_, _<_, _^_};
+ghost use lib.Dec.{ltb};
 ghost use lib.ListN.{length, getD};
 ghost use Rattle.sheet.specs.Plain.{plainCall};
 ghost use Rattle.plain.specs.Asking.{takesPart, yes, taken, firstYes};
+ghost use Rattle.plain.specs.Turns.{turnAfter, followed, Ready};
 
 // ---- one chip, by value
 
@@ -94,4 +96,66 @@ fn take_all(chips: &mut [Chip], heard: BusByte)
         chips[i] = take(chips[i], heard);
         i += 1;
     }
+}
+
+// ---- a transfer, byte by byte
+
+// The byte that comes next, its place, and the bytes acknowledged so far.
+pub struct Turn {
+    pub at: usize,
+    pub acknowledged: usize,
+    pub heard: BusByte,
+}
+
+// A byte of the transfer, and 0 past its end.
+fn byte_at(bytes: &[u8], i: usize) -> u8
+    ensures { λ r. ⌜ r ≡ getD (now (bytes .entry)) i 0 ⌝ }
+{
+    if i < bytes.len() { bytes[i] } else { 0 }
+}
+
+// A byte counts once however many chips acknowledge it: `found` is the place of the first, or the count.
+fn counted(acknowledged: usize, found: usize, count: usize) -> usize
+    requires { ⌜ acknowledged < 2 ^ 63 ⌝ }
+    ensures { λ r. ⌜ r ≡ acknowledged + cond (ltb found count) 1 0 ⌝ }
+{
+    if found < count {
+        acknowledged + 1
+    } else {
+        acknowledged
+    }
+}
+
+// The turn after this one.
+fn next(bytes: &[u8], turn: Turn, found: usize, count: usize) -> Turn
+    requires { ⌜ (turn .at < length (now bytes)) × (turn .acknowledged ≤ turn .at) ⌝ }
+    ensures { λ r. ⌜ r ≡ turnAfter (now (bytes .entry)) turn found count ⌝ }
+{
+    let heard = turn.heard;
+    let expect = heard.expect;
+    let at = turn.at + 1;
+    Turn {
+        at,
+        acknowledged: counted(turn.acknowledged, found, count),
+        heard: BusByte {
+            address: heard.address,
+            expect: protocol::follow(expect, heard.byte),
+            byte: byte_at(bytes, at),
+        },
+    }
+}
+
+// The chips follow the bytes from a turn on. How many are acknowledged in all.
+fn follow(chips: &mut [Chip], bytes: &[u8], start: Turn) -> usize
+    requires { ⌜ Ready (now chips) (now bytes) start ⌝ }
+    ensures { λ r. ⌜ r ≡ followed (now (chips .entry)) (now (bytes .entry)) start .acknowledged ⌝ }
+    ensures { λ _. ⌜ now (chips .exit) ≡ followed (now (chips .entry)) (now (bytes .entry)) start .chips ⌝ }
+{
+    let mut turn = start;
+    while turn.at < bytes.len() {
+        let found = first(chips, Question::Acknowledges(turn.heard));
+        take_all(chips, turn.heard);
+        turn = next(bytes, turn, found, chips.len());
+    }
+    turn.acknowledged
 }
