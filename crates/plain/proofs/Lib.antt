@@ -1,3 +1,4 @@
 pub mod Searching
 pub mod Agreeing
 pub mod Following
+pub mod Shapes

@@ -2,7 +2,7 @@
 --     calls-plain      data alone.        calls-showing    a `&[R]` of the row.        calls-lending    a `&mut [R]` of the row, which comes back as the callee says
 --     calls-passing    a `&[R]` that the walk itself was lent and passes on.        calls-lending-passing    both
 -- The operands are read in the frame, whatever else there is. y is the result, and what is said of it is said of local d. Assumes `Given`, and a `Tables`.
-use mathlib.Core.Path.{_≡_, refl}
+use mathlib.Core.Path.{_≡_, subst}
 use mathlib.Core.List.{List, [], _∷_}
 use Prim.Native.Nat.{ℕ, zero}
 use lib.ListN.{length}
@@ -107,39 +107,39 @@ module _ {M : Type 1} {𝓤 : URA M} {H : Heap 𝓤} {A : Atoms 𝓤} {K : Type 
         Own : Fml
         Own = ShrSlice (named 0) κ R .own (slice R b o γ ys) (slice-vals (slice R b o γ ys))
 
-    -- the row is lent at a lifetime that is made for the call, under a new name
-    module _ (room : Room R (length ys)) {rest : Body} where
+    -- the row is lent at a lifetime that is made for the call, under a new name. The slice's machine value has the count n, which is that of ys
+    module _ (room : Room R (length ys)) (n : ℕ) (e : n ≡ length ys) {rest : Body} where
       pub calls-showing : (cl : Clauses 𝓤 (of-shared R ps Q)) → Known 𝓤 H A 𝓣 (of-shared R ps Q) cl f
           → (gh : (κ : Lft) (γ : GName) → cl (κ, tt) (slice R b o γ ys, a (κ, tt)) .ghost) → ((κ : Lft) (γ : GName) → Met 𝓤 H A 𝓣 (of-shared R ps Q) cl (κ, tt) (slice R b o γ ys, a (κ, tt)) (gh κ γ))
-          → ((κ : Lft) → Read K W E σ xs (sliceVal (b, o) (length ys) ∷ flat (typesAt ps (κ, tt)) (vals-at 1 ps Ds a (κ, tt)))) → ((κ : Lft) (γ : GName) → Says 𝓤 H A 𝓣 (of-shared R ps Q) cl (κ, tt) (slice R b o γ ys, a (κ, tt)) (gh κ γ) (λ r ws. r ≡ y))
+          → ((κ : Lft) → Read K W E σ xs (sliceVal (b, o) n ∷ flat (typesAt ps (κ, tt)) (vals-at 1 ps Ds a (κ, tt)))) → ((κ : Lft) (γ : GName) → Says 𝓤 H A 𝓣 (of-shared R ps Q) cl (κ, tt) (slice R b o γ ys, a (κ, tt)) (gh κ γ) (λ r ws. r ≡ y))
           → (Is Q y (D .val y ∷ []) → Seq K W (frame E (stored σ d (D .val y)) ∷ ‵ (row R fullShare ys b o) ∷ Γ) (runs (𝓣 .C) (𝓣 .Λ) E rest q))
           → Seq K W (frame E σ ∷ ‵ (row R fullShare ys b o) ∷ Γ) (runs (𝓣 .C) (𝓣 .Λ) E (seq (call f xs (place d [])) rest) q)
       calls-showing cl known gh met os says k =
           move t (1 ∷ []) $ shows R t tt (named 0) ys b o room (λ α γ. one-token t (α ∷ []) fullShare $ adds-data 1 ps Ds a t are (α ∷ [], tt) $ move t (2 ∷ 0 ∷ []) $ fjoin t $ move t (3 ∷ 1 ∷ 0 ∷ []) $
-          calls t (then rest) d 𝓣 (of-shared R ps Q) cl known ((α ∷ [], tt), (fullShare, tt), tt, (slice R b o γ ys, a (α ∷ [], tt)), (sliceVal (b, o) (length ys) ∷ [], vals-at 1 ps Ds a (α ∷ [], tt))) (gh (α ∷ []) γ) (met (α ∷ []) γ) (os (α ∷ []) _) D in-it ty
-          (λ r ws. r ≡ y) (says (α ∷ []) γ) y (λ r ws e. e) (λ ws e is.
+          calls t (then rest) d 𝓣 (of-shared R ps Q) cl known ((α ∷ [], tt), (fullShare, tt), tt, (slice R b o γ ys, a (α ∷ [], tt)), (sliceVal (b, o) (length ys) ∷ [], vals-at 1 ps Ds a (α ∷ [], tt))) (gh (α ∷ []) γ) (met (α ∷ []) γ) (subst (λ (m : ℕ). Read K W E σ xs (sliceVal (b, o) m ∷ flat (typesAt ps (α ∷ [], tt)) (vals-at 1 ps Ds a (α ∷ [], tt)))) e (os (α ∷ [])) _) D in-it ty
+          (λ r ws. r ≡ y) (says (α ∷ []) γ) y (λ r ws e. e) (λ ws p is.
           -- [the frame; the token; nothing of last values; the lender's part]
           move t (2 ∷ []) $ drop t $ move t (1 ∷ []) $ token-back t (α ∷ []) fullShare $ move t (0 ∷ 2 ∷ []) $ shown-back R t tt α ys b o $ move t (1 ∷ []) $ k is))
 
       pub calls-lending : (φ : Q .Denot → List (R .Denot) → Type 0) → ((r : Q .Denot) (zs : List (R .Denot)) → φ r zs → r ≡ y) → (cl : Clauses 𝓤 (of-mut R ps Q)) → Known 𝓤 H A 𝓣 (of-mut R ps Q) cl f
           → (gh : (κ : Lft) (γ : GName) → cl (κ, tt) (slice R b o γ ys, a (κ, tt)) .ghost) → ((κ : Lft) (γ : GName) → Met 𝓤 H A 𝓣 (of-mut R ps Q) cl (κ, tt) (slice R b o γ ys, a (κ, tt)) (gh κ γ))
-          → ((κ : Lft) → Read K W E σ xs (sliceVal (b, o) (length ys) ∷ flat (typesAt ps (κ, tt)) (vals-at 1 ps Ds a (κ, tt)))) → ((κ : Lft) (γ : GName) → Says 𝓤 H A 𝓣 (of-mut R ps Q) cl (κ, tt) (slice R b o γ ys, a (κ, tt)) (gh κ γ) (λ r ws. φ r (ws .0)))
+          → ((κ : Lft) → Read K W E σ xs (sliceVal (b, o) n ∷ flat (typesAt ps (κ, tt)) (vals-at 1 ps Ds a (κ, tt)))) → ((κ : Lft) (γ : GName) → Says 𝓤 H A 𝓣 (of-mut R ps Q) cl (κ, tt) (slice R b o γ ys, a (κ, tt)) (gh κ γ) (λ r ws. φ r (ws .0)))
           → ((zs : List (R .Denot)) → φ y zs → Is Q y (D .val y ∷ []) → Seq K W (frame E (stored σ d (D .val y)) ∷ ‵ (row R fullShare zs b o) ∷ Γ) (runs (𝓣 .C) (𝓣 .Λ) E rest q))
           → Seq K W (frame E σ ∷ ‵ (row R fullShare ys b o) ∷ Γ) (runs (𝓣 .C) (𝓣 .Λ) E (seq (call f xs (place d [])) rest) q)
       calls-lending φ told cl known gh met os says k =
           move t (1 ∷ []) $ lends R t tt (named 0) ys b o room (λ α γ. one-token t (α ∷ []) fullShare $ adds-data 1 ps Ds a t are (α ∷ [], tt) $ move t (2 ∷ 0 ∷ []) $ fjoin t $ move t (3 ∷ 1 ∷ 0 ∷ []) $
-          calls t (then rest) d 𝓣 (of-mut R ps Q) cl known ((α ∷ [], tt), (fullShare, tt), tt, (slice R b o γ ys, a (α ∷ [], tt)), (sliceVal (b, o) (length ys) ∷ [], vals-at 1 ps Ds a (α ∷ [], tt))) (gh (α ∷ []) γ) (met (α ∷ []) γ) (os (α ∷ []) _) D in-it ty
-          (λ r ws. φ r (ws .0)) (says (α ∷ []) γ) y (λ r ws. told r (ws .0)) (λ ws e is.
+          calls t (then rest) d 𝓣 (of-mut R ps Q) cl known ((α ∷ [], tt), (fullShare, tt), tt, (slice R b o γ ys, a (α ∷ [], tt)), (sliceVal (b, o) (length ys) ∷ [], vals-at 1 ps Ds a (α ∷ [], tt))) (gh (α ∷ []) γ) (met (α ∷ []) γ) (subst (λ (m : ℕ). Read K W E σ xs (sliceVal (b, o) m ∷ flat (typesAt ps (α ∷ [], tt)) (vals-at 1 ps Ds a (α ∷ [], tt)))) e (os (α ∷ [])) _) D in-it ty
+          (λ r ws. φ r (ws .0)) (says (α ∷ []) γ) y (λ r ws. told r (ws .0)) (λ ws p is.
           -- [the frame; the token; the last list; the lender's part]
           move t (1 ∷ []) $ token-back t (α ∷ []) fullShare $ move t (2 ∷ []) $ fsplit t $ fsplit t $ move t (3 ∷ 5 ∷ 0 ∷ []) $ lent-back R t tt α γ (length ys) (ws .0) b o $
           -- [the row; its length; the others'; the frame]
-          move t (1 ∷ 2 ∷ []) $ drop t $ drop t $ move t (1 ∷ []) $ k (ws .0) e is))
+          move t (1 ∷ 2 ∷ []) $ drop t $ drop t $ move t (1 ∷ []) $ k (ws .0) p is))
 
-  module _ (ps : List (Slot 2)) (Ds : Given-data 2 ps) (a : (κs : Lfts 2) → Denots (typesAt ps κs)) (are : Right 2 ps Ds a) (R : RattleType) (ys : List (R .Denot)) (b o : ℕ) (room : Room R (length ys)) (R₂ : RattleType) (zs₂ : List (R₂ .Denot)) (b₂ o₂ : ℕ) (γ₂ : GName) (κ₂ : Lft) (s : Share) {rest : Body} where
+  module _ (ps : List (Slot 2)) (Ds : Given-data 2 ps) (a : (κs : Lfts 2) → Denots (typesAt ps κs)) (are : Right 2 ps Ds a) (R : RattleType) (ys : List (R .Denot)) (b o : ℕ) (room : Room R (length ys)) (R₂ : RattleType) (zs₂ : List (R₂ .Denot)) (b₂ o₂ : ℕ) (γ₂ : GName) (κ₂ : Lft) (s : Share) (n : ℕ) (e : n ≡ length ys) {rest : Body} where
     pub calls-lending-passing : (φ : Q .Denot → List (R .Denot) → Type 0) → ((r : Q .Denot) (zs : List (R .Denot)) → φ r zs → r ≡ y) → (cl : Clauses 𝓤 (of-mut-shared R R₂ ps Q)) → Known 𝓤 H A 𝓣 (of-mut-shared R R₂ ps Q) cl f
         → (gh : (κ : Lft) (γ : GName) → cl (κ, (κ₂, tt)) (slice R b o γ ys, (slice R₂ b₂ o₂ γ₂ zs₂, a (κ, (κ₂, tt)))) .ghost)
         → ((κ : Lft) (γ : GName) → Met 𝓤 H A 𝓣 (of-mut-shared R R₂ ps Q) cl (κ, (κ₂, tt)) (slice R b o γ ys, (slice R₂ b₂ o₂ γ₂ zs₂, a (κ, (κ₂, tt)))) (gh κ γ))
-        → ((κ : Lft) → Read K W E σ xs (sliceVal (b, o) (length ys) ∷ sliceVal (b₂, o₂) (length zs₂) ∷ flat (typesAt ps (κ, (κ₂, tt))) (vals-at 2 ps Ds a (κ, (κ₂, tt)))))
+        → ((κ : Lft) → Read K W E σ xs (sliceVal (b, o) n ∷ sliceVal (b₂, o₂) (length zs₂) ∷ flat (typesAt ps (κ, (κ₂, tt))) (vals-at 2 ps Ds a (κ, (κ₂, tt)))))
         → ((κ : Lft) (γ : GName) → Says 𝓤 H A 𝓣 (of-mut-shared R R₂ ps Q) cl (κ, (κ₂, tt)) (slice R b o γ ys, (slice R₂ b₂ o₂ γ₂ zs₂, a (κ, (κ₂, tt)))) (gh κ γ) (λ r ws. φ r (ws .0)))
         → ((zs : List (R .Denot)) → φ y zs → Is Q y (D .val y ∷ []) → Seq K W (frame E (stored σ d (D .val y)) ∷ ‵ (row R fullShare zs b o) ∷ shared R₂ (slice R₂ b₂ o₂ γ₂ zs₂) κ₂ s ∷ Γ) (runs (𝓣 .C) (𝓣 .Λ) E rest q))
         → Seq K W (frame E σ ∷ ‵ (row R fullShare ys b o) ∷ shared R₂ (slice R₂ b₂ o₂ γ₂ zs₂) κ₂ s ∷ Γ) (runs (𝓣 .C) (𝓣 .Λ) E (seq (call f xs (place d [])) rest) q)
@@ -151,11 +151,11 @@ module _ {M : Type 1} {𝓤 : URA M} {H : Heap 𝓤} {A : Atoms 𝓤} {K : Type 
         adds-data 2 ps Ds a t are (α ∷ [], (κ₂, tt)) $ move t (4 ∷ 0 ∷ []) $ fjoin t $ move t (2 ∷ 0 ∷ []) $ fjoin t $ move t (4 ∷ 1 ∷ 0 ∷ []) $
         calls t (then rest) d 𝓣 (of-mut-shared R R₂ ps Q) cl known
         ((α ∷ [], (κ₂, tt)), (fullShare, (s, tt)), tt, (slice R b o γ ys, (slice R₂ b₂ o₂ γ₂ zs₂, a (α ∷ [], (κ₂, tt)))), (sliceVal (b, o) (length ys) ∷ [], (sliceVal (b₂, o₂) (length zs₂) ∷ [], vals-at 2 ps Ds a (α ∷ [], (κ₂, tt)))))
-        (gh (α ∷ []) γ) (met (α ∷ []) γ) (os (α ∷ []) _) D in-it ty (λ r ws. φ r (ws .0)) (says (α ∷ []) γ) y (λ r ws. told r (ws .0)) (λ ws e is.
+        (gh (α ∷ []) γ) (met (α ∷ []) γ) (subst (λ (m : ℕ). Read K W E σ xs (sliceVal (b, o) m ∷ sliceVal (b₂, o₂) (length zs₂) ∷ flat (typesAt ps (α ∷ [], (κ₂, tt))) (vals-at 2 ps Ds a (α ∷ [], (κ₂, tt))))) e (os (α ∷ [])) _) D in-it ty (λ r ws. φ r (ws .0)) (says (α ∷ []) γ) y (λ r ws. told r (ws .0)) (λ ws p is.
         -- [the frame; the tokens; the last list; the lender's part; the slice]
         move t (1 ∷ []) $ tokens-back t (α ∷ []) κ₂ fullShare s $ move t (3 ∷ []) $ fsplit t $ fsplit t $ move t (3 ∷ 6 ∷ 0 ∷ []) $ lent-back R t tt α γ (length ys) (ws .0) b o $
         -- [the row; its length; the others'; the token; the frame; the slice]
-        move t (1 ∷ 2 ∷ []) $ drop t $ drop t $ move t (3 ∷ 1 ∷ []) $ join t $ move t (2 ∷ 1 ∷ 0 ∷ []) $ k (ws .0) e is))
+        move t (1 ∷ 2 ∷ []) $ drop t $ drop t $ move t (3 ∷ 1 ∷ []) $ join t $ move t (2 ∷ 1 ∷ 0 ∷ []) $ k (ws .0) p is))
       where
         Own : Fml
         Own = ShrSlice (named 0) κ₂ R₂ .own (slice R₂ b₂ o₂ γ₂ zs₂) (slice-vals (slice R₂ b₂ o₂ γ₂ zs₂))
