@@ -2,3 +2,4 @@ pub mod Searching
 pub mod Agreeing
 pub mod Following
 pub mod Shapes
+pub mod Starting

@@ -10,10 +10,12 @@ ghost use mathlib.Core.Bool.{cond, _&&_};
 ghost use mathlib.Core.List.{map};
 ghost use Prim.Native.Nat.{_+_, _≤_, _<_, _^_};
 ghost use lib.Dec.{ltb};
-ghost use lib.ListN.{length, getD};
-ghost use Rattle.sheet.specs.Plain.{plainCall};
+ghost use lib.ListN.{length, getD, drop};
+ghost use Rattle.sheet.specs.Protocol.{undefinedIn};
+ghost use Rattle.sheet.specs.Plain.{passed, plainCall};
 ghost use Rattle.plain.specs.Asking.{takesPart, yes, taken, firstYes};
 ghost use Rattle.plain.specs.Turns.{turnAfter, followed, Ready};
+ghost use Rattle.plain.specs.Starts.{checkOf, turnAt, startOf, answerOf};
 
 // ---- one chip, by value
 
@@ -158,4 +160,102 @@ fn follow(chips: &mut [Chip], bytes: &[u8], start: Turn) -> usize
         turn = next(bytes, turn, found, chips.len());
     }
     turn.acknowledged
+}
+
+// ---- how a transfer begins, and what is answered
+
+// Byte 0 asks who hears it.
+fn hail(bytes: &[u8]) -> Question
+    ensures { λ r. ⌜ r ≡ Question.Hears (getD (now (bytes .entry)) 0 0) ⌝ }
+{
+    Question::Hears(byte_at(bytes, 0))
+}
+
+fn check_commands(bytes: &[u8], heard: bool) -> Check
+    ensures { λ r. ⌜ r ≡ cond heard (undefinedIn Expect.Control 1 (drop 1 (now (bytes .entry)))) Check.Passed ⌝ }
+{
+    if heard {
+        protocol::first_undefined(bytes)
+    } else {
+        Check::Passed
+    }
+}
+
+// Of `count` chips the first misfit stands at `misfit` and the first that hears at `hearer`, or else there is none.
+fn check_transfer(bytes: &[u8], count: usize, misfit: usize, hearer: usize) -> Check
+    ensures { λ r. ⌜ r ≡ checkOf (now (bytes .entry)) count misfit hearer ⌝ }
+{
+    let many = checks::unless(count <= 8, Refusal::ManyChips);
+    let fields = checks::unless(count <= misfit, Refusal::ChipField(misfit));
+    let length = checks::check_length(bytes.len());
+    let commands = check_commands(bytes, hearer < count);
+    checks::or_else(many, checks::or_else(fields, checks::or_else(length, commands)))
+}
+
+fn passes(check: Check) -> bool
+    ensures { λ r. ⌜ r ≡ passed check ⌝ }
+{
+    match check {
+        Check::Passed => true,
+        Check::Refused(_) => false,
+    }
+}
+
+fn turn_at(bytes: &[u8], at: usize, acknowledged: usize) -> Turn
+    ensures { λ r. ⌜ r ≡ turnAt (now (bytes .entry)) at acknowledged ⌝ }
+{
+    Turn {
+        at,
+        acknowledged,
+        heard: BusByte {
+            address: byte_at(bytes, 0),
+            expect: Expect::Control,
+            byte: byte_at(bytes, at),
+        },
+    }
+}
+
+// Refused or taken, and the turn from which the chips follow.
+pub struct Start {
+    pub check: Check,
+    pub turn: Turn,
+}
+
+// The address is acknowledged, and the chips follow from the next byte on. Of a transfer that is refused, or that none hears, nothing is left to follow.
+fn begin(bytes: &[u8], count: usize, misfit: usize, hearer: usize) -> Start
+    ensures { λ r. ⌜ r ≡ startOf (now (bytes .entry)) count misfit hearer ⌝ }
+{
+    let check = check_transfer(bytes, count, misfit, hearer);
+    if passes(check) & (hearer < count) {
+        Start {
+            check,
+            turn: turn_at(bytes, 1, 1),
+        }
+    } else {
+        Start {
+            check,
+            turn: turn_at(bytes, bytes.len(), 0),
+        }
+    }
+}
+
+fn answer(check: Check, acknowledged: usize) -> PlainAnswer
+    ensures { λ r. ⌜ r ≡ answerOf check acknowledged ⌝ }
+{
+    match check {
+        Check::Passed => PlainAnswer::Acknowledged(acknowledged),
+        Check::Refused(refusal) => PlainAnswer::Refused(refusal),
+    }
+}
+
+// A transfer, START to STOP.
+pub fn transfer(chips: &mut [Chip], bytes: &[u8]) -> PlainAnswer
+    ensures { λ r. ⌜ r ≡ plainCall 160 4 (now (chips .entry)) (now (bytes .entry)) .answer ⌝ }
+    ensures { λ _. ⌜ now (chips .exit) ≡ plainCall 160 4 (now (chips .entry)) (now (bytes .entry)) .chips ⌝ }
+{
+    let misfit = first(chips, Question::Misfit);
+    let hearer = first(chips, hail(bytes));
+    let start = begin(bytes, chips.len(), misfit, hearer);
+    let acknowledged = follow(chips, bytes, start.turn);
+    answer(start.check, acknowledged)
 }

@@ -16,7 +16,7 @@ use prog.Wp.{Heap, Env, spotOf, Tables}
 use ghost.Atoms.{Atoms}
 use contract.Lifetimes.{Lfts}
 use contract.Monad.{fact, factI, fact-use}
-use types.Kit.{Given, Item, ‵, raw, _⊛_, Goal, Post, runs, Seq, Step, _$_, move, drop, split, join, use0, use1, fsplit, fjoin}
+use types.Kit.{Given, Item, ‵, raw, _⊛_, Goal, Post, runs, Seq, Step, _$_, move, drop, split, join, use0, use1, fsplit, fjoin, feqL}
 use types.Run.{Opds}
 use denote.RattleType.{RattleType, Denots, Valss, flat, owns}
 use denote.Laws.{Is, Ises, Are, owns-make}
@@ -124,7 +124,7 @@ module _ {M : Type 1} {𝓤 : URA M} {H : Heap 𝓤} {A : Atoms 𝓤} {K : Type 
       pub calls-lending : (φ : Q .Denot → List (R .Denot) → Type 0) → ((r : Q .Denot) (zs : List (R .Denot)) → φ r zs → r ≡ y) → (cl : Clauses 𝓤 (of-mut R ps Q)) → Known 𝓤 H A 𝓣 (of-mut R ps Q) cl f
           → (gh : (κ : Lft) (γ : GName) → cl (κ, tt) (slice R b o γ ys, a (κ, tt)) .ghost) → ((κ : Lft) (γ : GName) → Met 𝓤 H A 𝓣 (of-mut R ps Q) cl (κ, tt) (slice R b o γ ys, a (κ, tt)) (gh κ γ))
           → ((κ : Lft) → Read K W E σ xs (sliceVal (b, o) n ∷ flat (typesAt ps (κ, tt)) (vals-at 1 ps Ds a (κ, tt)))) → ((κ : Lft) (γ : GName) → Says 𝓤 H A 𝓣 (of-mut R ps Q) cl (κ, tt) (slice R b o γ ys, a (κ, tt)) (gh κ γ) (λ r ws. φ r (ws .0)))
-          → ((zs : List (R .Denot)) → φ y zs → Is Q y (D .val y ∷ []) → Seq K W (frame E (stored σ d (D .val y)) ∷ ‵ (row R fullShare zs b o) ∷ Γ) (runs (𝓣 .C) (𝓣 .Λ) E rest q))
+          → ((zs : List (R .Denot)) → length zs ≡ length ys → φ y zs → Is Q y (D .val y ∷ []) → Seq K W (frame E (stored σ d (D .val y)) ∷ ‵ (row R fullShare zs b o) ∷ Γ) (runs (𝓣 .C) (𝓣 .Λ) E rest q))
           → Seq K W (frame E σ ∷ ‵ (row R fullShare ys b o) ∷ Γ) (runs (𝓣 .C) (𝓣 .Λ) E (seq (call f xs (place d [])) rest) q)
       calls-lending φ told cl known gh met os says k =
           move t (1 ∷ []) $ lends R t tt (named 0) ys b o room (λ α γ. one-token t (α ∷ []) fullShare $ adds-data 1 ps Ds a t are (α ∷ [], tt) $ move t (2 ∷ 0 ∷ []) $ fjoin t $ move t (3 ∷ 1 ∷ 0 ∷ []) $
@@ -133,7 +133,7 @@ module _ {M : Type 1} {𝓤 : URA M} {H : Heap 𝓤} {A : Atoms 𝓤} {K : Type 
           -- [the frame; the token; the last list; the lender's part]
           move t (1 ∷ []) $ token-back t (α ∷ []) fullShare $ move t (2 ∷ []) $ fsplit t $ fsplit t $ move t (3 ∷ 5 ∷ 0 ∷ []) $ lent-back R t tt α γ (length ys) (ws .0) b o $
           -- [the row; its length; the others'; the frame]
-          move t (1 ∷ 2 ∷ []) $ drop t $ drop t $ move t (1 ∷ []) $ k (ws .0) p is))
+          move t (1 ∷ []) $ feqL t (λ len. move t (1 ∷ []) $ drop t $ move t (1 ∷ []) $ k (ws .0) len p is)))
 
   module _ (ps : List (Slot 2)) (Ds : Given-data 2 ps) (a : (κs : Lfts 2) → Denots (typesAt ps κs)) (are : Right 2 ps Ds a) (R : RattleType) (ys : List (R .Denot)) (b o : ℕ) (room : Room R (length ys)) (R₂ : RattleType) (zs₂ : List (R₂ .Denot)) (b₂ o₂ : ℕ) (γ₂ : GName) (κ₂ : Lft) (s : Share) (n : ℕ) (e : n ≡ length ys) {rest : Body} where
     pub calls-lending-passing : (φ : Q .Denot → List (R .Denot) → Type 0) → ((r : Q .Denot) (zs : List (R .Denot)) → φ r zs → r ≡ y) → (cl : Clauses 𝓤 (of-mut-shared R R₂ ps Q)) → Known 𝓤 H A 𝓣 (of-mut-shared R R₂ ps Q) cl f
@@ -141,7 +141,7 @@ module _ {M : Type 1} {𝓤 : URA M} {H : Heap 𝓤} {A : Atoms 𝓤} {K : Type 
         → ((κ : Lft) (γ : GName) → Met 𝓤 H A 𝓣 (of-mut-shared R R₂ ps Q) cl (κ, (κ₂, tt)) (slice R b o γ ys, (slice R₂ b₂ o₂ γ₂ zs₂, a (κ, (κ₂, tt)))) (gh κ γ))
         → ((κ : Lft) → Read K W E σ xs (sliceVal (b, o) n ∷ sliceVal (b₂, o₂) (length zs₂) ∷ flat (typesAt ps (κ, (κ₂, tt))) (vals-at 2 ps Ds a (κ, (κ₂, tt)))))
         → ((κ : Lft) (γ : GName) → Says 𝓤 H A 𝓣 (of-mut-shared R R₂ ps Q) cl (κ, (κ₂, tt)) (slice R b o γ ys, (slice R₂ b₂ o₂ γ₂ zs₂, a (κ, (κ₂, tt)))) (gh κ γ) (λ r ws. φ r (ws .0)))
-        → ((zs : List (R .Denot)) → φ y zs → Is Q y (D .val y ∷ []) → Seq K W (frame E (stored σ d (D .val y)) ∷ ‵ (row R fullShare zs b o) ∷ shared R₂ (slice R₂ b₂ o₂ γ₂ zs₂) κ₂ s ∷ Γ) (runs (𝓣 .C) (𝓣 .Λ) E rest q))
+        → ((zs : List (R .Denot)) → length zs ≡ length ys → φ y zs → Is Q y (D .val y ∷ []) → Seq K W (frame E (stored σ d (D .val y)) ∷ ‵ (row R fullShare zs b o) ∷ shared R₂ (slice R₂ b₂ o₂ γ₂ zs₂) κ₂ s ∷ Γ) (runs (𝓣 .C) (𝓣 .Λ) E rest q))
         → Seq K W (frame E σ ∷ ‵ (row R fullShare ys b o) ∷ shared R₂ (slice R₂ b₂ o₂ γ₂ zs₂) κ₂ s ∷ Γ) (runs (𝓣 .C) (𝓣 .Λ) E (seq (call f xs (place d [])) rest) q)
     calls-lending-passing φ told cl known gh met os says k =
         move t (2 ∷ []) $ split t $ use1 W (‵ Own ⊛ ‵ Own) (shr-slice-copy 𝓤 H A W (named 0) κ₂ R₂ .twice (slice R₂ b₂ o₂ γ₂ zs₂) _) $ split t $
@@ -155,7 +155,7 @@ module _ {M : Type 1} {𝓤 : URA M} {H : Heap 𝓤} {A : Atoms 𝓤} {K : Type 
         -- [the frame; the tokens; the last list; the lender's part; the slice]
         move t (1 ∷ []) $ tokens-back t (α ∷ []) κ₂ fullShare s $ move t (3 ∷ []) $ fsplit t $ fsplit t $ move t (3 ∷ 6 ∷ 0 ∷ []) $ lent-back R t tt α γ (length ys) (ws .0) b o $
         -- [the row; its length; the others'; the token; the frame; the slice]
-        move t (1 ∷ 2 ∷ []) $ drop t $ drop t $ move t (3 ∷ 1 ∷ []) $ join t $ move t (2 ∷ 1 ∷ 0 ∷ []) $ k (ws .0) p is))
+        move t (1 ∷ []) $ feqL t (λ len. move t (1 ∷ []) $ drop t $ move t (3 ∷ 1 ∷ []) $ join t $ move t (2 ∷ 1 ∷ 0 ∷ []) $ k (ws .0) len p is)))
       where
         Own : Fml
         Own = ShrSlice (named 0) κ₂ R₂ .own (slice R₂ b₂ o₂ γ₂ zs₂) (slice-vals (slice R₂ b₂ o₂ γ₂ zs₂))

@@ -110,7 +110,7 @@ module _ {M : Type 1} (𝓤 : URA M) (H : Heap 𝓤) (A : Atoms 𝓤) (W : Given
         -- `take_all`
         sets ! (reborrows ! refl refl refl refl) tt (tt, tt) $ sets ! (agg ! (and-then ! (get ! refl) (and-then ! (field ! refl refl refl) (no-more !)))) tt (tt, (tt, (record { fits = space .0 }, tt))) $
         calls-lending ! 11 𝓣 unit nothing tt refl tt (plain (λ _. TB.the-row) ∷ []) (λ _. (heard, tt)) (λ _. (t .heard, tt)) (λ _. (is-t .1 .1 .0, tt)) TC.the-row cs b o here (length xs) (sym same) (λ r zs. zs ≡ map (taken (t .heard)) cs) (λ r zs e. refl)
-        (g₂.clauses 𝓤 H A mem run) take-all-met (λ κ γ. tt) (λ κ γ. id⊢ 𝓤 (emp 𝓤)) (λ κ Δ. and-then ! (get ! refl) (and-then ! (field ! refl refl refl) (no-more !))) (λ κ γ r ws. id⊢ 𝓤 _) (λ zs e _.
+        (g₂.clauses 𝓤 H A mem run) take-all-met (λ κ γ. tt) (λ κ γ. id⊢ 𝓤 (emp 𝓤)) (λ κ Δ. and-then ! (get ! refl) (and-then ! (field ! refl refl refl) (no-more !))) (λ κ γ r ws. id⊢ 𝓤 _) (λ zs _ e _.
         rewrite ! 1 (λ (zs : List Chip). ‵ (row TC.the-row fullShare zs b o)) e refl $
         -- `next`
         sets ! (of-opd ! (field ! refl refl refl)) tt (tt, record { fits = space .0 }) $
