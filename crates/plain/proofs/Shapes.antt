@@ -18,6 +18,10 @@ use Rattle.plain.proofs.Turn as TT
 use Rattle.plain.proofs.Turn.Laws as TT′
 use Rattle.plain.proofs.Start as TS
 use Rattle.plain.proofs.Start.Laws as TS′
+use Rattle.plain.proofs.Bench as TN
+use Rattle.plain.proofs.Bench.Laws as TN′
+use Rattle.plain.proofs.BenchTransferred as TR
+use Rattle.plain.proofs.BenchTransferred.Laws as TR′
 
 abbrev pub blank : Chip
 blank = record { columns = []; sa0 = 0; subaddress = 0; registers = powerOn }
@@ -42,3 +46,9 @@ start = struct TS.the-type TS′.the-laws TS′.the-plain TS′.the-copy
 
 abbrev pub answer : Data TA.the-row
 answer = enum TA.the-type TA′.the-laws TA′.the-plain TA′.the-copy tt
+
+abbrev pub bench : Data TN.the-row
+bench = struct TN.the-type TN′.the-laws TN′.the-plain TN′.the-copy
+
+abbrev pub transferred : Data TR.the-row
+transferred = struct TR.the-type TR′.the-laws TR′.the-plain TR′.the-copy

@@ -16,6 +16,7 @@ ghost use Rattle.sheet.specs.Plain.{passed, plainCall};
 ghost use Rattle.plain.specs.Asking.{takesPart, yes, taken, firstYes};
 ghost use Rattle.plain.specs.Turns.{turnAfter, followed, Ready};
 ghost use Rattle.plain.specs.Starts.{checkOf, turnAt, startOf, answerOf};
+ghost use Rattle.plain.specs.Benches.{firstTransferred, benchTransferred};
 
 // ---- one chip, by value
 
@@ -258,4 +259,43 @@ pub fn transfer(chips: &mut [Chip], bytes: &[u8]) -> PlainAnswer
     let start = begin(bytes, chips.len(), misfit, hearer);
     let acknowledged = follow(chips, bytes, start.turn);
     answer(start.check, acknowledged)
+}
+
+// ---- by value, for a caller that has its chips in a local
+
+pub struct Bench {
+    pub chips: [Chip; 8],
+    pub count: usize,
+}
+
+pub struct BenchTransferred {
+    pub answer: PlainAnswer,
+    pub bench: Bench,
+}
+
+// The first `count` chips take part, the others stay.
+fn transfer_first(bytes: &[u8], bench: Bench) -> BenchTransferred
+    requires { ⌜ bench .count ≤ 8 ⌝ }
+    ensures { λ r. ⌜ r ≡ firstTransferred bench (now (bytes .entry)) ⌝ }
+{
+    let count = bench.count;
+    let mut chips = bench.chips;
+    let answer = transfer(&mut chips[..count], bytes);
+    BenchTransferred {
+        answer,
+        bench: Bench { chips, count },
+    }
+}
+
+pub fn transfer_bench(bench: Bench, bytes: &[u8]) -> BenchTransferred
+    ensures { λ r. ⌜ r ≡ benchTransferred bench (now (bytes .entry)) ⌝ }
+{
+    if bench.count <= 8 {
+        transfer_first(bytes, bench)
+    } else {
+        BenchTransferred {
+            answer: PlainAnswer::Refused(Refusal::ManyChips),
+            bench,
+        }
+    }
 }

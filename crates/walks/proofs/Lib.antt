@@ -7,3 +7,4 @@ pub mod Calls
 pub mod Callees
 pub mod Proved
 pub mod Firsts
+pub mod Arrays

@@ -92,12 +92,12 @@ module _ {M : Type 1} (𝓤 : URA M) (H : Heap 𝓤) (A : Atoms 𝓤) (W : Given
         calls-plain ! 6 𝓣 bool truth tt refl (yes q c) (then _) (plain (λ _. T.the-row) ∷ plain (λ _. TQ.the-row) ∷ []) (λ _. (chip, (question, tt))) (λ _. (c, (q, tt))) (λ _. (is-c, (is-q, tt))) (g.clauses 𝓤 H A mem run) known tt (id⊢ 𝓤 (emp 𝓤))
         (λ Δ. and-then ! (get ! refl) (and-then ! (get ! refl) (no-more !))) (λ r ws. id⊢ 𝓤 _) (λ _.
         tests ! (get ! refl)
-        (λ said. sets ! (of-opd ! (get ! refl)) tt (tt, record { fits = fits }) $ move ! (1 ∷ 2 ∷ []) $ looked T.the-row ! tt s′ xs b o space $ move ! (1 ∷ []) $ leaves ! Kf (returned W 𝓣 loop i) refl $
+        (λ said. sets ! (of-opd ! (get ! refl)) tt (tt, record { fits = fits }) $ move ! (1 ∷ 2 ∷ []) $ looked T.the-row ! tt s′ xs b o space $ move ! (1 ∷ []) $ leaves ! Kf (returned W 𝓣 loop i) refl tt $
         ends i (refl, fits) (found (yes q) xs i so blank small (is-true (yes q c) said)))
         (λ denied. sets-last ! (bin ! (get ! refl) (lit ! tt) (record { fits = next })) tt (tt, record { fits = next }) $ forgets ! 4 $
         rewrite ! 0 (λ (j : ℕ). frame En (room ∷ holds (sliceVal (b, o) (length xs)) ∷ holds (question .val q) ∷ holds (vint w64 j) ∷ rooms 5)) (add-one i) refl $
         next-turn W 𝓣 loop ! i (suc i) (omega arith) (not-yet (yes q) xs i so blank small (is-false (yes q c) denied))))))
-        (λ off. sets ! (of-opd ! (get ! refl)) tt (tt, record { fits = fits }) $ move ! (1 ∷ 2 ∷ []) $ looked T.the-row ! tt s′ xs b o space $ move ! (1 ∷ []) $ leaves ! Kf refl refl $
+        (λ off. sets ! (of-opd ! (get ! refl)) tt (tt, record { fits = fits }) $ move ! (1 ∷ 2 ∷ []) $ looked T.the-row ! tt s′ xs b o space $ move ! (1 ∷ []) $ leaves ! Kf refl refl tt $
         ends i (refl, fits) (none (yes q) xs i so (nltb→le i (length xs) off)))
 
   walk : Shared-walk 𝓤 H A W 𝓣 code.function usize (number w64) T.the-row (plain (λ _. TQ.the-row) ∷ []) (λ _. (question, tt)) (f.clauses 𝓤 H A mem run) (λ κs a. Unit {0}) (λ κs a r. r ≡ firstYes (yes (a .1 .0)) (a .0 .now))

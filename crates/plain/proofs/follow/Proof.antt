@@ -118,7 +118,7 @@ module _ {M : Type 1} (𝓤 : URA M) (H : Heap 𝓤) (A : Atoms 𝓤) (W : Given
         u8 bytes b₂ o₂ γ₂ κ₂ s₂ (‵ (row TC.the-row fullShare (map (taken (t .heard)) cs) b o)) last (g₃.clauses 𝓤 H A mem run) next-met tt (factI 𝓤 ((t .at < length bytes) × (t .acknowledged ≤ t .at)) (emp 𝓤) (small, p .0 .ready .counted))
         (λ Δ. and-then ! (get ! refl) (and-then ! (get ! refl) (and-then ! (get ! refl) (and-then ! (get ! refl) (no-more !))))) (λ r ws. id⊢ 𝓤 _) (λ is-next.
         forgets ! 5 $ next-turn W 𝓣 loop ! x (turnAfter bytes t found (length xs), map (taken (t .heard)) cs) (omega arith) (turn-more xs bytes start t cs (p .0) small, is-next)))))
-        (λ off. sets ! (of-opd ! (field ! refl refl refl)) tt (tt, record { fits = is-t .1 .0 .1 }) $ move ! (1 ∷ 3 ∷ []) $ shuts TC.the-row ! tt xs cs b o space (p .0 .same) $ move ! (1 ∷ []) $ leaves ! Kf refl refl $
+        (λ off. sets ! (of-opd ! (field ! refl refl refl)) tt (tt, record { fits = is-t .1 .0 .1 }) $ move ! (1 ∷ 3 ∷ []) $ shuts TC.the-row ! tt xs cs b o space (p .0 .same) $ move ! (1 ∷ []) $ leaves ! Kf refl refl tt $
         ends (t .acknowledged) cs (p .0 .same) (refl, is-t .1 .0 .1) (ended xs bytes start t cs (p .0) (nltb→le (t .at) (length bytes) off)))
 
   walk : Mut-shared-walk 𝓤 H A W 𝓣 code.function usize (number w64) TC.the-row u8 (plain (λ _. TT.the-row) ∷ []) (λ _. (turn, tt)) (f.clauses 𝓤 H A mem run) (λ κs a. Ready (a .0 .now) (a .1 .0 .now) (a .1 .1 .0))

@@ -98,7 +98,7 @@ module _ {M : Type 1} (𝓤 : URA M) (H : Heap 𝓤) (A : Atoms 𝓤) (W : Given
         rewrite ! 0 (λ (j : ℕ). frame En (held j)) (add-one i) refl $
         rewrite ! 1 (λ (zs : List Chip). ‵ (row T.the-row fullShare zs b o)) (ap (λ (d : Chip). set (firstOf (taken h) i xs) i (taken h d)) (first-at (taken h) i xs blank) ∙ first-more (taken h) i xs blank small) refl $
         next-turn W 𝓣 loop ! i (suc i) (omega arith) small)))
-        (λ off. sets ! (of-opd ! (unit-lit !)) tt (tt, tt) $ move ! (1 ∷ 2 ∷ []) $ shuts T.the-row ! tt xs (firstOf (taken h) i xs) b o space (first-length (taken h) i xs) $ move ! (1 ∷ []) $ leaves ! Kf refl refl $
+        (λ off. sets ! (of-opd ! (unit-lit !)) tt (tt, tt) $ move ! (1 ∷ 2 ∷ []) $ shuts T.the-row ! tt xs (firstOf (taken h) i xs) b o space (first-length (taken h) i xs) $ move ! (1 ∷ []) $ leaves ! Kf refl refl tt $
         ends tt (firstOf (taken h) i xs) (first-length (taken h) i xs) refl (ap (λ (j : ℕ). firstOf (taken h) j xs) (le-antisymm so (nltb→le i (length xs) off)) ∙ first-all (taken h) xs))
 
   walk : Mut-walk 𝓤 H A W 𝓣 code.function unit nothing T.the-row (plain (λ _. TB.the-row) ∷ []) (λ _. (heard, tt)) (f.clauses 𝓤 H A mem run) (λ κs a. Unit {0}) (λ κs a zs r. zs ≡ map (taken (a .1 .0)) (a .0 .now))

@@ -111,7 +111,7 @@ module _ {M : Type 1} (𝓤 : URA M) (H : Heap 𝓤) (A : Atoms 𝓤) (W : Given
       calls-plain ! 0 𝓣 TA.the-row answer tt refl (answerOf (st .check) (followed xs bytes (st .turn) .acknowledged)) (then _) (plain (λ _. TK.the-row) ∷ plain (λ _. usize) ∷ []) (λ _. (check, (number w64, tt)))
       (λ _. (st .check, (followed xs bytes (st .turn) .acknowledged, tt))) (λ _. (is-st .0, (is-acknowledged, tt))) (g₅.clauses 𝓤 H A mem run) answer-met tt (id⊢ 𝓤 (emp 𝓤))
       (λ Δ. and-then ! (field ! refl refl refl) (and-then ! (get ! refl) (no-more !))) (λ r ws. id⊢ 𝓤 _) (λ is-answer.
-      move ! (1 ∷ 3 ∷ []) $ shuts TC.the-row ! tt xs zs b o space len $ move ! (1 ∷ []) $ leaves ! Kf refl refl $
+      move ! (1 ∷ 3 ∷ []) $ shuts TC.the-row ! tt xs zs b o space len $ move ! (1 ∷ []) $ leaves ! Kf refl refl tt $
       ends _ zs len is-answer (ap (λ (p : PlainAfter). p .answer) (concluded xs bytes), e .1 ∙ ap (λ (p : PlainAfter). p .chips) (concluded xs bytes)))))))))
 
 pub transfer-spec : {M : Type 1} → stated.statement M
