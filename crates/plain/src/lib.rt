@@ -21,14 +21,14 @@ ghost use Rattle.plain.specs.Benches.{firstTransferred, benchTransferred
 // ---- one chip, by value
 
 // A byte after the address: to whom it goes, what it is, and its value.
-pub struct BusByte {
-    pub address: u8,
-    pub expect: Expect,
-    pub byte: u8,
+struct BusByte {
+    address: u8,
+    expect: Expect,
+    byte: u8,
 }
 
 // What a chip is asked.
-pub enum Question {
+enum Question {
     Misfit,
     Hears(u8),
     Acknowledges(BusByte),
@@ -104,10 +104,10 @@ fn take_all(chips: &mut [Chip], heard: BusByte)
 // ---- a transfer, byte by byte
 
 // The byte that comes next, its place, and the bytes acknowledged so far.
-pub struct Turn {
-    pub at: usize,
-    pub acknowledged: usize,
-    pub heard: BusByte,
+struct Turn {
+    at: usize,
+    acknowledged: usize,
+    heard: BusByte,
 }
 
 // A byte of the transfer, and 0 past its end.
@@ -217,9 +217,9 @@ fn turn_at(bytes: &[u8], at: usize, acknowledged: usize) -> Turn
 }
 
 // Refused or taken, and the turn from which the chips follow.
-pub struct Start {
-    pub check: Check,
-    pub turn: Turn,
+struct Start {
+    check: Check,
+    turn: Turn,
 }
 
 // The address is acknowledged, and the chips follow from the next byte on. Of a transfer that is refused, or that none hears, nothing is left to follow.
