@@ -1,0 +1,26 @@
+-- `accounts::side_by_side` meets its contract: the contracts of `long::transfer` and `plain::transfer_bench`, and demand 3.
+-- Assumes nothing.
+use denote.Ref.{now}
+use Rattle.accounts.proofs.Agreeing.{sides-agree}
+use borrow.Author.Needs.{needs}
+use Rattle.accounts.proofs.side_by_side.Statement.{statement}
+use Rattle.accounts.proofs.side_by_side.Tie as tie
+
+transfer-bench-requires : tie.Need-transfer-bench-requires
+transfer-bench-requires c κs = search needs
+
+transfer-requires : tie.Need-transfer-requires
+transfer-requires c κs = search needs
+
+same-length : tie.Need-same-length
+same-length c = search needs
+
+returns : tie.Need-returns
+returns c = let s = c .before .before .before .before .before .before .before in
+    let a = s .args in
+    sides-agree (a .chips) (a .registers) (now (a .ram)) (a .bench) (now (a .bytes)) (c .before .before .transfer .last .1 .1 .0) (c .before .before .transfer .result) (c .before .before .before .before .transfer-bench .result) (s .pre)
+    (c .before .before .transfer .ensures .0) (c .before .before .transfer .ensures .1) (c .before .before .before .before .transfer-bench .ensures)
+
+pub side-by-side-spec : {M : Type 1} → statement M
+side-by-side-spec =
+    tie.close (tie.spec transfer-bench-requires transfer-requires same-length returns)

@@ -1,0 +1,70 @@
+-- What the chips of a list are asked and become is, for chips whose registers are in range, what the sheet says; and they stay in range.
+-- Assumes nothing.
+use mathlib.Core.Path.{_≡_, refl, sym, ap, _∙_}
+use mathlib.Core.Bool.{Bool, true, false, cond, _&&_, _||_}
+use mathlib.Core.List.{List, [], _∷_, map}
+use Prim.Native.Nat.{ℕ, zero, suc}
+use lib.Dec.{ltb, leb·zero, leb·suc-suc}
+use lib.ListN.{length}
+use Rattle.lemmas.proofs.Tests.{both-true}
+use Rattle.sheet.specs.declared.Chip.{Chip}
+use Rattle.sheet.specs.declared.Expect.{Expect}
+use Rattle.sheet.specs.declared.Expect.the-variants.{Control, OneCommand, Commands, OneData, Run}
+use Rattle.sheet.specs.Commands.{inRange, backplanes}
+use Rattle.sheet.specs.Data.{widthOf}
+use Rattle.sheet.specs.Plain.{hears, any, takes, chipByte, chipData, chipAcknowledged}
+use Rattle.laws.proofs.Ranges.{range-of, in-range}
+use Rattle.laws.proofs.Kept.{pcf8532-keeps}
+use Rattle.chip.proofs.Moves.{still-in}
+use Rattle.plain.specs.declared.BusByte.{BusByte}
+use Rattle.plain.specs.declared.Question.the-variants.{Acknowledges}
+use Rattle.plain.specs.Asking.{takesPart, yes, taken, firstYes}
+use Rattle.plain.specs.Turns.{AllIn}
+
+-- a chip that takes part has its registers in range
+pub part-in : (h : BusByte) (c : Chip) → takesPart h c ≡ true → inRange 160 4 (c .registers) ≡ true
+part-in h c e = both-true (hears (h .address) c) (inRange 160 4 (c .registers)) e .1
+
+-- f holds of some chip exactly if the first lies within the list
+pub any-first : (f : Chip → Bool) (cs : List Chip) → any f cs ≡ ltb (firstYes f cs) (length cs)
+unfolding firstYes
+any-first f [] = refl
+any-first f (c ∷ cs) = by-test (f c) (any f cs) (firstYes f cs) (length cs) (any-first f cs)
+  where
+    by-test : (t u : Bool) (n m : ℕ) → u ≡ ltb n m → (t || u) ≡ ltb (cond t zero (suc n)) (suc m)
+    by-test true u n m e = sym (leb·suc-suc zero m ∙ leb·zero m)
+    by-test false u n m e = e ∙ sym (leb·suc-suc (suc n) m)
+
+module _ (h : BusByte) where
+  -- a chip in range takes part if it hears
+  part : (c : Chip) → inRange 160 4 (c .registers) ≡ true → hears (h .address) c ≡ takesPart h c
+  part c e = and-true (hears (h .address) c) ∙ ap (λ (t : Bool). hears (h .address) c && t) (sym e)
+    where
+      and-true : (b : Bool) → b ≡ (b && true)
+      and-true true = refl
+      and-true false = refl
+
+  pub asked : (cs : List Chip) → AllIn cs → any (λ c. hears (h .address) c && chipAcknowledged 160 4 (h .expect) (h .byte) c) cs ≡ any (yes (Acknowledges h)) cs
+  asked [] i = refl
+  asked (c ∷ cs) i = λ j. (part c (i .0) j && chipAcknowledged 160 4 (h .expect) (h .byte) c) || asked cs (i .1) j
+
+  pub all-taken : (cs : List Chip) → AllIn cs → map (takes 160 4 (h .address) (h .expect) (h .byte)) cs ≡ map (taken h) cs
+  all-taken [] i = refl
+  all-taken (c ∷ cs) i = λ j. cond (part c (i .0) j) (chipByte 160 4 (h .expect) (h .byte) c) c ∷ all-taken cs (i .1) j
+
+-- a byte keeps a chip's registers in range
+byte-kept : (e : Expect) (x : ℕ) (c : Chip) → inRange 160 4 (c .registers) ≡ true → inRange 160 4 (chipByte 160 4 e x c .registers) ≡ true
+unfolding chipData
+byte-kept Control x c i = i
+byte-kept OneCommand x c i = pcf8532-keeps (c .registers) x i
+byte-kept Commands x c i = pcf8532-keeps (c .registers) x i
+byte-kept OneData x c i = in-range 160 4 _ (still-in 160 4 x (widthOf (backplanes (c .registers))) c (range-of 160 4 (c .registers) i))
+byte-kept Run x c i = in-range 160 4 _ (still-in 160 4 x (widthOf (backplanes (c .registers))) c (range-of 160 4 (c .registers) i))
+
+pub all-kept : (h : BusByte) (cs : List Chip) → AllIn cs → AllIn (map (taken h) cs)
+all-kept h [] i = tt
+all-kept h (c ∷ cs) i = (one (takesPart h c), all-kept h cs (i .1))
+  where
+    one : (t : Bool) → inRange 160 4 (cond t (chipByte 160 4 (h .expect) (h .byte) c) c .registers) ≡ true
+    one true = byte-kept (h .expect) (h .byte) c (i .0)
+    one false = i .0

@@ -1,0 +1,5 @@
+pub mod Searching
+pub mod Agreeing
+pub mod Following
+pub mod Shapes
+pub mod Starting

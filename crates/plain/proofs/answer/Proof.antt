@@ -1,0 +1,23 @@
+-- answer: by the case of the check.
+-- Assumes nothing.
+use mathlib.Core.Path.{sym, ap}
+use Rattle.sheet.specs.declared.Check.{Check}
+use Rattle.plain.specs.Starts.{answerOf}
+use borrow.Author.Needs.{needs}
+use Rattle.plain.proofs.answer.Statement.{statement}
+use Rattle.plain.proofs.answer.Tie as tie
+
+enum-told : tie.Need-enum-told
+enum-told c = search needs
+
+enum-known-check : tie.Need-enum-known-check
+enum-known-check c = search needs
+
+returns : tie.Need-returns
+returns c = sym (ap (λ (k : Check). answerOf k (c .before .before .args .acknowledged)) (c .enum-told .given .1))
+
+returns-2 : tie.Need-returns-2
+returns-2 c = sym (ap (λ (k : Check). answerOf k (c .before .before .before .args .acknowledged)) (c .before .check .given .1))
+
+pub answer-spec : {M : Type 1} → statement M
+answer-spec = tie.close (tie.spec enum-told enum-known-check returns returns-2)

@@ -1,0 +1,56 @@
+-- begin: by the outcome of its test, which is that the transfer is taken and heard.
+-- Assumes nothing.
+use mathlib.Core.Path.{_≡_, sym, ap, _∙_}
+use mathlib.Core.Bool.{Bool, cond, _&&_}
+use mathlib.Core.List.{List}
+use Prim.Native.Nat.{ℕ}
+use lib.Dec.{ltb}
+use lib.ListN.{length}
+use denote.Ref.{now}
+use borrow.Author.Needs.{needs}
+use Rattle.sheet.specs.declared.Check.{Check}
+use Rattle.sheet.specs.Plain.{passed}
+use Rattle.plain.specs.declared.Turn.{Turn}
+use Rattle.plain.specs.declared.Start.{Start}
+use Rattle.plain.specs.Starts.{checkOf, turnAt, startOf}
+use Rattle.plain.proofs.begin.Statement.{statement}
+use Rattle.plain.proofs.begin.Tie as tie
+
+check-transfer-requires : tie.Need-check-transfer-requires
+check-transfer-requires c κs = search needs
+
+passes-requires : tie.Need-passes-requires
+passes-requires c κs = search needs
+
+turn-at-requires : tie.Need-turn-at-requires
+turn-at-requires c κs = search needs
+
+turn-at-requires-2 : tie.Need-turn-at-requires-2
+turn-at-requires-2 c κs = search needs
+
+-- the check and its test have been made, and the test has come out as b
+started : (bytes : List ℕ) (count misfit hearer : ℕ) (check : Check) (p b : Bool) (t : Turn) → check ≡ checkOf bytes count misfit hearer → p ≡ passed check → (p && ltb hearer count) ≡ b
+    → t ≡ cond b (turnAt bytes 1 1) (turnAt bytes (length bytes) 0) → record { check = check; turn = t } ≡ startOf bytes count misfit hearer
+started bytes count misfit hearer check p b t k q e r =
+    λ j. record { check = k j; turn = (r ∙ ap (λ (b : Bool). cond b (turnAt bytes 1 1) (turnAt bytes (length bytes) 0)) (sym e ∙ ap (λ (b : Bool). b && ltb hearer count) (q ∙ ap passed k))) j }
+
+returns : tie.Need-returns
+returns c =
+    let a = c .before .before .before .before .before .args in
+    started (now (a .bytes)) (a .count) (a .misfit) (a .hearer) _ _ _ _ (c .before .before .before .check-transfer .ensures) (c .before .before .passes .ensures) (c .before .if1 .taken) (c .turn-at .ensures)
+
+returns-2 : tie.Need-returns-2
+returns-2 c =
+    let a = c .before .before .before .before .before .args in
+    started (now (a .bytes)) (a .count) (a .misfit) (a .hearer) _ _ _ _ (c .before .before .before .check-transfer .ensures) (c .before .before .passes .ensures) (c .before .if1 .left) (c .turn-at2 .ensures)
+
+pub begin-spec : {M : Type 1} → statement M
+begin-spec =
+    tie.close
+    (tie.spec
+    check-transfer-requires
+    passes-requires
+    turn-at-requires
+    turn-at-requires-2
+    returns
+    returns-2)

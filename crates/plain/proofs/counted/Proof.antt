@@ -1,0 +1,20 @@
+-- counted: by the outcome of its test.
+-- Assumes nothing.
+use mathlib.Core.Path.{refl}
+use native.Mathlib.Omega.{arith}
+use borrow.Author.Needs.{needs}
+use borrow.Author.Tests.{lt-ltb, le-ltb}
+use Rattle.plain.proofs.counted.Statement.{statement}
+use Rattle.plain.proofs.counted.Tie as tie
+
+add-result : tie.Need-add-result
+add-result c = search needs
+
+returns : tie.Need-returns
+returns c = rw (lt-ltb _ _ (c .if1 .taken)) refl
+
+returns-2 : tie.Need-returns-2
+returns-2 c = rw (le-ltb _ _ (c .if1 .left)) (omega arith)
+
+pub counted-spec : {M : Type 1} → statement M
+counted-spec = tie.close (tie.spec add-result returns returns-2)

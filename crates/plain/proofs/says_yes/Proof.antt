@@ -1,0 +1,50 @@
+-- says_yes: by the case of the question.
+-- Assumes nothing.
+use mathlib.Core.Path.{sym, ap, _∙_}
+use mathlib.Core.Bool.{not}
+use borrow.Author.Needs.{needs}
+use Rattle.plain.specs.declared.Question.{Question}
+use Rattle.plain.specs.Asking.{yes}
+use Rattle.plain.proofs.says_yes.Statement.{statement}
+use Rattle.plain.proofs.says_yes.Tie as tie
+
+enum-told : tie.Need-enum-told
+enum-told c = search needs
+
+fits-requires : tie.Need-fits-requires
+fits-requires c κs = search needs
+
+enum-known-question : tie.Need-enum-known-question
+enum-known-question c = search needs
+
+hears-requires : tie.Need-hears-requires
+hears-requires c κs = search needs
+
+enum-known-question-2 : tie.Need-enum-known-question-2
+enum-known-question-2 c = search needs
+
+acknowledges-requires : tie.Need-acknowledges-requires
+acknowledges-requires c κs = search needs
+
+returns : tie.Need-returns
+returns c = ap not (c .fits2 .ensures) ∙ sym (ap (λ (q : Question). yes q (c .before .before .before .args .chip)) (c .before .enum-told .given .1))
+
+returns-2 : tie.Need-returns-2
+returns-2 c = c .hears .ensures ∙ sym (ap (λ (q : Question). yes q (c .before .before .before .before .args .chip)) (c .before .before .question .given .1))
+
+returns-3 : tie.Need-returns-3
+returns-3 c = c .acknowledges .ensures ∙ sym (ap (λ (q : Question). yes q (c .before .before .before .before .args .chip)) (c .before .before .question2 .given .1))
+
+pub says-yes-spec : {M : Type 1} → statement M
+says-yes-spec =
+    tie.close
+    (tie.spec
+    enum-told
+    fits-requires
+    enum-known-question
+    hears-requires
+    enum-known-question-2
+    acknowledges-requires
+    returns
+    returns-2
+    returns-3)

@@ -1,0 +1,4 @@
+pub mod Asking
+pub mod Turns
+pub mod Starts
+pub mod Benches

@@ -1,0 +1,301 @@
+// THE PLAIN ACCOUNT: a lent list of at most eight chips, each of which follows every byte by itself. Every input gets an answer; a refused call changes nothing.
+// What is decided and done is decided and done by value. The functions over the list only go along it, and are proved by hand.
+use sheet::Check;
+use sheet::Chip;
+use sheet::Expect;
+use sheet::PlainAnswer;
+use sheet::Refusal;
+ghost use mathlib.Core.Path.{_≡_};
+ghost use mathlib.Core.Bool.{cond, _&&_};
+ghost use mathlib.Core.List.{map};
+ghost use Prim.Native.Nat.{_+_, _≤_, _<_, _^_};
+ghost use lib.Dec.{ltb};
+ghost use lib.ListN.{length, getD, drop};
+ghost use Rattle.sheet.specs.Protocol.{undefinedIn};
+ghost use Rattle.sheet.specs.Plain.{passed, plainCall};
+ghost use Rattle.plain.specs.Asking.{takesPart, yes, taken, firstYes};
+ghost use Rattle.plain.specs.Turns.{turnAfter, followed, Ready};
+ghost use Rattle.plain.specs.Starts.{checkOf, turnAt, startOf, answerOf};
+ghost use Rattle.plain.specs.Benches.{firstTransferred, benchTransferred};
+
+// ---- one chip, by value
+
+// A byte after the address: to whom it goes, what it is, and its value.
+struct BusByte {
+    address: u8,
+    expect: Expect,
+    byte: u8,
+}
+
+// What a chip is asked.
+enum Question {
+    Misfit,
+    Hears(u8),
+    Acknowledges(BusByte),
+}
+
+// Whether a chip takes part in a byte. One with a register out of range never does; a transfer in which there is one is refused before.
+fn takes_part(chip: Chip, heard: BusByte) -> bool
+    ensures { λ r. ⌜ r ≡ takesPart heard chip ⌝ }
+{
+    chip::hears(chip, heard.address) & command::in_range(chip.registers)
+}
+
+fn acknowledges(chip: Chip, heard: BusByte) -> bool
+    ensures { λ r. ⌜ r ≡ yes (Question.Acknowledges heard) chip ⌝ }
+{
+    let expect = heard.expect;
+    if takes_part(chip, heard) {
+        chip::acknowledges(chip, expect, heard.byte)
+    } else {
+        false
+    }
+}
+
+fn says_yes(chip: Chip, question: Question) -> bool
+    ensures { λ r. ⌜ r ≡ yes question chip ⌝ }
+{
+    match question {
+        Question::Misfit => !chip::fits(chip),
+        Question::Hears(address) => chip::hears(chip, address),
+        Question::Acknowledges(heard) => acknowledges(chip, heard),
+    }
+}
+
+// The chip after a byte: as it was, if it takes no part.
+fn take(chip: Chip, heard: BusByte) -> Chip
+    ensures { λ r. ⌜ r ≡ taken heard chip ⌝ }
+{
+    let expect = heard.expect;
+    if takes_part(chip, heard) {
+        chip::step(chip, expect, heard.byte)
+    } else {
+        chip
+    }
+}
+
+// ---- the list
+
+// The place of the first chip that says yes, or the count.
+fn first(chips: &[Chip], question: Question) -> usize
+    ensures { λ r. ⌜ r ≡ firstYes (yes question) (now (chips .entry)) ⌝ }
+{
+    let mut i = 0;
+    while i < chips.len() {
+        if says_yes(chips[i], question) {
+            return i;
+        }
+        i += 1;
+    }
+    i
+}
+
+// Every chip takes the byte.
+fn take_all(chips: &mut [Chip], heard: BusByte)
+    ensures { λ _. ⌜ now (chips .exit) ≡ map (taken heard) (now (chips .entry)) ⌝ }
+{
+    let mut i = 0;
+    while i < chips.len() {
+        chips[i] = take(chips[i], heard);
+        i += 1;
+    }
+}
+
+// ---- a transfer, byte by byte
+
+// The byte that comes next, its place, and the bytes acknowledged so far.
+struct Turn {
+    at: usize,
+    acknowledged: usize,
+    heard: BusByte,
+}
+
+// A byte of the transfer, and 0 past its end.
+fn byte_at(bytes: &[u8], i: usize) -> u8
+    ensures { λ r. ⌜ r ≡ getD (now (bytes .entry)) i 0 ⌝ }
+{
+    if i < bytes.len() { bytes[i] } else { 0 }
+}
+
+// A byte counts once however many chips acknowledge it: `found` is the place of the first, or the count.
+fn counted(acknowledged: usize, found: usize, count: usize) -> usize
+    requires { ⌜ acknowledged < 2 ^ 63 ⌝ }
+    ensures { λ r. ⌜ r ≡ acknowledged + cond (ltb found count) 1 0 ⌝ }
+{
+    if found < count {
+        acknowledged + 1
+    } else {
+        acknowledged
+    }
+}
+
+// The turn after this one.
+fn next(bytes: &[u8], turn: Turn, found: usize, count: usize) -> Turn
+    requires { ⌜ (turn .at < length (now bytes)) × (turn .acknowledged ≤ turn .at) ⌝ }
+    ensures { λ r. ⌜ r ≡ turnAfter (now (bytes .entry)) turn found count ⌝ }
+{
+    let heard = turn.heard;
+    let expect = heard.expect;
+    let at = turn.at + 1;
+    Turn {
+        at,
+        acknowledged: counted(turn.acknowledged, found, count),
+        heard: BusByte {
+            address: heard.address,
+            expect: protocol::follow(expect, heard.byte),
+            byte: byte_at(bytes, at),
+        },
+    }
+}
+
+// The chips follow the bytes from a turn on. How many are acknowledged in all.
+fn follow(chips: &mut [Chip], bytes: &[u8], start: Turn) -> usize
+    requires { ⌜ Ready (now chips) (now bytes) start ⌝ }
+    ensures { λ r. ⌜ r ≡ followed (now (chips .entry)) (now (bytes .entry)) start .acknowledged ⌝ }
+    ensures { λ _. ⌜ now (chips .exit) ≡ followed (now (chips .entry)) (now (bytes .entry)) start .chips ⌝ }
+{
+    let mut turn = start;
+    while turn.at < bytes.len() {
+        let found = first(chips, Question::Acknowledges(turn.heard));
+        take_all(chips, turn.heard);
+        turn = next(bytes, turn, found, chips.len());
+    }
+    turn.acknowledged
+}
+
+// ---- how a transfer begins, and what is answered
+
+// Byte 0 asks who hears it.
+fn hail(bytes: &[u8]) -> Question
+    ensures { λ r. ⌜ r ≡ Question.Hears (getD (now (bytes .entry)) 0 0) ⌝ }
+{
+    Question::Hears(byte_at(bytes, 0))
+}
+
+fn check_commands(bytes: &[u8], heard: bool) -> Check
+    ensures { λ r. ⌜ r ≡ cond heard (undefinedIn Expect.Control 1 (drop 1 (now (bytes .entry)))) Check.Passed ⌝ }
+{
+    if heard {
+        protocol::first_undefined(bytes)
+    } else {
+        Check::Passed
+    }
+}
+
+// Of `count` chips the first misfit stands at `misfit` and the first that hears at `hearer`, or else there is none.
+fn check_transfer(bytes: &[u8], count: usize, misfit: usize, hearer: usize) -> Check
+    ensures { λ r. ⌜ r ≡ checkOf (now (bytes .entry)) count misfit hearer ⌝ }
+{
+    let many = checks::unless(count <= 8, Refusal::ManyChips);
+    let fields = checks::unless(count <= misfit, Refusal::ChipField(misfit));
+    let length = checks::check_length(bytes.len());
+    let commands = check_commands(bytes, hearer < count);
+    checks::or_else(many, checks::or_else(fields, checks::or_else(length, commands)))
+}
+
+fn passes(check: Check) -> bool
+    ensures { λ r. ⌜ r ≡ passed check ⌝ }
+{
+    match check {
+        Check::Passed => true,
+        Check::Refused(_) => false,
+    }
+}
+
+fn turn_at(bytes: &[u8], at: usize, acknowledged: usize) -> Turn
+    ensures { λ r. ⌜ r ≡ turnAt (now (bytes .entry)) at acknowledged ⌝ }
+{
+    Turn {
+        at,
+        acknowledged,
+        heard: BusByte {
+            address: byte_at(bytes, 0),
+            expect: Expect::Control,
+            byte: byte_at(bytes, at),
+        },
+    }
+}
+
+// Refused or taken, and the turn from which the chips follow.
+struct Start {
+    check: Check,
+    turn: Turn,
+}
+
+// The address is acknowledged, and the chips follow from the next byte on. Of a transfer that is refused, or that none hears, nothing is left to follow.
+fn begin(bytes: &[u8], count: usize, misfit: usize, hearer: usize) -> Start
+    ensures { λ r. ⌜ r ≡ startOf (now (bytes .entry)) count misfit hearer ⌝ }
+{
+    let check = check_transfer(bytes, count, misfit, hearer);
+    if passes(check) & (hearer < count) {
+        Start {
+            check,
+            turn: turn_at(bytes, 1, 1),
+        }
+    } else {
+        Start {
+            check,
+            turn: turn_at(bytes, bytes.len(), 0),
+        }
+    }
+}
+
+fn answer(check: Check, acknowledged: usize) -> PlainAnswer
+    ensures { λ r. ⌜ r ≡ answerOf check acknowledged ⌝ }
+{
+    match check {
+        Check::Passed => PlainAnswer::Acknowledged(acknowledged),
+        Check::Refused(refusal) => PlainAnswer::Refused(refusal),
+    }
+}
+
+// A transfer, START to STOP.
+pub fn transfer(chips: &mut [Chip], bytes: &[u8]) -> PlainAnswer
+    ensures { λ r. ⌜ r ≡ plainCall 160 4 (now (chips .entry)) (now (bytes .entry)) .answer ⌝ }
+    ensures { λ _. ⌜ now (chips .exit) ≡ plainCall 160 4 (now (chips .entry)) (now (bytes .entry)) .chips ⌝ }
+{
+    let misfit = first(chips, Question::Misfit);
+    let hearer = first(chips, hail(bytes));
+    let start = begin(bytes, chips.len(), misfit, hearer);
+    let acknowledged = follow(chips, bytes, start.turn);
+    answer(start.check, acknowledged)
+}
+
+// ---- by value, for a caller that has its chips in a local
+
+pub struct Bench {
+    pub chips: [Chip; 8],
+    pub count: usize,
+}
+
+pub struct BenchTransferred {
+    pub answer: PlainAnswer,
+    pub bench: Bench,
+}
+
+// The first `count` chips take part, the others stay.
+fn transfer_first(bytes: &[u8], bench: Bench) -> BenchTransferred
+    requires { ⌜ bench .count ≤ 8 ⌝ }
+    ensures { λ r. ⌜ r ≡ firstTransferred bench (now (bytes .entry)) ⌝ }
+{
+    let count = bench.count;
+    let mut chips = bench.chips;
+    let answer = transfer(&mut chips[..count], bytes);
+    BenchTransferred {
+        answer,
+        bench: Bench { chips, count },
+    }
+}
+
+pub fn transfer_bench(bench: Bench, bytes: &[u8]) -> BenchTransferred
+    ensures { λ r. ⌜ r ≡ benchTransferred bench (now (bytes .entry)) ⌝ }
+{
+    if bench.count <= 8 {
+        transfer_first(bytes, bench)
+    } else {
+        BenchTransferred {
+            answer: PlainAnswer::Refused(Refusal::ManyChips),
+            bench,
+        }
+    }
+}
