@@ -6,13 +6,19 @@ use sheet::Chips;
 use sheet::Pictured;
 use sheet::Refusal;
 ghost use mathlib.Core.Path.{_≡_};
+ghost use mathlib.Core.Bool.{cond};
 ghost use mathlib.Core.List.{[], _∷_};
-ghost use Prim.Native.Nat.{_+_, _≤_, _<_};
+ghost use Prim.Native.Nat.{_+_, _*_, _≤_, _<_};
+ghost use lib.Dec.{eqb};
 ghost use lib.ListN.{length, getD, drop};
 ghost use Rattle.sheet.specs.Refusals.{numberOf, placeOf, numbers};
-ghost use Rattle.sheet.specs.Checks.{checkChips};
-ghost use Rattle.sheet.specs.Logs.{lengthOf, logChips, cutIn, checkLog, decimal, spaced, line};
+ghost use Rattle.sheet.specs.Commands.{powerOn};
+ghost use Rattle.sheet.specs.Checks.{chipsIn, checkChips};
+ghost use Rattle.sheet.specs.Logs.{lengthOf, logChips, cutIn, checkLog, decimal, spaced, line, transferLines, columnLines, replayed, shownAt, endLines, logStart, logLines, textOf};
+ghost use Rattle.sheet.specs.Agree.{Valid};
+ghost use Rattle.sheet.specs.Pictures.{litIn};
 ghost use Rattle.buslog.specs.Texts.{Puts};
+ghost use Rattle.buslog.specs.Replays.{stateOf, replayCall};
 ghost use Rattle.buslog.specs.Records.{recordIn, recordsFrom};
 
 // ---- writers: each writes at a place and returns the place after what it wrote
@@ -197,5 +203,200 @@ fn place_of(refusal: Refusal) -> usize
         Refusal::LogHead => 0,
         Refusal::CutRecord(at) => at,
         Refusal::LongLog => 0,
+    }
+}
+
+// ---- the text
+
+// A transfer's line.
+fn put_transfer(out: &mut [u8], at: usize, index: usize, answer: Answer) -> usize
+    requires { ⌜ at + length (line 84 (index ∷ numbers answer)) ≤ length (now out) ⌝ }
+    ensures { λ r. ⌜ Puts at (line 84 (index ∷ numbers answer)) (now (out .entry)) (now (out .exit)) r ⌝ }
+{
+    match answer {
+        Answer::Taken(t) => put_line(
+            out,
+            at,
+            b'T',
+            &[index, 0, 0, t.acknowledged, t.stored, t.discarded],
+        ),
+        Answer::Refused(refusal) => put_line(
+            out,
+            at,
+            b'T',
+            &[index, number_of(refusal), place_of(refusal), 0, 0, 0],
+        ),
+    }
+}
+
+// Where the text has come to, and the registers then.
+pub struct Played {
+    pub at: usize,
+    pub registers: Both,
+}
+
+// Carries out a log's transfers and writes a line for each.
+fn put_transfers(log: &[u8], chips: Chips, initial: Both, ram: &mut [u8], out: &mut [u8]) -> Played
+    requires { ⌜ cutIn (length (now log)) 3 (drop 3 (now log)) ≡ Check.Passed ⌝ }
+    requires { ⌜ length (transferLines chips 0 (stateOf initial (now ram)) (recordsFrom 3 (now log))) ≤ length (now out) ⌝ }
+    ensures { λ r. ⌜ stateOf (r .registers) (now (ram .exit)) ≡ replayed chips (stateOf initial (now (ram .entry))) (recordsFrom 3 (now (log .entry))) ⌝ }
+    ensures { λ r. ⌜ Puts 0 (transferLines chips 0 (stateOf initial (now (ram .entry))) (recordsFrom 3 (now (log .entry)))) (now (out .entry)) (now (out .exit)) (r .at) ⌝ }
+{
+    let mut registers = initial;
+    let mut index = 0;
+    let mut at = 0;
+    let mut cursor = Cursor { at: 3 };
+    while let Record::Body { start, size } = cursor.read(log) {
+        let end = start + size;
+        let done = long::transfer(chips, registers, ram, &log[start..end]);
+        registers = done.registers;
+        let answer = done.answer;
+        at = put_transfer(out, at, index, answer);
+        index += 1;
+        cursor = Cursor { at: end };
+    }
+    Played { at, registers }
+}
+
+// A column's line, if it is lit.
+fn put_column(out: &mut [u8], at: usize, group: usize, column: usize, value: u8) -> usize
+    requires { ⌜ at + length (cond (eqb value 0) [] (line 83 (group ∷ column ∷ value ∷ []))) ≤ length (now out) ⌝ }
+    ensures { λ r. ⌜ Puts at (cond (eqb value 0) [] (line 83 (group ∷ column ∷ value ∷ []))) (now (out .entry)) (now (out .exit)) r ⌝ }
+{
+    if value == 0 {
+        at
+    } else {
+        put_line(out, at, b'S', &[group, column, value as usize])
+    }
+}
+
+// The lines of a picture's lit columns.
+fn put_columns(out: &mut [u8], at: usize, group: usize, picture: &[u8]) -> usize
+    requires { ⌜ at + length (columnLines group 0 (now picture)) ≤ length (now out) ⌝ }
+    ensures { λ r. ⌜ Puts at (columnLines group 0 (now (picture .entry))) (now (out .entry)) (now (out .exit)) r ⌝ }
+{
+    let mut place = at;
+    let mut i = 0;
+    while i < picture.len() {
+        place = put_column(out, place, group, i, picture[i]);
+        i += 1;
+    }
+    place
+}
+
+// Where the text has come to after a group's columns, and what the group has lit.
+pub struct Listed {
+    pub at: usize,
+    pub lit: usize,
+}
+
+// The lines of a group's lit columns at phase 0.
+fn put_group(
+    chips: Chips,
+    registers: Both,
+    ram: &[u8],
+    group: u8,
+    size: usize,
+    out: &mut [u8],
+    at: usize,
+) -> Listed
+    requires { ⌜ (group < 2) × (size ≡ 160 * chipsIn group chips) × Valid 160 4 chips (stateOf registers (now ram)) ⌝ }
+    requires { ⌜ at + length (columnLines group 0 (shownAt chips (stateOf registers (now ram)) group)) ≤ length (now out) ⌝ }
+    ensures { λ r. ⌜ Puts at (columnLines group 0 (shownAt chips (stateOf registers (now (ram .entry))) group)) (now (out .entry)) (now (out .exit)) (r .at) ⌝ }
+    ensures { λ r. ⌜ r .lit ≡ litIn (shownAt chips (stateOf registers (now (ram .entry))) group) ⌝ }
+{
+    let mut picture = [0u8; 640];
+    match long::picture(chips, registers, ram, group, 0, &mut picture[..size]) {
+        Pictured::Lit(lit) => {
+            let after = put_columns(out, at, group as usize, &picture[..size]);
+            Listed { at: after, lit }
+        }
+        Pictured::Refused(_) => Listed { at, lit: 0 },
+    }
+}
+
+// The lines after the last transfer's: the lit columns of both groups, then how much each has lit.
+fn put_end(chips: Chips, registers: Both, ram: &[u8], out: &mut [u8], at: usize) -> usize
+    requires { ⌜ Valid 160 4 chips (stateOf registers (now ram)) ⌝ }
+    requires { ⌜ at + length (endLines chips (stateOf registers (now ram))) ≤ length (now out) ⌝ }
+    ensures { λ r. ⌜ Puts at (endLines chips (stateOf registers (now (ram .entry)))) (now (out .entry)) (now (out .exit)) r ⌝ }
+{
+    let zero = put_group(
+        chips,
+        registers,
+        ram,
+        0,
+        160 * (chips.zero as usize),
+        out,
+        at,
+    );
+    let one = put_group(
+        chips,
+        registers,
+        ram,
+        1,
+        160 * (chips.one as usize),
+        out,
+        zero.at,
+    );
+    let next = put_line(out, one.at, b'G', &[0, zero.lit]);
+    put_line(out, next, b'G', &[1, one.lit])
+}
+
+// A log that passed its checks, into the RAM of its chips.
+fn play(log: &[u8], chips: Chips, ram: &mut [u8], out: &mut [u8]) -> usize
+    requires { ⌜ cutIn (length (now log)) 3 (drop 3 (now log)) ≡ Check.Passed ⌝ }
+    requires { ⌜ (stateOf (record { zero = powerOn; one = powerOn }) (now ram) ≡ logStart chips) × (checkChips 4 chips ≡ Check.Passed) ⌝ }
+    requires { ⌜ length (logLines chips (recordsFrom 3 (now log))) ≤ length (now out) ⌝ }
+    ensures { λ r. ⌜ Puts 0 (logLines chips (recordsFrom 3 (now (log .entry)))) (now (out .entry)) (now (out .exit)) r ⌝ }
+{
+    let start = Both {
+        zero: command::power_on(),
+        one: command::power_on(),
+    };
+    let played = put_transfers(log, chips, start, ram, out);
+    let registers = played.registers;
+    put_end(chips, registers, ram, out, played.at)
+}
+
+// The lines of a log that passed its checks.
+fn put_log(log: &[u8], out: &mut [u8]) -> usize
+    requires { ⌜ checkLog (now log) ≡ Check.Passed ⌝ }
+    requires { ⌜ length (textOf (now log)) ≤ length (now out) ⌝ }
+    ensures { λ r. ⌜ Puts 0 (textOf (now (log .entry))) (now (out .entry)) (now (out .exit)) r ⌝ }
+{
+    let chips = chips_of(log);
+    let mut ram = [0u8; 1280];
+    let size = 160 * (chips.zero as usize + chips.one as usize);
+    play(log, chips, &mut ram[..size], out)
+}
+
+// The line of a log that is refused.
+fn put_refusal(out: &mut [u8], refusal: Refusal) -> usize
+    requires { ⌜ length (line 88 (numberOf refusal ∷ placeOf refusal ∷ [])) ≤ length (now out) ⌝ }
+    ensures { λ r. ⌜ Puts 0 (line 88 (numberOf refusal ∷ placeOf refusal ∷ [])) (now (out .entry)) (now (out .exit)) r ⌝ }
+{
+    put_line(out, 0, b'X', &[number_of(refusal), place_of(refusal)])
+}
+
+// Room for the text of any log.
+pub const TEXT: usize = 1500000;
+
+pub enum Replayed {
+    Written(usize),
+    SmallBuffer,
+}
+
+// Writes a log's text to the start of a buffer that has room for any.
+pub fn replay(log: &[u8], out: &mut [u8]) -> Replayed
+    ensures { λ _. ⌜ now (out .exit) ≡ replayCall (now (log .entry)) (now (out .entry)) .out ⌝ }
+    ensures { λ r. ⌜ r ≡ replayCall (now (log .entry)) (now (out .entry)) .result ⌝ }
+{
+    if out.len() < TEXT {
+        return Replayed::SmallBuffer;
+    }
+    match check_log(log) {
+        Check::Refused(refusal) => Replayed::Written(put_refusal(out, refusal)),
+        Check::Passed => Replayed::Written(put_log(log, out)),
     }
 }
