@@ -1,3 +1,4 @@
 pub mod Writing
 pub mod Decimals
 pub mod Records
+pub mod Playing

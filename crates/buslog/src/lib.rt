@@ -10,7 +10,7 @@ ghost use mathlib.Core.Bool.{cond};
 ghost use mathlib.Core.List.{[], _∷_};
 ghost use Prim.Native.Nat.{_+_, _*_, _≤_, _<_};
 ghost use lib.Dec.{eqb};
-ghost use lib.ListN.{length, getD, drop};
+ghost use lib.ListN.{length, getD, drop, replicate};
 ghost use Rattle.sheet.specs.Refusals.{numberOf, placeOf, numbers};
 ghost use Rattle.sheet.specs.Commands.{powerOn};
 ghost use Rattle.sheet.specs.Checks.{chipsIn, checkChips};
@@ -290,6 +290,13 @@ pub struct Listed {
     pub lit: usize,
 }
 
+// Room for a group's picture.
+fn blank_picture() -> [u8; 640]
+    ensures { λ r. ⌜ length r ≡ 640 ⌝ }
+{
+    [0; 640]
+}
+
 // The lines of a group's lit columns at phase 0.
 fn put_group(
     chips: Chips,
@@ -305,7 +312,7 @@ fn put_group(
     ensures { λ r. ⌜ Puts at (columnLines group 0 (shownAt chips (stateOf registers (now (ram .entry))) group)) (now (out .entry)) (now (out .exit)) (r .at) ⌝ }
     ensures { λ r. ⌜ r .lit ≡ litIn (shownAt chips (stateOf registers (now (ram .entry))) group) ⌝ }
 {
-    let mut picture = [0u8; 640];
+    let mut picture = blank_picture();
     match long::picture(chips, registers, ram, group, 0, &mut picture[..size]) {
         Pictured::Lit(lit) => {
             let after = put_columns(out, at, group as usize, &picture[..size]);
@@ -359,6 +366,13 @@ fn play(log: &[u8], chips: Chips, ram: &mut [u8], out: &mut [u8]) -> usize
     put_end(chips, registers, ram, out, played.at)
 }
 
+// RAM all 0, for eight chips.
+fn blank_ram() -> [u8; 1280]
+    ensures { λ r. ⌜ r ≡ replicate 1280 0 ⌝ }
+{
+    [0; 1280]
+}
+
 // The lines of a log that passed its checks.
 fn put_log(log: &[u8], out: &mut [u8]) -> usize
     requires { ⌜ checkLog (now log) ≡ Check.Passed ⌝ }
@@ -366,7 +380,7 @@ fn put_log(log: &[u8], out: &mut [u8]) -> usize
     ensures { λ r. ⌜ Puts 0 (textOf (now (log .entry))) (now (out .entry)) (now (out .exit)) r ⌝ }
 {
     let chips = chips_of(log);
-    let mut ram = [0u8; 1280];
+    let mut ram = blank_ram();
     let size = 160 * (chips.zero as usize + chips.one as usize);
     play(log, chips, &mut ram[..size], out)
 }
