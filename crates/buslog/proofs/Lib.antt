@@ -2,3 +2,4 @@ pub mod Writing
 pub mod Decimals
 pub mod Records
 pub mod Playing
+pub mod States
