@@ -52,7 +52,15 @@ module _ {at₀ : ℕ} {whole out₀ : List ℕ} {at : ℕ} {out : List ℕ} whe
   unfolding written
   done w = record { out = w .same; place = sym (add-zero at) ∙ w .ends }
 
-  -- where the whole has room, so has its next part
-  pub room : (text rest : List ℕ) → Writing at₀ whole out₀ at (text ++ rest) out → at₀ + length whole ≤ length out₀ → at + length text ≤ length out
+  -- the last part
+  pub last : {text after : List ℕ} {end : ℕ} → Writing at₀ whole out₀ at text out → Puts at text out after end → Puts at₀ whole out₀ after end
   unfolding written
-  room text rest w h = omega (arith, w .ends, ap length (w .same), length-sets out at (text ++ rest), length-sets out₀ at₀ whole, length-append text rest)
+  last {text} {after} w p = record { out = p .out ∙ w .same; place = p .place ∙ w .ends }
+
+  -- where the whole has room, so has the rest, and its next part
+  pub room-left : (rest : List ℕ) → Writing at₀ whole out₀ at rest out → at₀ + length whole ≤ length out₀ → at + length rest ≤ length out
+  unfolding written
+  room-left rest w h = omega (arith, w .ends, ap length (w .same), length-sets out at rest, length-sets out₀ at₀ whole)
+
+  pub room : (text rest : List ℕ) → Writing at₀ whole out₀ at (text ++ rest) out → at₀ + length whole ≤ length out₀ → at + length text ≤ length out
+  room text rest w h = omega (arith, room-left (text ++ rest) w h, length-append text rest)

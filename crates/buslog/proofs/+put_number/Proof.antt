@@ -7,7 +7,7 @@ use native.Mathlib.Nat.{mod-lt}
 use native.Mathlib.Omega.{arith}
 use lib.ListN.{length}
 use Rattle.sheet.specs.Logs.{decimal}
-use Rattle.buslog.proofs.Writing.{Writing, begin, rest-is, turn, done, room}
+use Rattle.buslog.proofs.Writing.{Writing, begin, rest-is, turn, last, room, room-left}
 use Rattle.buslog.proofs.Decimals.{one-digit, more-digits}
 use borrow.Fn.Kinds.{In}
 use borrow.Fn.PlainCycle.{Measures, is, falls, and}
@@ -53,14 +53,14 @@ module _ (t : ℕ) where
 
   put-digit-requires-2 : put-number-lts.Need-put-digit-requires-2 (claims t) (at-most t) put-number.Post
   put-digit-requires-2 c κs = let s = c .before .before .before .before .before .before .before in
-      (mod-lt (s .args .n) (omega arith), room ((48 + s .args .n % 10) ∷ []) [] (turn (all-digits (s .args .at) (s .args .n) (s .args .out .now) (c .before .before .before .before .before .if1 .left)) (c .before .before .before .put-number .ensures)) (s .pre .1))
+      (mod-lt (s .args .n) (omega arith), room-left ((48 + s .args .n % 10) ∷ []) (turn (all-digits (s .args .at) (s .args .n) (s .args .out .now) (c .before .before .before .before .before .if1 .left)) (c .before .before .before .put-number .ensures)) (s .pre .1))
 
   same-length-2 : put-number-lts.Need-same-length-2 (claims t) (at-most t) put-number.Post
   same-length-2 c = c .before .before .put-digit2 .kept .0 ∙ c .before .before .before .before .before .before .put-number .kept .0
 
   returns-2 : put-number-lts.Need-returns-2 (claims t) (at-most t) put-number.Post
   returns-2 c = let s = c .before .before .before .before .before .before .before .before .before .before in
-      done (turn (turn (all-digits (s .args .at) (s .args .n) (s .args .out .now) (c .before .before .before .before .before .before .before .before .if1 .left)) (c .before .before .before .before .before .before .put-number .ensures)) (c .before .before .put-digit2 .ensures))
+      last (turn (all-digits (s .args .at) (s .args .n) (s .args .out .now) (c .before .before .before .before .before .before .before .before .if1 .left)) (c .before .before .before .before .before .before .put-number .ensures)) (c .before .before .put-digit2 .ensures)
 
 pub +put-number-spec : {M : Type 1} → statement M
 +put-number-spec =
