@@ -12,7 +12,6 @@ ghost use Prim.Native.Nat.{_+_, _*_, _≤_, _<_};
 ghost use lib.Dec.{eqb};
 ghost use lib.ListN.{length, getD, drop, replicate};
 ghost use Rattle.sheet.specs.Refusals.{numberOf, placeOf, numbers};
-ghost use Rattle.sheet.specs.Commands.{powerOn};
 ghost use Rattle.sheet.specs.Checks.{chipsIn, checkChips};
 ghost use Rattle.sheet.specs.Logs.{lengthOf, logChips, cutIn, checkLog, decimal, spaced, line, transferLines, columnLines, replayed, shownAt, endLines, logStart, logLines, textOf};
 ghost use Rattle.sheet.specs.Agree.{Valid};
@@ -352,8 +351,7 @@ fn put_end(chips: Chips, registers: Both, ram: &[u8], out: &mut [u8], at: usize)
 
 // A log that passed its checks, into the RAM of its chips.
 fn play(log: &[u8], chips: Chips, ram: &mut [u8], out: &mut [u8]) -> usize
-    requires { ⌜ cutIn (length (now log)) 3 (drop 3 (now log)) ≡ Check.Passed ⌝ }
-    requires { ⌜ (stateOf (record { zero = powerOn; one = powerOn }) (now ram) ≡ logStart chips) × (checkChips 4 chips ≡ Check.Passed) ⌝ }
+    requires { ⌜ (checkChips 4 chips ≡ Check.Passed) × (cutIn (length (now log)) 3 (drop 3 (now log)) ≡ Check.Passed) × (now ram ≡ logStart chips .ram) ⌝ }
     requires { ⌜ length (logLines chips (recordsFrom 3 (now log))) ≤ length (now out) ⌝ }
     ensures { λ r. ⌜ Puts 0 (logLines chips (recordsFrom 3 (now (log .entry)))) (now (out .entry)) (now (out .exit)) r ⌝ }
 {
