@@ -2,4 +2,5 @@ pub mod Writing
 pub mod Decimals
 pub mod Records
 pub mod Playing
+pub mod Checked
 pub mod States

@@ -4,13 +4,10 @@ use mathlib.Core.Path.{_≡_, refl}
 use mathlib.Core.List.{List, [], _∷_}
 use Prim.Native.Nat.{ℕ, zero, suc, _+_, _*_, _≤_, _<_}
 use native.Mathlib.Omega.{arith}
-use lib.Dec.{leb}
 use lib.ListN.{length, getD, replicate, length-replicate}
-use borrow.Author.Tests.{lt-ltb, eq-eqb, leb-true}
-use Rattle.lemmas.proofs.Tests.{both-true}
+use borrow.Author.Tests.{lt-ltb, eq-eqb}
 use Rattle.sheet.specs.declared.Chips.{Chips}
 use Rattle.sheet.specs.declared.Check.the-variants.{Passed}
-use Rattle.sheet.specs.declared.Refusal.the-variants.{ChipCount}
 use Rattle.sheet.specs.declared.Pictured.{Pictured}
 use Rattle.sheet.specs.Commands.{powerOn}
 use Rattle.sheet.specs.Checks.{chipsIn, checkChips, checkPicture}
@@ -19,8 +16,9 @@ use Rattle.sheet.specs.Long.{State, Seen, stateAfter, pictureCall}
 use Rattle.sheet.specs.Logs.{shownAt, logStart, replayed}
 use Rattle.sheet.specs.Agree.{Valid}
 use Rattle.laws.proofs.Nibbles.{Nibbles}
-use Rattle.laws.proofs.Fits.{unless-passes, check-fits, power-on-in}
+use Rattle.laws.proofs.Fits.{check-fits, power-on-in}
 use Rattle.agreement.proofs.Demand.{pcf8532}
+use Rattle.buslog.proofs.Checked.{few-chips}
 
 blank-nibbles : (k : ℕ) → Nibbles (replicate k 0)
 blank-nibbles zero i = omega arith
@@ -29,13 +27,12 @@ blank-nibbles (suc k) (suc i) = blank-nibbles k i
 
 -- power-on, with RAM all 0
 pub start-valid : (n : Chips) → checkChips 4 n ≡ Passed → Valid 160 4 n (logStart n)
-unfolding checkChips
 start-valid n e =
-    let few = both-true (leb (n .zero) 4) (leb (n .one) 4) (unless-passes _ ChipCount e) in
+    let few = few-chips n e in
     check-fits 160 4 n (logStart n .registers) (logStart n .ram)
     (record {
-      zero-few = leb-true (n .zero) 4 (few .0);
-      one-few = leb-true (n .one) 4 (few .1);
+      zero-few = few .0;
+      one-few = few .1;
       zero-in = power-on-in 160 4 (omega arith);
       one-in = power-on-in 160 4 (omega arith);
       columns = length-replicate (160 * (n .zero + n .one)) 0;
