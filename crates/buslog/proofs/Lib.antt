@@ -4,3 +4,6 @@ pub mod Records
 pub mod Playing
 pub mod Checked
 pub mod States
+pub mod Widths
+pub mod Numbers
+pub mod Room

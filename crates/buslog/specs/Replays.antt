@@ -17,7 +17,7 @@ stateOf registers ram = record { registers = registers; ram = ram }
 
 -- room for the text of any log
 abbrev pub room : ℕ
-room = 1500000
+room = 1300000
 
 pub record ReplayedAfter : Type 0 where
   pub result : Replayed

@@ -392,7 +392,7 @@ fn put_refusal(out: &mut [u8], refusal: Refusal) -> usize
 }
 
 // Room for the text of any log.
-pub const TEXT: usize = 1500000;
+pub const TEXT: usize = 1300000;
 
 pub enum Replayed {
     Written(usize),
