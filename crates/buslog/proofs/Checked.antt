@@ -2,17 +2,19 @@
 -- Assumes nothing.
 use mathlib.Core.Path.{_≡_}
 use mathlib.Core.Bool.{_&&_}
-use mathlib.Core.List.{List}
+use mathlib.Core.List.{List, [], _∷_}
 use Prim.Native.Nat.{ℕ, _≤_}
 use lib.Dec.{eqb, leb}
 use lib.ListN.{length, getD, drop}
 use borrow.Author.Tests.{leb-true}
 use Rattle.lemmas.proofs.Tests.{both-true}
 use Rattle.sheet.specs.declared.Chips.{Chips}
-use Rattle.sheet.specs.declared.Check.the-variants.{Passed}
+use Rattle.sheet.specs.declared.Check.the-variants.{Passed, Refused}
+use Rattle.sheet.specs.declared.Refusal.{Refusal}
 use Rattle.sheet.specs.declared.Refusal.the-variants.{ChipCount, LogHead, LongLog}
+use Rattle.sheet.specs.Refusals.{numberOf, placeOf}
 use Rattle.sheet.specs.Checks.{unless, checkChips}
-use Rattle.sheet.specs.Logs.{logChips, cutIn, checkLog, logLines, textOf}
+use Rattle.sheet.specs.Logs.{logChips, cutIn, checkLog, line, logLines, textOf}
 use Rattle.laws.proofs.Fits.{both-pass, unless-passes}
 use Rattle.buslog.specs.Records.{recordsFrom}
 
@@ -39,3 +41,7 @@ few-chips n e =
 pub text-passed : (log : List ℕ) → checkLog log ≡ Passed → textOf log ≡ logLines (logChips log) (recordsFrom 3 log)
 unfolding textOf
 text-passed log e = rw e
+
+pub text-refused : (log : List ℕ) (r : Refusal) → checkLog log ≡ Refused r → textOf log ≡ line 88 (numberOf r ∷ placeOf r ∷ [])
+unfolding textOf
+text-refused log r e = rw e
