@@ -1,0 +1,47 @@
+-- What a log that passed its checks is known to be, and its text then.
+-- Assumes nothing.
+use mathlib.Core.Path.{_≡_}
+use mathlib.Core.Bool.{_&&_}
+use mathlib.Core.List.{List, [], _∷_}
+use Prim.Native.Nat.{ℕ, _≤_}
+use lib.Dec.{eqb, leb}
+use lib.ListN.{length, getD, drop}
+use borrow.Author.Tests.{leb-true}
+use Rattle.lemmas.proofs.Tests.{both-true}
+use Rattle.sheet.specs.declared.Chips.{Chips}
+use Rattle.sheet.specs.declared.Check.the-variants.{Passed, Refused}
+use Rattle.sheet.specs.declared.Refusal.{Refusal}
+use Rattle.sheet.specs.declared.Refusal.the-variants.{ChipCount, LogHead, LongLog}
+use Rattle.sheet.specs.Refusals.{numberOf, placeOf}
+use Rattle.sheet.specs.Checks.{unless, checkChips}
+use Rattle.sheet.specs.Logs.{logChips, cutIn, checkLog, line, logLines, textOf}
+use Rattle.laws.proofs.Fits.{both-pass, unless-passes}
+use Rattle.buslog.specs.Records.{recordsFrom}
+
+pub record Checked (log : List ℕ) : Type 0 where
+  pub short : length log ≤ 65536
+  pub chips : checkChips 4 (logChips log) ≡ Passed
+  pub whole : cutIn (length log) 3 (drop 3 log) ≡ Passed
+
+pub checked : (log : List ℕ) → checkLog log ≡ Passed → Checked log
+unfolding checkLog
+checked log e =
+    let long = both-pass (unless (leb (length log) 65536) LongLog) _ e in
+    let head = both-pass (unless (leb 3 (length log) && eqb (getD log 0 0) 1) LogHead) _ (long .1) in
+    let chips = both-pass (checkChips 4 (logChips log)) _ (head .1) in
+    record { short = leb-true (length log) 65536 (unless-passes _ LongLog (long .0)); chips = chips .0; whole = chips .1 }
+
+-- few chips
+pub few-chips : (n : Chips) → checkChips 4 n ≡ Passed → (n .zero ≤ 4) × (n .one ≤ 4)
+unfolding checkChips
+few-chips n e =
+    let few = both-true (leb (n .zero) 4) (leb (n .one) 4) (unless-passes _ ChipCount e) in
+    (leb-true (n .zero) 4 (few .0), leb-true (n .one) 4 (few .1))
+
+pub text-passed : (log : List ℕ) → checkLog log ≡ Passed → textOf log ≡ logLines (logChips log) (recordsFrom 3 log)
+unfolding textOf
+text-passed log e = rw e
+
+pub text-refused : (log : List ℕ) (r : Refusal) → checkLog log ≡ Refused r → textOf log ≡ line 88 (numberOf r ∷ placeOf r ∷ [])
+unfolding textOf
+text-refused log r e = rw e

@@ -1,0 +1,63 @@
+-- `buslog::Cursor::read` meets its contract: the end, a cut length field, a whole record or a cut one.
+-- Assumes nothing.
+use mathlib.Core.Path.{sym}
+use native.Mathlib.Omega.{arith}
+use Rattle.buslog.proofs.Records.{nothing-left, one-byte-left, whole-record, cut-record}
+use borrow.Author.Needs.{needs}
+use Rattle.buslog.proofs.Cursor.read.Statement.{statement}
+use Rattle.buslog.proofs.Cursor.read.Tie as tie
+
+returns : tie.Need-returns
+returns c = sym (nothing-left _ _ (c .if1 .taken))
+
+sub-if2 : tie.Need-sub-if2
+sub-if2 c = search needs
+
+returns-2 : tie.Need-returns-2
+returns-2 c = let a = c .before .before .before .args in sym (one-byte-left (a .log .now) (a .self .at) (omega arith))
+
+shared-slice-read-length-of : tie.Need-shared-slice-read-length-of
+shared-slice-read-length-of c = search needs
+
+add-length-of : tie.Need-add-length-of
+add-length-of c = search needs
+
+shared-slice-read-length-of-2 : tie.Need-shared-slice-read-length-of-2
+shared-slice-read-length-of-2 c = search needs
+
+length-of-requires : tie.Need-length-of-requires
+length-of-requires c κs = search needs
+
+sub-if3 : tie.Need-sub-if3
+sub-if3 c = search needs
+
+sub-if3-2 : tie.Need-sub-if3-2
+sub-if3-2 c = search needs
+
+add-t14 : tie.Need-add-t14
+add-t14 c = search needs
+
+returns-3 : tie.Need-returns-3
+returns-3 c = let a = c .before .before .before .before .before .before .before .args in
+    sym (whole-record (a .log .now) (a .self .at) (c .before .length-of .result) (c .before .length-of .ensures) (omega arith) (c .if3 .taken))
+
+returns-4 : tie.Need-returns-4
+returns-4 c = let a = c .before .before .before .before .before .before .before .args in
+    sym (cut-record (a .log .now) (a .self .at) (c .before .length-of .result) (c .before .length-of .ensures) (omega arith) (c .if3 .left))
+
+pub read-spec : {M : Type 1} → statement M
+read-spec =
+    tie.close
+    (tie.spec
+    returns
+    sub-if2
+    returns-2
+    shared-slice-read-length-of
+    add-length-of
+    shared-slice-read-length-of-2
+    length-of-requires
+    sub-if3
+    sub-if3-2
+    add-t14
+    returns-3
+    returns-4)

@@ -1,0 +1,9 @@
+pub mod Writing
+pub mod Decimals
+pub mod Records
+pub mod Playing
+pub mod Checked
+pub mod States
+pub mod Widths
+pub mod Numbers
+pub mod Room

@@ -1,0 +1,128 @@
+-- The numbers of answers and refusals are below 100,000.
+-- Assumes nothing.
+use mathlib.Core.Path.{_≡_, refl, sym, ap, subst, _∙_}
+use mathlib.Core.Bool.{Bool, true, false, cond, _&&_, not}
+use mathlib.Core.List.{List, [], _∷_}
+use Prim.Native.Nat.{ℕ, zero, suc, _+_, _-_, _*_, _≤_, _<_}
+use native.Mathlib.Omega.{arith}
+use lib.Dec.{leb, ltb, eqb}
+use lib.ListN.{length, getD, drop, length-drop}
+use Rattle.sheet.specs.declared.Both.{Both}
+use Rattle.sheet.specs.declared.Registers.{Registers}
+use Rattle.sheet.specs.declared.Chips.{Chips}
+use Rattle.sheet.specs.declared.Addressed.{Addressed}
+use Rattle.sheet.specs.declared.Addressed.the-variants.{To, Nobody}
+use Rattle.sheet.specs.declared.Expect.{Expect}
+use Rattle.sheet.specs.declared.Expect.the-variants.{Control}
+use Rattle.sheet.specs.declared.Refusal.{Refusal}
+use Rattle.sheet.specs.declared.Refusal.the-variants.{EmptyTransfer, LongTransfer, ChipCount, LogHead, CutRecord, LongLog}
+use Rattle.sheet.specs.declared.Check.{Check}
+use Rattle.sheet.specs.declared.Check.the-variants.{Passed, Refused}
+use Rattle.sheet.specs.Refusals.{numberOf, placeOf, numbers}
+use Rattle.sheet.specs.Commands.{commandOf, defined}
+use Rattle.sheet.specs.Protocol.{heardBy, next, isCommand, undefinedIn}
+use Rattle.sheet.specs.Checks.{unless, orElse, checkChips, checkLength, checkCommands, checkState, checkTransfer}
+use Rattle.sheet.specs.Long.{State, Group, After, byte, heard, acknowledged, nothing, taken, answered, transferCall, registersOf, partOf}
+use Rattle.sheet.specs.Logs.{lengthOf, logChips, cutIn, checkLog}
+use Rattle.sheet.specs.Agree.{Valid}
+use Rattle.laws.proofs.Ranges.{InRange}
+use Rattle.laws.proofs.Fits.{Fits, fits-of, both-pass, unless-passes}
+use Rattle.protocol.specs.declared.Listener.{Listener}
+use Rattle.protocol.specs.Listeners.{groupOf, listenerOf, begun}
+use Rattle.protocol.proofs.Hearing.{Sound, Hearing, byte-turn, at-end}
+use Rattle.long.proofs.Parts.{part-in, transfer-passed}
+use borrow.Author.Tests.{leb-true}
+use Rattle.buslog.proofs.Widths.{Small}
+
+-- ---- refusals
+
+-- a check's refusal, if it is one
+abbrev pub Few : Check → Type 0
+Few Passed = Unit {0}
+Few (Refused r) = Small (numberOf r ∷ placeOf r ∷ [])
+
+-- a test's refusal, or else the next check
+first : (t : Bool) (r : Refusal) (next : Check) → Small (numberOf r ∷ placeOf r ∷ []) → (t ≡ true → Few next) → Few (orElse (unless t r) next)
+first true r next s f = f refl
+first false r next s f = s
+
+-- a test picks one of two
+by-test : (t : Bool) (a b : Check) → (t ≡ true → Few a) → Few b → Few (cond t a b)
+by-test true a b fa fb = fa refl
+by-test false a b fa fb = fb
+
+-- the place of an undefined command, of bytes from place i on
+undefined-few : (e : Expect) (i : ℕ) (xs : List ℕ) → i + length xs ≤ 99999 → Few (undefinedIn e i xs)
+unfolding undefinedIn
+undefined-few e i [] h = tt
+undefined-few e i (x ∷ xs) h =
+    by-test (isCommand e && not (defined (commandOf x))) _ _ (λ e. omega arith) (undefined-few (next e x) (suc i) xs (omega arith))
+
+-- the place of a record that is cut short
+cut-few : (k at : ℕ) (rest : List ℕ) → at + length rest ≤ 99999 → Few (cutIn k at rest)
+unfolding cutIn
+cut-few zero at rest h = tt
+cut-few (suc k) at [] h = tt
+cut-few (suc k) at (b ∷ []) h = omega arith
+cut-few (suc k) at (b ∷ l ∷ rest) h =
+    by-test (leb (lengthOf b l) (length rest)) _ _
+    (λ e. cut-few k (at + 2 + lengthOf b l) (drop (lengthOf b l) rest) (omega (arith, leb-true (lengthOf b l) (length rest) e, length-drop (lengthOf b l) rest)))
+    (omega arith)
+
+pub log-few : (log : List ℕ) → Few (checkLog log)
+unfolding checkLog checkChips
+log-few log =
+    first (leb (length log) 65536) LongLog _ (omega arith)
+    (λ e. first (leb 3 (length log) && eqb (getD log 0 0) 1) LogHead _ (omega arith)
+    (λ _. first (leb (getD log 1 0) 4 && leb (getD log 2 0) 4) ChipCount _ (omega arith)
+    (λ _. cut-few (length log) 3 (drop 3 log) (omega (arith, leb-true (length log) 65536 e, length-drop 3 log)))))
+
+-- ---- transfers
+
+-- what a group has counted after a transfer's bytes
+counted-few : (k : ℕ) (ram₀ bytes : List ℕ) (r : Registers) (ram : List ℕ) (l : Listener) (i : ℕ) → i + k ≡ length bytes → Hearing ram₀ bytes r ram l i
+    → Sound (heard 160 4 Control (drop 1 bytes) (begun r ram₀)) (length bytes) (length ram₀)
+counted-few zero ram₀ bytes r ram l i e h =
+    subst (λ (g : Group). Sound g (length bytes) (length ram₀)) (sym (at-end (l .expect) bytes i (omega arith) (groupOf l ram)) ∙ h .rest)
+    (subst (λ (n : ℕ). Sound (groupOf l ram) n (length ram₀)) {x = i} (omega arith) (h .sound))
+counted-few (suc k) ram₀ bytes r ram l i e h =
+    let x = getD bytes i 0 in
+    let g = byte 160 4 (l .expect) x (groupOf l ram) in
+    counted-few k ram₀ bytes r (g .ram) (listenerOf (next (l .expect) x) g) (i + 1) (omega arith)
+    (byte-turn ram₀ bytes r ram l i (omega arith) h (l .expect) refl (g .ram) (listenerOf (next (l .expect) x) g) refl refl)
+
+-- a group that hears a transfer of 4,096 bytes at most
+pub heard-few : (ram bytes : List ℕ) (r : Registers) → InRange 160 4 r → 0 < length bytes → length bytes < 4097
+    → Small (0 ∷ 0 ∷ heard 160 4 Control (drop 1 bytes) (begun r ram) .counts .acknowledged ∷ heard 160 4 Control (drop 1 bytes) (begun r ram) .counts .stored ∷ heard 160 4 Control (drop 1 bytes) (begun r ram) .counts .discarded ∷ [])
+heard-few ram bytes r range some few =
+    let h : Hearing ram bytes r ram (listenerOf Control (begun r ram)) 1 = record { rest = refl; sound = record { range = range; acknowledged = omega arith; bits = omega arith; long = refl }; most = omega arith } in
+    let s = counted-few (length bytes - 1) ram bytes r ram (listenerOf Control (begun r ram)) 1 (omega arith) h in
+    omega arith
+
+module _ (n : Chips) (s : State) (bytes : List ℕ) (v : Valid 160 4 n s) (short : length bytes ≤ 65536) where
+  transfer-refused : Few (checkTransfer 160 4 n (s .registers) (s .ram) bytes)
+  unfolding checkTransfer checkLength
+  transfer-refused = rw v (lengths (ltb 0 (length bytes)) (leb (length bytes) 4096))
+    where
+      commands : (to : Addressed) → Few (checkCommands to bytes)
+      commands (To g) = undefined-few Control 1 (drop 1 bytes) (omega (arith, length-drop 1 bytes))
+      commands Nobody = tt
+
+      lengths : (t u : Bool) → Few (orElse (orElse (unless t EmptyTransfer) (unless u LongTransfer)) (checkCommands (heardBy n (getD bytes 0 0)) bytes))
+      lengths true true = commands (heardBy n (getD bytes 0 0))
+      lengths true false = omega arith
+      lengths false u = omega arith
+
+  transfer-taken : checkTransfer 160 4 n (s .registers) (s .ram) bytes ≡ Passed → (to : Addressed) → Small (numbers (taken 160 4 n (s .registers) (s .ram) bytes to .result .answer))
+  transfer-taken e (To g) =
+      let p = transfer-passed n (s .registers) (s .ram) bytes e in
+      heard-few (partOf 160 n g (s .ram)) bytes (registersOf g (s .registers)) (part-in n (s .registers) (s .ram) g (fits-of 160 4 n (s .registers) (s .ram) v)) (p .1 .0) (p .1 .1)
+  transfer-taken e Nobody = omega arith
+
+  pub transfer-few : Small (numbers (transferCall 160 4 n (s .registers) (s .ram) bytes .result .answer))
+  unfolding transferCall
+  transfer-few = by-check (checkTransfer 160 4 n (s .registers) (s .ram) bytes) refl transfer-refused
+    where
+      by-check : (k : Check) → checkTransfer 160 4 n (s .registers) (s .ram) bytes ≡ k → Few k → Small (numbers (answered k (s .registers) (s .ram) (taken 160 4 n (s .registers) (s .ram) bytes (heardBy n (getD bytes 0 0))) .result .answer))
+      by-check Passed e f = transfer-taken e (heardBy n (getD bytes 0 0))
+      by-check (Refused r) e f = (f .0, (f .1 .0, (omega arith, (omega arith, (omega arith, tt)))))

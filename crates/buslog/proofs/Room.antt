@@ -1,0 +1,145 @@
+-- There is room for the text of any log: at most 32,768 transfer lines of 38 bytes, 1,280 column lines of 20 and two group lines of 14; or a refusal's line.
+-- Assumes nothing.
+use mathlib.Core.Path.{_≡_, refl}
+use mathlib.Core.Bool.{Bool, true, false, cond}
+use mathlib.Core.List.{List, [], _∷_, _++_, map}
+use Prim.Native.Nat.{ℕ, zero, suc, _+_, _*_, _/_, _%_, _^_, _≤_, _<_}
+use native.Mathlib.Nat.{div-le-self, mod-le}
+use native.Mathlib.Omega.{arith}
+use lib.Count.{ones, ones-le}
+use lib.Dec.{eqb}
+use lib.ListN.{length, getD, take, drop, length-append, length-drop, length-take, length-map}
+use Rattle.sheet.specs.declared.Answer.{Answer}
+use Rattle.sheet.specs.declared.Chips.{Chips}
+use Rattle.sheet.specs.declared.Shown.{Shown}
+use Rattle.sheet.specs.declared.Shown.the-variants.{Dark, Rows}
+use Rattle.sheet.specs.declared.Check.{Check}
+use Rattle.sheet.specs.declared.Check.the-variants.{Passed, Refused}
+use Rattle.sheet.specs.Refusals.{numberOf, placeOf, numbers}
+use Rattle.sheet.specs.Commands.{backplanes}
+use Rattle.sheet.specs.Pictures.{shown, lit, pictureOf, litIn}
+use Rattle.sheet.specs.Long.{State, stateAfter, transferCall, registersOf, partOf, startOf}
+use Rattle.sheet.specs.Checks.{chipsIn}
+use Rattle.sheet.specs.Logs.{lengthOf, logChips, recordsIn, checkLog, line, transferLines, columnLines, shownAt, endLines, logStart, logLines, replayed, textBy, textOf}
+use Rattle.sheet.specs.Agree.{Valid}
+use Rattle.laws.proofs.Nibbles.{Nibbles, take-nibbles, drop-nibbles}
+use Rattle.laws.proofs.Fits.{fits-of}
+use Rattle.agreement.proofs.Demand.{pcf8532}
+use Rattle.long.proofs.Parts.{part-few, part-long}
+use Rattle.buslog.specs.Records.{recordsFrom}
+use Rattle.buslog.specs.Replays.{room}
+use Rattle.buslog.proofs.Widths.{Small, line-few}
+use Rattle.buslog.proofs.Numbers.{Few, log-few, transfer-few}
+use Rattle.buslog.proofs.Checked.{checked}
+use Rattle.buslog.proofs.States.{start-valid, replayed-valid}
+
+-- ---- transfers
+
+-- a record has two bytes at least
+records-few : (k : ℕ) (rest : List ℕ) → 2 * length (recordsIn k rest) ≤ length rest
+unfolding recordsIn
+records-few zero rest = omega arith
+records-few (suc k) [] = omega arith
+records-few (suc k) (h ∷ []) = omega arith
+records-few (suc k) (h ∷ l ∷ rest) = omega (arith, records-few k (drop (lengthOf h l) rest), length-drop (lengthOf h l) rest)
+
+-- and no more than the log
+abbrev Short : List (List ℕ) → Type 0
+Short [] = Unit {0}
+Short (t ∷ ts) = (length t ≤ 65536) × Short ts
+
+records-short : (k : ℕ) (rest : List ℕ) → length rest ≤ 65536 → Short (recordsIn k rest)
+unfolding recordsIn
+records-short zero rest h = tt
+records-short (suc k) [] h = tt
+records-short (suc k) (b ∷ []) h = tt
+records-short (suc k) (b ∷ l ∷ rest) h =
+    (omega (arith, length-take (lengthOf b l) rest), records-short k (drop (lengthOf b l) rest) (omega (arith, length-drop (lengthOf b l) rest)))
+
+five : (a : Answer) → length (numbers a) ≡ 5
+five (Answer.Taken t) = refl
+five (Answer.Refused r) = refl
+
+transfers-few : (n : Chips) (i : ℕ) (s : State) (ts : List (List ℕ)) → Valid 160 4 n s → Short ts → i + length ts ≤ 99999 → length (transferLines n i s ts) ≤ 38 * length ts
+unfolding transferLines
+transfers-few n i s [] v short h = omega arith
+transfers-few n i s (t ∷ ts) v short h =
+    let a = transferCall 160 4 n (s .registers) (s .ram) t .result .answer in
+    let after = stateAfter 160 4 n s t in
+    omega (arith, length-append (line 84 (i ∷ numbers a)) (transferLines n (suc i) after ts), line-few 84 (i ∷ numbers a) (omega arith, transfer-few n s t v (short .0)), five a, transfers-few n (suc i) after ts (pcf8532 .transfer n s t v .valid) (short .1) (omega arith))
+
+-- ---- pictures
+
+lit-le : (m q : ℕ) (s : Shown) → lit m s q ≤ q
+lit-le m q Dark = omega arith
+lit-le m q (Rows b) = omega (arith, mod-le (q / 2 ^ b) (2 ^ m), div-le-self q (2 ^ b))
+
+picture-nibbles : (m : ℕ) (s : Shown) (ram : List ℕ) → Nibbles ram → Nibbles (map (lit m s) ram)
+picture-nibbles m s [] w i = omega arith
+picture-nibbles m s (q ∷ qs) w zero = omega (arith, lit-le m q s, w 0)
+picture-nibbles m s (q ∷ qs) w (suc i) = picture-nibbles m s qs (λ j. w (suc j)) i
+
+lit-few : (picture : List ℕ) → Nibbles picture → litIn picture ≤ 4 * length picture
+unfolding litIn
+lit-few [] w = omega arith
+lit-few (q ∷ qs) w = omega (arith, ones-le 4 q (w 0), lit-few qs (λ j. w (suc j)))
+
+columns-few : (g c : ℕ) (picture : List ℕ) → g < 2 → c + length picture ≤ 99999 → Nibbles picture → length (columnLines g c picture) ≤ 20 * length picture
+unfolding columnLines
+columns-few g c [] hg h w = omega arith
+columns-few g c (q ∷ qs) hg h w =
+    omega (arith, length-append (cond (eqb q 0) [] (line 83 (g ∷ c ∷ q ∷ []))) (columnLines g (suc c) qs), one (eqb q 0), columns-few g (suc c) qs hg (omega arith) (λ j. w (suc j)))
+  where
+    one : (t : Bool) → length (cond t [] (line 83 (g ∷ c ∷ q ∷ []))) ≤ 20
+    one true = omega arith
+    one false = omega (arith, line-few 83 (g ∷ c ∷ q ∷ []) (omega (arith, w 0)))
+
+module _ (n : Chips) (s : State) (v : Valid 160 4 n s) where
+  shown-nibbles : (g : ℕ) → Nibbles (shownAt n s g)
+  unfolding pictureOf
+  shown-nibbles g =
+      let r = registersOf g (s .registers) in
+      picture-nibbles (backplanes r) (shown r 0) (partOf 160 n g (s .ram)) (take-nibbles (160 * chipsIn g n) (drop (startOf 160 n g) (s .ram)) (drop-nibbles (startOf 160 n g) (s .ram) (fits-of 160 4 n (s .registers) (s .ram) v .nibbles)))
+
+  shown-few : (g : ℕ) → length (shownAt n s g) ≤ 640
+  unfolding pictureOf
+  shown-few g =
+      let f = fits-of 160 4 n (s .registers) (s .ram) v in
+      let r = registersOf g (s .registers) in
+      omega (arith, length-map (partOf 160 n g (s .ram)) (lit (backplanes r) (shown r 0)), part-long n (s .registers) (s .ram) g f, part-few n (s .registers) (s .ram) g f)
+
+  group-few : (g : ℕ) → g < 2 → (length (columnLines g 0 (shownAt n s g)) ≤ 12800) × (length (line 71 (g ∷ litIn (shownAt n s g) ∷ [])) ≤ 14)
+  group-few g h =
+      let size = shown-few g in
+      let count = lit-few (shownAt n s g) (shown-nibbles g) in
+      (omega (arith, columns-few g 0 (shownAt n s g) h (omega arith) (shown-nibbles g)), omega (arith, line-few 71 (g ∷ litIn (shownAt n s g) ∷ []) (omega arith)))
+
+  end-few : length (endLines n s) ≤ 25628
+  end-few =
+      let columns-zero = columnLines 0 0 (shownAt n s 0) in
+      let columns-one = columnLines 1 0 (shownAt n s 1) in
+      let line-zero = line 71 (0 ∷ litIn (shownAt n s 0) ∷ []) in
+      let line-one = line 71 (1 ∷ litIn (shownAt n s 1) ∷ []) in
+      let zero-few = group-few 0 (omega arith) in
+      let one-few = group-few 1 (omega arith) in
+      omega (arith, length-append columns-zero (columns-one ++ (line-zero ++ line-one)), length-append columns-one (line-zero ++ line-one), length-append line-zero line-one)
+
+-- ---- a log's text
+
+lines-few : (log : List ℕ) → checkLog log ≡ Passed → length (logLines (logChips log) (recordsFrom 3 log)) ≤ room
+lines-few log e =
+    let c = checked log e in
+    let n = logChips log in
+    let ts = recordsFrom 3 log in
+    let v = start-valid n (c .chips) in
+    let shorter : length (drop 3 log) ≤ 65536 = omega (arith, length-drop 3 log) in
+    let few = records-few (length log) (drop 3 log) in
+    omega (arith, length-append (transferLines n 0 (logStart n) ts) (endLines n (replayed n (logStart n) ts)), transfers-few n 0 (logStart n) ts v (records-short (length log) (drop 3 log) shorter) (omega arith), end-few n (replayed n (logStart n) ts) (replayed-valid n (logStart n) ts v))
+
+pub text-few : (log : List ℕ) → length (textOf log) ≤ room
+unfolding textOf
+text-few log = by-check (checkLog log) refl (log-few log)
+  where
+    by-check : (k : Check) → checkLog log ≡ k → Few k → length (textBy k (logChips log) (recordsFrom 3 log)) ≤ room
+    by-check Passed e f = lines-few log e
+    by-check (Refused r) e f = omega (arith, line-few 88 (numberOf r ∷ placeOf r ∷ []) f)

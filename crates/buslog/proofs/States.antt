@@ -1,0 +1,54 @@
+-- No call refuses a state that a replay comes to, so every picture of it is shown.
+-- Assumes nothing.
+use mathlib.Core.Path.{_≡_, refl}
+use mathlib.Core.List.{List, [], _∷_}
+use Prim.Native.Nat.{ℕ, zero, suc, _+_, _*_, _≤_, _<_}
+use native.Mathlib.Omega.{arith}
+use lib.ListN.{length, getD, replicate, length-replicate}
+use borrow.Author.Tests.{lt-ltb, eq-eqb}
+use Rattle.sheet.specs.declared.Chips.{Chips}
+use Rattle.sheet.specs.declared.Check.the-variants.{Passed}
+use Rattle.sheet.specs.declared.Pictured.{Pictured}
+use Rattle.sheet.specs.Commands.{powerOn}
+use Rattle.sheet.specs.Checks.{chipsIn, checkChips, checkPicture}
+use Rattle.sheet.specs.Pictures.{litIn}
+use Rattle.sheet.specs.Long.{State, Seen, stateAfter, pictureCall}
+use Rattle.sheet.specs.Logs.{shownAt, logStart, replayed}
+use Rattle.sheet.specs.Agree.{Valid}
+use Rattle.laws.proofs.Nibbles.{Nibbles}
+use Rattle.laws.proofs.Fits.{check-fits, power-on-in}
+use Rattle.agreement.proofs.Demand.{pcf8532}
+use Rattle.buslog.proofs.Checked.{few-chips}
+
+blank-nibbles : (k : ℕ) → Nibbles (replicate k 0)
+blank-nibbles zero i = omega arith
+blank-nibbles (suc k) zero = omega arith
+blank-nibbles (suc k) (suc i) = blank-nibbles k i
+
+-- power-on, with RAM all 0
+pub start-valid : (n : Chips) → checkChips 4 n ≡ Passed → Valid 160 4 n (logStart n)
+start-valid n e =
+    let few = few-chips n e in
+    check-fits 160 4 n (logStart n .registers) (logStart n .ram)
+    (record {
+      zero-few = few .0;
+      one-few = few .1;
+      zero-in = power-on-in 160 4 (omega arith);
+      one-in = power-on-in 160 4 (omega arith);
+      columns = length-replicate (160 * (n .zero + n .one)) 0;
+      nibbles = blank-nibbles (160 * (n .zero + n .one));
+    })
+
+pub replayed-valid : (n : Chips) (s : State) (ts : List (List ℕ)) → Valid 160 4 n s → Valid 160 4 n (replayed n s ts)
+unfolding replayed
+replayed-valid n s [] v = v
+replayed-valid n s (t ∷ ts) v = replayed-valid n (stateAfter 160 4 n s t) ts (pcf8532 .transfer n s t v .valid)
+
+-- what is seen of a valid state: the group's picture
+abbrev pub seenAt : Chips → State → ℕ → Seen
+seenAt n s g = record { result = Pictured.Lit (litIn (shownAt n s g)); out = shownAt n s g }
+
+pub shown-valid : (n : Chips) (s : State) (g : ℕ) (out : List ℕ) → g < 2 → length out ≡ 160 * chipsIn g n → Valid 160 4 n s
+    → pictureCall 160 4 n (s .registers) (s .ram) g 0 out ≡ seenAt n s g
+unfolding pictureCall checkPicture
+shown-valid n s g out h e v = rw (v, lt-ltb g 2 h, eq-eqb (length out) (160 * chipsIn g n) e)

@@ -1,0 +1,92 @@
+-- `buslog::put_log` meets its contract: the RAM of the log's chips is a part of an array of zeros.
+-- Assumes nothing.
+use mathlib.Core.Path.{_≡_, refl, sym, ap, subst, _∙_}
+use mathlib.Core.List.{List, _∷_}
+use Prim.Native.Nat.{ℕ, zero, suc, _+_, _*_, _≤_}
+use native.Mathlib.Nat.{le-of-suc-le-suc}
+use native.Mathlib.Omega.{arith}
+use lib.ListN.{length, take, replicate, length-replicate}
+use lib.Seq.{length-take-le}
+use Rattle.sheet.specs.declared.Chips.{Chips}
+use Rattle.sheet.specs.declared.Check.the-variants.{Passed}
+use Rattle.sheet.specs.Checks.{checkChips}
+use Rattle.sheet.specs.Logs.{logLines, textOf}
+use Rattle.buslog.specs.Records.{recordsFrom}
+use Rattle.buslog.proofs.Checked.{checked, few-chips, text-passed}
+use borrow.Author.Needs.{needs}
+use Rattle.buslog.proofs.put_log.Statement.{statement}
+use Rattle.buslog.proofs.put_log.Tie as tie
+
+-- a part of a list of zeros
+zeros : (k n : ℕ) → k ≤ n → take {A = ℕ} k (replicate n 0) ≡ replicate k 0
+zeros zero n h = refl
+zeros (suc k) zero h = absurd (omega arith)
+zeros (suc k) (suc n) h = ap (λ (l : List ℕ). 0 ∷ l) (zeros k n (le-of-suc-le-suc h))
+
+-- the chips passed their check
+chips : (c : tie.After-chips-of) → checkChips 4 (c .chips-of .result) ≡ Passed
+chips c = let s = c .before .before .before in rw (c .chips-of .ensures) (checked (s .args .log .now) (s .pre .0) .chips)
+
+-- so their columns are at most those of the array
+few : (c : tie.After-blank-ram) → let n = c .before .chips-of .result in 160 * (n .zero + n .one) ≤ 1280
+few c = let h = few-chips (c .before .chips-of .result) (chips (c .before)) in omega arith
+
+small : (c : tie.After-blank-ram) → let n = c .before .chips-of .result in 160 * (n .zero + n .one) ≤ length (c .blank-ram .result)
+small c = omega (arith, few c, ap length (c .blank-ram .ensures), length-replicate {A = ℕ} 1280 0)
+
+-- the text
+lines : (c : tie.After-chips-of) → let s = c .before .before .before in textOf (s .args .log .now) ≡ logLines (c .chips-of .result) (recordsFrom 3 (s .args .log .now))
+lines c = let s = c .before .before .before in text-passed (s .args .log .now) (s .pre .0) ∙ ap (λ (n : Chips). logLines n (recordsFrom 3 (s .args .log .now))) (sym (c .chips-of .ensures))
+
+chips-of-requires : tie.Need-chips-of-requires
+chips-of-requires c κs = search needs
+
+blank-ram-requires : tie.Need-blank-ram-requires
+blank-ram-requires c κs = search needs
+
+cast-size : tie.Need-cast-size
+cast-size c = search needs
+
+cast-size-2 : tie.Need-cast-size-2
+cast-size-2 c = search needs
+
+add-size : tie.Need-add-size
+add-size c = search needs
+
+mul-size : tie.Need-mul-size
+mul-size c = search needs
+
+array-borrow-prefix-ram : tie.Need-array-borrow-prefix-ram
+array-borrow-prefix-ram c = small (c .before .before)
+
+slice-aggregate-play : tie.Need-slice-aggregate-play
+slice-aggregate-play c = sym (length-take-le _ _ (small (c .before .before .before)))
+
+play-requires : tie.Need-play-requires
+play-requires c κs = let s = c .before .before .before .before .before .before .before .before in
+    let d = c .before .before .before .before in
+    let n = d .before .chips-of .result in
+    let ram : take (160 * (n .zero + n .one)) (d .blank-ram .result) ≡ replicate (160 * (n .zero + n .one)) 0 = ap (take (160 * (n .zero + n .one))) (d .blank-ram .ensures) ∙ zeros (160 * (n .zero + n .one)) 1280 (few d) in
+    ((chips (d .before), checked (s .args .log .now) (s .pre .0) .whole, ram), subst (λ (l : List ℕ). length l ≤ length (s .args .out .now)) (lines (d .before)) (s .pre .1))
+
+same-length : tie.Need-same-length
+same-length c = search needs
+
+returns : tie.Need-returns
+returns c = rw (lines (c .before .before .before .before .before .before .before .before .before)) (c .before .before .before .play .ensures)
+
+pub put-log-spec : {M : Type 1} → statement M
+put-log-spec =
+    tie.close
+    (tie.spec
+    chips-of-requires
+    blank-ram-requires
+    cast-size
+    cast-size-2
+    add-size
+    mul-size
+    array-borrow-prefix-ram
+    slice-aggregate-play
+    play-requires
+    same-length
+    returns)

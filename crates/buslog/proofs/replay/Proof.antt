@@ -1,0 +1,84 @@
+-- `buslog::replay` meets its contract: too small a buffer, a refused log's line, or a log's lines.
+-- Assumes nothing.
+use mathlib.Core.Path.{_≡_, refl, sym, ap, subst, _∙_}
+use mathlib.Core.List.{List, _++_}
+use Prim.Native.Nat.{ℕ, _≤_}
+use native.Mathlib.Nat.{zero-add}
+use native.Mathlib.Omega.{arith}
+use lib.ListN.{length, drop}
+use lib.Seq.{sets-eq}
+use borrow.Author.Tests.{lt-ltb, le-ltb}
+use Rattle.sheet.specs.Logs.{textOf}
+use Rattle.buslog.specs.declared.Replayed.the-variants.{Written}
+use Rattle.buslog.specs.Texts.{written, Puts}
+use Rattle.buslog.specs.Replays.{room, replayCall}
+use Rattle.buslog.proofs.Checked.{text-passed, text-refused}
+use Rattle.buslog.proofs.Room.{text-few}
+use borrow.Author.Needs.{needs}
+use Rattle.buslog.proofs.replay.Statement.{statement}
+use Rattle.buslog.proofs.replay.Tie as tie
+
+-- a text written from the start of a buffer that has room for it
+at-start : (text out after : List ℕ) (end : ℕ) → length text ≤ length out → Puts 0 text out after end → (after ≡ text ++ drop (length text) out) × (end ≡ length text)
+unfolding written
+at-start text out after end h p =
+    (p .out ∙ sets-eq text out 0 (omega arith) ∙ ap (λ (k : ℕ). text ++ drop k out) (zero-add (length text)), p .place ∙ zero-add (length text))
+
+-- is what a replay leaves
+whole : (log out after : List ℕ) (end : ℕ) → room ≤ length out → Puts 0 (textOf log) out after end → (after ≡ replayCall log out .out) × (Written end ≡ replayCall log out .result)
+unfolding replayCall
+whole log out after end h p =
+    let s = at-start (textOf log) out after end (omega (arith, text-few log)) p in
+    rw (le-ltb (length out) room h) (s .0, ap Written (s .1))
+
+returns : tie.Need-returns
+unfolding replayCall
+returns c = rw (lt-ltb (length (c .before .before .before .args .out .now)) room (c .if1 .taken)) (refl, refl)
+
+check-log-requires : tie.Need-check-log-requires
+check-log-requires c κs = search needs
+
+enum-known-refusal : tie.Need-enum-known-refusal
+enum-known-refusal c = search needs
+
+put-refusal-requires : tie.Need-put-refusal-requires
+put-refusal-requires c κs = let a = c .before .before .before .before .before .before .before .before .args in
+    let e = text-refused (a .log .now) _ (sym (c .before .before .before .before .check-log .ensures) ∙ c .before .before .refusal .given .1) in
+    omega (arith, ap length e, text-few (a .log .now), c .before .before .before .before .before .if1 .left)
+
+enum-told : tie.Need-enum-told
+enum-told c = search needs
+
+put-log-requires : tie.Need-put-log-requires
+put-log-requires c κs = let a = c .before .before .before .before .before .before .before .args in
+    let enough : length (textOf (a .log .now)) ≤ length (a .out .now) = omega (arith, text-few (a .log .now), c .before .before .before .before .if1 .left) in
+    (sym (c .before .before .before .check-log .ensures) ∙ c .before .enum-told .given .1, enough)
+
+same-length : tie.Need-same-length
+same-length c = search needs
+
+returns-2 : tie.Need-returns-2
+returns-2 c = let a = c .before .before .before .before .before .before .before .before .before .before .before .args in
+    whole (a .log .now) (a .out .now) _ _ (c .before .before .before .before .before .before .before .before .if1 .left) (rw (text-refused (a .log .now) _ (sym (c .before .before .before .before .before .before .before .check-log .ensures) ∙ c .before .before .before .before .before .refusal .given .1)) (c .before .before .put-refusal .ensures))
+
+same-length-2 : tie.Need-same-length-2
+same-length-2 c = search needs
+
+returns-3 : tie.Need-returns-3
+returns-3 c = let a = c .before .before .before .before .before .before .before .before .before .before .args in
+    whole (a .log .now) (a .out .now) _ _ (c .before .before .before .before .before .before .before .if1 .left) (c .before .before .put-log .ensures)
+
+pub replay-spec : {M : Type 1} → statement M
+replay-spec =
+    tie.close
+    (tie.spec
+    returns
+    check-log-requires
+    enum-known-refusal
+    put-refusal-requires
+    enum-told
+    put-log-requires
+    same-length
+    returns-2
+    same-length-2
+    returns-3)
