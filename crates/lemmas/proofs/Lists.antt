@@ -1,11 +1,11 @@
 -- Parts of a list as the code takes them: the elements from i on, one of them, and all that are left.
 -- Assumes nothing.
-use mathlib.Core.Path.{_≡_, ap, _∙_}
+use mathlib.Core.Path.{_≡_, sym, ap, _∙_}
 use mathlib.Core.List.{List, [], _∷_, _++_, append-nil}
 use Prim.Native.Nat.{ℕ, _+_, _-_, _<_}
 use native.Mathlib.Nat.{zero-add, add-sub-cancel-left, le-refl}
 use native.Mathlib.Numerals.{add-one}
-use lib.ListN.{length, getD, take, drop, length-drop, drop-of-length-le}
+use lib.ListN.{length, getD, take, drop, length-drop, drop-of-length-le, replicate, length-replicate}
 use lib.Seq.{drop-cons, take-all, sets, sets-eq}
 
 -- those from i on are element i and those from i + 1 on
@@ -26,3 +26,7 @@ filled vs l e =
     sets-eq vs l 0 (rw (zero-add (length vs), e) (le-refl (length vs)))
     ∙ ap (λ (r : List ℕ). vs ++ r) (drop-of-length-le l {i = 0 + length vs} (rw (zero-add (length vs), e) (le-refl (length vs))))
     ∙ append-nil vs
+
+-- how long an array of zeros is, for any length, since a long one is better not counted
+pub zeros : (n : ℕ) → n ≡ length (replicate {A = ℕ} n 0)
+zeros n = sym (length-replicate n 0)

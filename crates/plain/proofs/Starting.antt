@@ -108,7 +108,9 @@ module _ (cs : List Chip) (bytes : List ℕ) where
   answered Passed false = ap plainSaid idle
   answered (Refused r) t = λ j. record { answer = PlainAnswer.Refused r; chips = idle j .chips }
 
-  pub concluded : record { answer = answerOf (startOf bytes (length cs) (misfit-at cs bytes) (hearer-at cs bytes) .check) (followed cs bytes (startOf bytes (length cs) (misfit-at cs bytes) (hearer-at cs bytes) .turn) .acknowledged);
-      chips = followed cs bytes (startOf bytes (length cs) (misfit-at cs bytes) (hearer-at cs bytes) .turn) .chips } ≡ plainCall 160 4 cs bytes
+  pub concluded : record {
+    answer = answerOf (startOf bytes (length cs) (misfit-at cs bytes) (hearer-at cs bytes) .check) (followed cs bytes (startOf bytes (length cs) (misfit-at cs bytes) (hearer-at cs bytes) .turn) .acknowledged);
+    chips = followed cs bytes (startOf bytes (length cs) (misfit-at cs bytes) (hearer-at cs bytes) .turn) .chips;
+  } ≡ plainCall 160 4 cs bytes
   unfolding plainCall
   concluded = (λ j. record { answer = answerOf (checked cs bytes j) (followed cs bytes (turned cs bytes j) .acknowledged); chips = followed cs bytes (turned cs bytes j) .chips }) ∙ answered (checkPlain 160 4 cs bytes) (heard cs bytes)

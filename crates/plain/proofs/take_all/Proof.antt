@@ -76,8 +76,16 @@ module _ {M : Type 1} (𝓤 : URA M) (H : Heap 𝓤) (A : Atoms 𝓤) (W : Given
     held i = room ∷ holds (sliceVal (b, o) (length xs)) ∷ holds (heard .val h) ∷ holds (vint w64 i) ∷ rooms 7
 
     abbrev loop : Loop 𝓤 H
-    loop = record { frame = En; turn = body.turn-1; rest = body.t-3; post = Kf; State = ℕ; measure = λ i. length xs - i; Fact = λ i. i ≤ length xs;
-      At = λ i. frame En (held i) ∷ ‵ (row T.the-row fullShare (firstOf (taken h) i xs) b o) ∷ opened T.the-row κ s γ xs b o ∷ [] }
+    loop = record {
+      frame = En;
+      turn = body.turn-1;
+      rest = body.t-3;
+      post = Kf;
+      State = ℕ;
+      measure = λ i. length xs - i;
+      Fact = λ i. i ≤ length xs;
+      At = λ i. frame En (held i) ∷ ‵ (row T.the-row fullShare (firstOf (taken h) i xs) b o) ∷ opened T.the-row κ s γ xs b o ∷ [];
+    }
 
     turn : (i : ℕ) → i ≤ length xs → Sq W (loop .At i) (runs (𝓣 .C) (𝓣 .Λ) En body.turn-1 (Turned W 𝓣 loop i))
     turn i so =
