@@ -17,17 +17,16 @@ use contract.Lifetimes.{Lfts, Shares, AllOutlive}
 use contract.Monad.{fact, factI, fact-use}
 use types.Kit.{Given, Item, ‵, raw, _⊛_, ⋆, Goal, prop, runs, atRet, Sq, Step, _$_, _∵_, !, qed, by, move, keep, split, join, use0, fsplit, fjoin, frame as framing, done}
 use denote.Exit.{Exit, unchanged, yes, Last, left}
-use denote.RattleType.{RattleType, Denots, Valss, flat, owns}
+use denote.RattleType.{RattleType, Denots, flat, owns}
 use denote.Laws.{Is, Ises, Are, Spells, valss, Tellss}
-use denote.Ref.{RefT}
-use denote.Slice.{sliceVal, slice-vals, MutSlice, ShrSlice, Room, mut-slice-tells, shr-slice-tells}
+use denote.Slice.{sliceVal, slice-vals, Room, mut-slice-tells, shr-slice-tells}
 use denote.Signature.{Slot, plain, typeAt, typesAt}
 use denote.Steps.{nothing}
 use denote.Triple.End.{Fins, all}
 use denote.Triple.Clauses.{Ended, Clauses, Lasts, atExit, closing}
 use denote.Triple.Entry.{Args, Vals, Res, onEntry}
 use denote.Triple.Spec.{Meets}
-use denote.Triple.Walked.{says, Fit, Ending, onExit, Stays, stay-none, stay-slice, stay-none-slice, fitsOf, hasOf, Goes, AllGo, goes-none, goes-slice, goes-none-slice, ends-at, walkOf, walked, walk-meets}
+use denote.Triple.Walked.{says, Fit, Ending, onExit, Stays, stay-none, stay-slice, stay-none-slice, fitsOf, hasOf, AllGo, goes-none, goes-slice, goes-none-slice, ends-at, walkOf, walked, walk-meets}
 use Rattle.walks.proofs.Data.{Data, Datas, spells, valsOf, tellss}
 use Rattle.walks.proofs.Locals.{frame, env, at-entry, Passable, starts}
 use Rattle.walks.proofs.Slices.{slice, lent, shared}

@@ -23,7 +23,7 @@ use types.SemTy.{cells, Arr}
 use types.Share.{arr-parts}
 use denote.RattleType.{RattleType}
 use denote.Shadow.{pureI}
-use denote.Laws.{Is, Rel, Shows, Tells, Copy}
+use denote.Laws.{Rel, Shows, Tells, Copy}
 use denote.Memory.{mem, shares}
 use denote.Ref.{RefT, ptr}
 use denote.Slice.{sliceTy, sliceVal, slice-vals, MutSlice, ShrSlice, Room, at-slice, heres, codedHoleys, finally}

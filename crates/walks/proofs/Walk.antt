@@ -15,13 +15,13 @@ pub use base.Logic.{SProp, emp, id⊢}
 pub use base.Fml.{Share}
 pub use prog.Memory.{Memory}
 pub use prog.Routine.{Routine}
-pub use prog.Wp.{Heap, Env, Tables}
+pub use prog.Wp.{Heap, Tables}
 pub use ghost.Atoms.{Atoms}
 pub use contract.Lifetimes.{Lfts}
 pub use contract.Monad.{Fun, factI}
 pub use contract.Running.{givenOf, tables}
 unfoldable pub use contract.Running.{tablesOf}
-pub use types.Kit.{Given, Item, ‵, _⊛_, Sq, runs, _$_, !, move, split, use1, use2, rewrite}
+pub use types.Kit.{Given, ‵, _⊛_, Sq, runs, _$_, !, move, split, use1, use2, rewrite}
 pub use types.Run.{lit, unit-lit, stop, from, of-opd, bin, addr, and-then, no-more}
 pub use types.Part.{agg}
 pub use denote.Laws.{Is, shows}

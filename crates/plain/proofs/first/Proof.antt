@@ -1,6 +1,6 @@
 -- `plain::first` meets its contract: a walk of its MIR, by hand. The list is looked into once, before the loop; in the turn at i no chip before i has said yes.
 -- Assumes nothing.
-use Rattle.walks.proofs.Walk.{_≡_, refl, List, [], _∷_, ℕ, suc, _+_, _-_, _*_, _^_, _<_, add-one, arith, lit<, ltb→lt, nltb→le, length, getD, URA, Share, Lfts, Args, w64, vint, SProp, emp, id⊢, Memory, Routine, Heap, Env, Tables, Atoms, Fun, factI, givenOf, tables, tablesOf, Given, Item, ‵, Sq, runs, _$_, !, move, rewrite, lit, of-opd, bin, and-then, no-more, Is, shows, usize, bool, sliceVal, row, plain, Meets, tripleOf, entered, cited}
+use Rattle.walks.proofs.Walk.{_≡_, refl, List, [], _∷_, ℕ, suc, _+_, _-_, _*_, _^_, _<_, add-one, arith, lit<, ltb→lt, nltb→le, length, getD, URA, Share, Lfts, Args, w64, vint, SProp, emp, id⊢, Memory, Routine, Heap, Tables, Atoms, Fun, factI, givenOf, tables, tablesOf, Given, ‵, Sq, runs, _$_, !, move, rewrite, lit, of-opd, bin, and-then, no-more, Is, shows, usize, bool, sliceVal, row, plain, Meets, tripleOf, entered, cited}
 use Rattle.walks.proofs.Walk.{Cell, room, holds, rooms, frame, env, get, field, sets, sets-last, forgets, leaves, number, truth, reads-element, looked-into, looks, looked, Loop, Turned, tests, turned, goes-on, next-turn, returned, then, calls-plain, Shared-walk, shared-meets}
 use denote.Struct.Laws.{vals, tells, copy}
 use Rattle.sheet.specs.declared.Chip.{Chip}

@@ -1,6 +1,6 @@
 -- `plain::take_all` meets its contract: a walk of its MIR, by hand. The list is opened once, before the loop; in the turn at i the first i chips have taken the byte.
 -- Assumes nothing.
-use Rattle.walks.proofs.Walk.{_≡_, refl, sym, ap, subst, _∙_, List, [], _∷_, map, ℕ, suc, _+_, _-_, _*_, _^_, _<_, _≤_, add-one, arith, lit<, ltb→lt, nltb→le, length, getD, set, URA, fullShare, Lfts, Args, w64, vint, SProp, emp, id⊢, Memory, Routine, Heap, Env, Tables, Atoms, Fun, factI, givenOf, tables, tablesOf, Given, Item, ‵, Sq, runs, _$_, !, move, rewrite, lit, unit-lit, of-opd, bin, and-then, no-more, unit, sliceVal, row, plain, Meets, tripleOf, entered, cited}
+use Rattle.walks.proofs.Walk.{_≡_, refl, sym, ap, subst, _∙_, List, [], _∷_, map, ℕ, suc, _+_, _-_, _*_, _^_, _<_, _≤_, add-one, arith, lit<, ltb→lt, nltb→le, length, getD, set, URA, fullShare, Lfts, Args, w64, vint, SProp, emp, id⊢, Memory, Routine, Heap, Tables, Atoms, Fun, factI, givenOf, tables, tablesOf, Given, ‵, Sq, runs, _$_, !, move, rewrite, lit, unit-lit, of-opd, bin, and-then, no-more, unit, sliceVal, row, plain, Meets, tripleOf, entered, cited}
 use Rattle.walks.proofs.Walk.{Cell, room, holds, rooms, frame, env, get, field, sets, sets-last, forgets, leaves, nothing, reads-element, writes-element, opened, opens, shuts, Loop, Turned, turned, goes-on, next-turn, then, calls-plain, Mut-walk, mut-meets}
 use native.Mathlib.Nat.{le-antisymm}
 use Rattle.walks.proofs.Firsts.{firstOf, first-length, first-at, first-more, first-all}

@@ -13,7 +13,6 @@ use denote.Struct.Struct.{Struct}
 use denote.Struct.Declared.{shape}
 use denote.Struct.Laws.{owed, owes}
 use Rattle.sheet.specs.declared.Chip.{Chip}
-use Rattle.sheet.specs.declared.PlainAnswer.{PlainAnswer}
 use Rattle.sheet.specs.Plain.{plainCall}
 use Rattle.plain.specs.declared.Bench.{Bench}
 use Rattle.plain.specs.declared.BenchTransferred.{BenchTransferred}
