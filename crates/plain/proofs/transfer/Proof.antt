@@ -10,8 +10,8 @@ use Rattle.sheet.specs.Plain.{PlainAfter, plainCall}
 use Rattle.plain.specs.declared.Start.{Start}
 use Rattle.plain.specs.declared.Question.the-variants.{Misfit, Hears}
 use Rattle.plain.specs.Turns.{followed, Ready}
-use Rattle.plain.specs.Starts.{startOf, answerOf}
-use Rattle.plain.proofs.Starting.{misfit-at, hearer-at, ready, concluded}
+use Rattle.plain.specs.Starts.{answerOf}
+use Rattle.plain.proofs.Starting.{misfit-at, hearer-at, begun, ready, concluded}
 use Rattle.plain.proofs.Shapes.{question, turn, check, start, answer}
 use Rattle.sheet.proofs.Chip as ChipType
 use Rattle.sheet.proofs.Check as CheckType
@@ -89,7 +89,7 @@ module _ {M : Type 1} (𝓤 : URA M) (H : Heap 𝓤) (A : Atoms 𝓤) (W : Given
       hearer = hearer-at xs bytes
 
       st : Start
-      st = startOf bytes (length xs) misfit hearer
+      st = begun xs bytes
 
       is-asked : Is QuestionType.the-row Misfit (question .val Misfit ∷ [])
       is-asked = owes QuestionType.the-type QuestionLaws.the-laws Misfit tt
