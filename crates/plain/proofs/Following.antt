@@ -30,7 +30,7 @@ module _ (cs₀ : List Chip) (bytes : List ℕ) (t₀ t : Turn) (cs : List Chip)
   unfolding plainHeard
   ended l =
       let all : record { acknowledged = t .acknowledged; chips = cs } ≡ followed cs₀ bytes t₀ =
-          sym (ap (λ (l : List ℕ). plainHeard 160 4 (t .heard .address) (t .heard .expect) l (record { acknowledged = t .acknowledged; chips = cs })) (drop-of-length-le bytes l)) ∙ s .left in
+      sym (ap (λ (l : List ℕ). plainHeard 160 4 (t .heard .address) (t .heard .expect) l (record { acknowledged = t .acknowledged; chips = cs })) (drop-of-length-le bytes l)) ∙ s .left in
       (ap (λ (p : Plain). p .acknowledged) all, ap (λ (p : Plain). p .chips) all)
 
   abbrev found : ℕ

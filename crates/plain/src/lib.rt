@@ -190,7 +190,10 @@ fn check_transfer(bytes: &[u8], count: usize, misfit: usize, hearer: usize) -> C
     let fields = checks::unless(count <= misfit, Refusal::ChipField(misfit));
     let length = checks::check_length(bytes.len());
     let commands = check_commands(bytes, hearer < count);
-    checks::or_else(many, checks::or_else(fields, checks::or_else(length, commands)))
+    checks::or_else(
+        many,
+        checks::or_else(fields, checks::or_else(length, commands)),
+    )
 }
 
 fn passes(check: Check) -> bool

@@ -1,7 +1,7 @@
--- A local array of structs, taken apart into the row of its elements, which `Slices.antt` lends as a slice, and put together again.
---     opens-array      the array's memory is the row of its elements. Its relation is asked as a field of a struct has it, at the elements' tuples.        shuts-array      and back, at some machine value of which the relation holds
---     cuts, joins      a row is its first elements and the rest
--- Assumes `Given`.
+-- A local array of structs, taken apart into the row of its elements, which is then lent as a slice (`Slices.antt`), and put together again.
+-- Assumes nothing: `Given` is an argument.
+--     opens-array, shuts-array     the array's memory is the row of its elements, and back. Its relation is asked as a field of a struct has it, at the elements' tuples
+--     cuts, joins                  a row is its first elements and the rest
 use mathlib.Core.Path.{_≡_, refl, sym, ap}
 use Prim.Native.Nat.{ℕ, zero, suc, _+_}
 use mathlib.Core.List.{List, [], _∷_, _++_, map}

@@ -1,7 +1,9 @@
--- A call in a walk, by what the callee takes: plain data alone, or slices first and then plain data. R is the type of a slice's elements, Rs the types of the data, and Q that of the result.
---     calls-plain      data alone.        calls-showing    a `&[R]` of the row.        calls-lending    a `&mut [R]` of the row, which comes back as the callee says
---     calls-passing    a `&[R]` that the walk itself was lent and passes on.        calls-lending-passing    both
--- The operands are read in the frame, whatever else there is. y is the result, and what is said of it is said of local d. Assumes `Given`, and a `Tables`.
+-- A call in a walk, by what the callee takes: plain data, or slices and then plain data. R is the type of a slice's elements, ps are the slots of the data, Q is the type of the result and y its value.
+-- Assumes nothing: `Given` and the `Tables` are arguments.
+--     calls-plain                      data alone
+--     calls-showing, calls-lending     a `&[R]` or a `&mut [R]` of the walk's row
+--     calls-passing                    a `&[R]` that the walk itself was lent
+--     calls-lending-passing            a `&mut [R]` of the row, and a `&[R₂]` that the walk itself was lent
 use mathlib.Core.Path.{_≡_, subst}
 use mathlib.Core.List.{List, [], _∷_}
 use Prim.Native.Nat.{ℕ}

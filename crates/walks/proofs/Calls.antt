@@ -1,9 +1,8 @@
--- A call in a walk, at the callee's theorem: the contract is taken apart once, here. The frame stands first in the context; what the callee says of its result is then said of the local that holds it.
---     calls            any callee. Behind the frame stand the tokens and what the parameters own; afterwards the tokens, and what is said of the last values
---     calls-plain      a callee whose parameters are plain data, by value: nothing is taken from the context
---     with-data        what a parameter owns, before parameters that are plain data
---     one-token, two-tokens      the tokens of one lifetime or two, as a callee's, and back
--- The `requires` is shown from nothing, as a fact is. Assumes `Given`, and a `Tables`.
+-- A call in a walk, at the callee's theorem: the contract is taken apart once, here. What the callee says of its result is then said of local d, which holds it.
+-- Assumes nothing: `Given` and the `Tables` are arguments.
+--     calls                            any callee. Behind the frame stand the tokens and what the parameters own; afterwards the tokens, and what is said of the last values
+--     one-token, token-back            one lifetime's token, as the tokens of a callee, and back
+--     two-tokens, tokens-back          two lifetimes'
 use mathlib.Core.Path.{_≡_, refl, sym, ap, subst}
 use mathlib.Core.List.{List, [], _∷_}
 use Prim.Native.Nat.{ℕ, zero}

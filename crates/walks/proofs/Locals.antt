@@ -1,7 +1,10 @@
--- The locals of a function, as one formula: `locals E σ` says that local k of the frame E holds what entry k of σ says. The context of a walk is that formula, and the few things that the function has besides.
---     get, field       a copy of a local, or of a field of a struct in it.        sets, sets-last      a local is assigned.        forgets      the locals from number m on are not read again
---     starts           the function is entered: its parameters are in their locals.        leaves       it returns what local 0 holds, and what is left is the postcondition
--- Definitions assume nothing. The rules assume `Given`.
+-- The locals of a function as one entry of a walk's context: `frame E σ` says that local k of the frame E holds what entry k of σ says.
+-- Assumes nothing: `Given` is an argument.
+--     get, field, reborrows     a copy of a local, of a field of a struct in it, and the place that a reference in a field holds
+--     sets, sets-last           a local is assigned, and more follows or nothing
+--     forgets                   the locals from number m on are not read again
+--     takes-away, puts-back     a local's memory is taken out of the frame, to be lent, and put back
+--     starts, leaves            the function is entered, with its parameters in their locals; it returns what local 0 holds
 use mathlib.Core.Path.{_≡_, refl, sym, ap, subst, _∙_}
 use mathlib.Core.Option.{some}
 use mathlib.Core.List.{List, [], _∷_}

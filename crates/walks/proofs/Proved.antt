@@ -1,6 +1,9 @@
--- A walk proves its function: from a walk of the body, in the words of `Slices.antt`, to the statement that the function meets its contract. One lemma for each kind of parameters (`Callees.antt`).
---     shared-meets     a `&[R]`, then data.        mut-meets    a `&mut [R]`, then data.        mut-shared-meets     a `&mut [R]`, a `&[R₂]`, then data
--- A walk begins with what the function was lent, and ends with it again, by `ends`: at the result y, whose relation holds, and which the contract allows. Assumes `Given`, and a `Tables`.
+-- A walk proves its function: from a walk of the body to the statement that the function meets its contract, by the function's parameters (`Callees.antt`).
+-- Assumes nothing: `Given` and the `Tables` are arguments.
+--     shared-meets            a `&[R]`, then data
+--     mut-meets               a `&mut [R]`, then data
+--     mut-shared-meets        a `&mut [R]`, a `&[R₂]`, then data
+-- A walk begins with the frame and what the function was lent, and ends with what it was lent, by `ends`: at the result y, whose relation holds, and which the contract allows.
 use mathlib.Core.Path.{_≡_, refl, sym, subst}
 use mathlib.Core.List.{List, [], _∷_}
 use Prim.Native.Nat.{ℕ}

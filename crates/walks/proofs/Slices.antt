@@ -1,8 +1,10 @@
 -- A lent slice in a walk: it is opened once, at entry, and shut once, before the function returns. In between its row of elements is the function's own memory, and may be lent for a call.
---     opens, shuts                   of a `&mut [T]`: its last list is then zs.        looks, looked      of a `&[T]`
---     reslices                       the slice is made again for a call
---     lends, lent-back               the row is lent as a `&mut [T]` for a lifetime that is made for the call, and comes back as the callee left it.        shows, shown-back     it is lent as a `&[T]`, and comes back as it was
--- Assumes `Given`.
+-- Assumes nothing: `Given` is an argument.
+--     opens, shuts            a `&mut [R]`, whose last list is then zs
+--     looks, looked           a `&[R]`
+--     lends, lent-back        the row is lent as a `&mut [R]`, for a lifetime that is made for the call, and comes back as the callee left it
+--     shows, shown-back       it is lent as a `&[R]`, and comes back as it was
+--     reslices                the slice itself is made again for a call
 use mathlib.Core.Path.{_≡_, refl, sym, ap, subst}
 use Prim.Native.Nat.{ℕ}
 use mathlib.Core.List.{List, [], _∷_}

@@ -28,7 +28,7 @@ or-else-requires-3 : tie.Need-or-else-requires-3
 or-else-requires-3 c κs = search needs
 
 returns : tie.Need-returns
-returns c = 
+returns c =
     c .or-else3 .ensures ∙ ap₂ orElse (c .before .before .before .before .before .before .unless .ensures)
     (c .before .or-else2 .ensures ∙ ap₂ orElse (c .before .before .before .before .before .unless2 .ensures)
     (c .before .before .or-else .ensures ∙ ap₂ orElse (c .before .before .before .before .check-length .ensures) (c .before .before .before .check-commands .ensures)))
