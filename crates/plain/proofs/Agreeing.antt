@@ -3,9 +3,7 @@
 use mathlib.Core.Path.{_≡_, refl, sym, ap, _∙_}
 use mathlib.Core.Bool.{Bool, true, false, cond, _&&_, _||_}
 use mathlib.Core.List.{List, [], _∷_, map}
-use Prim.Native.Nat.{ℕ, zero, suc}
-use lib.Dec.{ltb, leb·zero, leb·suc-suc}
-use lib.ListN.{length}
+use Prim.Native.Nat.{ℕ}
 use Rattle.lemmas.proofs.Tests.{both-true}
 use Rattle.sheet.specs.declared.Chip.{Chip}
 use Rattle.sheet.specs.declared.Expect.{Expect}
@@ -18,22 +16,12 @@ use Rattle.laws.proofs.Kept.{pcf8532-keeps}
 use Rattle.chip.proofs.Moves.{still-in}
 use Rattle.plain.specs.declared.BusByte.{BusByte}
 use Rattle.plain.specs.declared.Question.the-variants.{Acknowledges}
-use Rattle.plain.specs.Asking.{takesPart, yes, taken, firstYes}
+use Rattle.plain.specs.Asking.{takesPart, yes, taken}
 use Rattle.plain.specs.Turns.{AllIn}
 
 -- a chip that takes part has its registers in range
 pub part-in : (h : BusByte) (c : Chip) → takesPart h c ≡ true → inRange 160 4 (c .registers) ≡ true
 part-in h c e = both-true (hears (h .address) c) (inRange 160 4 (c .registers)) e .1
-
--- f holds of some chip exactly if the first lies within the list
-pub any-first : (f : Chip → Bool) (cs : List Chip) → any f cs ≡ ltb (firstYes f cs) (length cs)
-unfolding firstYes
-any-first f [] = refl
-any-first f (c ∷ cs) = by-test (f c) (any f cs) (firstYes f cs) (length cs) (any-first f cs)
-  where
-    by-test : (t u : Bool) (n m : ℕ) → u ≡ ltb n m → (t || u) ≡ ltb (cond t zero (suc n)) (suc m)
-    by-test true u n m e = sym (leb·suc-suc zero m ∙ leb·zero m)
-    by-test false u n m e = e ∙ sym (leb·suc-suc (suc n) m)
 
 module _ (h : BusByte) where
   -- a chip in range takes part if it hears

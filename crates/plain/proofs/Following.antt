@@ -2,7 +2,7 @@
 -- Assumes nothing.
 use mathlib.Core.Path.{_≡_, refl, sym, ap, _∙_}
 use mathlib.Core.Bool.{Bool, true, false, cond, _&&_}
-use mathlib.Core.List.{List, [], _∷_, map}
+use mathlib.Core.List.{List, _∷_, map}
 use Prim.Native.Nat.{ℕ, _+_, _<_, _≤_}
 use native.Mathlib.Omega.{arith}
 use lib.Dec.{ltb}
@@ -15,7 +15,8 @@ use Rattle.plain.specs.declared.Turn.{Turn}
 use Rattle.plain.specs.declared.Question.the-variants.{Acknowledges}
 use Rattle.plain.specs.Asking.{yes, taken, firstYes}
 use Rattle.plain.specs.Turns.{turnAfter, followed, AllIn, Ready}
-use Rattle.plain.proofs.Agreeing.{any-first, asked, all-taken, all-kept}
+use Rattle.plain.proofs.Searching.{any-first}
+use Rattle.plain.proofs.Agreeing.{asked, all-taken, all-kept}
 
 -- from the chips cs₀ in the turn t₀, the transfer has come to cs in the turn t
 pub record Following (cs₀ : List Chip) (bytes : List ℕ) (t₀ : Turn) (t : Turn) (cs : List Chip) : Type 0 where

@@ -1,14 +1,15 @@
--- Going along a list for the first chip of which f holds: up to i it holds of none.
+-- The first chip of a list of which f holds: whether there is one, and going along the list for it.
 -- Assumes nothing.
-use mathlib.Core.Path.{_≡_, refl, ap, _∙_}
-use mathlib.Core.Bool.{Bool, true, false, cond, not}
-use mathlib.Core.List.{List}
-use Prim.Native.Nat.{ℕ, suc, _+_, _<_, _≤_}
+use mathlib.Core.Path.{_≡_, refl, sym, ap, _∙_}
+use mathlib.Core.Bool.{Bool, true, false, cond, not, _||_}
+use mathlib.Core.List.{List, [], _∷_}
+use Prim.Native.Nat.{ℕ, zero, suc, _+_, _<_, _≤_}
 use native.Mathlib.Omega.{arith}
-use lib.Dec.{T}
+use lib.Dec.{T, ltb, leb·zero, leb·suc-suc}
 use lib.ListN.{length, getD, drop}
 use lib.Seq.{drop-cons, drop-length}
 use Rattle.sheet.specs.declared.Chip.{Chip}
+use Rattle.sheet.specs.Plain.{any}
 use Rattle.plain.specs.Asking.{firstYes}
 
 -- a test that came out, as an equation
@@ -20,6 +21,17 @@ pub is-false : (t : Bool) → T (not t) → t ≡ false
 is-false true h = absurd h
 is-false false h = refl
 
+-- f holds of some chip exactly if the first lies within the list
+pub any-first : (f : Chip → Bool) (cs : List Chip) → any f cs ≡ ltb (firstYes f cs) (length cs)
+unfolding firstYes
+any-first f [] = refl
+any-first f (c ∷ cs) = by-test (f c) (any f cs) (firstYes f cs) (length cs) (any-first f cs)
+  where
+    by-test : (t u : Bool) (n m : ℕ) → u ≡ ltb n m → (t || u) ≡ ltb (cond t zero (suc n)) (suc m)
+    by-test true u n m e = sym (leb·suc-suc zero m ∙ leb·zero m)
+    by-test false u n m e = e ∙ sym (leb·suc-suc (suc n) m)
+
+-- up to i it holds of none
 pub record Sought (f : Chip → Bool) (xs : List Chip) (i : ℕ) : Type 0 where
   pub within : i ≤ length xs
   pub left : firstYes f xs ≡ i + firstYes f (drop i xs)

@@ -4,51 +4,51 @@ use mathlib.Core.List.{[]}
 use Rattle.sheet.specs.declared.Chip.{Chip}
 use Rattle.sheet.specs.Commands.{powerOn}
 use Rattle.walks.proofs.Data.{Data, struct, enum}
-use Rattle.sheet.proofs.Chip as TC
-use Rattle.sheet.proofs.Chip.Laws as TC′
-use Rattle.sheet.proofs.Check as TK
-use Rattle.sheet.proofs.Check.Laws as TK′
-use Rattle.sheet.proofs.PlainAnswer as TA
-use Rattle.sheet.proofs.PlainAnswer.Laws as TA′
-use Rattle.plain.proofs.BusByte as TB
-use Rattle.plain.proofs.BusByte.Laws as TB′
-use Rattle.plain.proofs.Question as TQ
-use Rattle.plain.proofs.Question.Laws as TQ′
-use Rattle.plain.proofs.Turn as TT
-use Rattle.plain.proofs.Turn.Laws as TT′
-use Rattle.plain.proofs.Start as TS
-use Rattle.plain.proofs.Start.Laws as TS′
-use Rattle.plain.proofs.Bench as TN
-use Rattle.plain.proofs.Bench.Laws as TN′
-use Rattle.plain.proofs.BenchTransferred as TR
-use Rattle.plain.proofs.BenchTransferred.Laws as TR′
+use Rattle.sheet.proofs.Chip as ChipType
+use Rattle.sheet.proofs.Chip.Laws as ChipLaws
+use Rattle.sheet.proofs.Check as CheckType
+use Rattle.sheet.proofs.Check.Laws as CheckLaws
+use Rattle.sheet.proofs.PlainAnswer as AnswerType
+use Rattle.sheet.proofs.PlainAnswer.Laws as AnswerLaws
+use Rattle.plain.proofs.BusByte as BusByteType
+use Rattle.plain.proofs.BusByte.Laws as BusByteLaws
+use Rattle.plain.proofs.Question as QuestionType
+use Rattle.plain.proofs.Question.Laws as QuestionLaws
+use Rattle.plain.proofs.Turn as TurnType
+use Rattle.plain.proofs.Turn.Laws as TurnLaws
+use Rattle.plain.proofs.Start as StartType
+use Rattle.plain.proofs.Start.Laws as StartLaws
+use Rattle.plain.proofs.Bench as BenchType
+use Rattle.plain.proofs.Bench.Laws as BenchLaws
+use Rattle.plain.proofs.BenchTransferred as TransferredType
+use Rattle.plain.proofs.BenchTransferred.Laws as TransferredLaws
 
 abbrev pub blank : Chip
 blank = record { columns = []; sa0 = 0; subaddress = 0; registers = powerOn }
 
-abbrev pub chip : Data TC.the-row
-chip = struct TC.the-type TC′.the-laws TC′.the-plain TC′.the-copy
+abbrev pub chip : Data ChipType.the-row
+chip = struct ChipType.the-type ChipLaws.the-laws ChipLaws.the-plain ChipLaws.the-copy
 
-abbrev pub heard : Data TB.the-row
-heard = struct TB.the-type TB′.the-laws TB′.the-plain TB′.the-copy
+abbrev pub heard : Data BusByteType.the-row
+heard = struct BusByteType.the-type BusByteLaws.the-laws BusByteLaws.the-plain BusByteLaws.the-copy
 
-abbrev pub question : Data TQ.the-row
-question = enum TQ.the-type TQ′.the-laws TQ′.the-plain TQ′.the-copy tt
+abbrev pub question : Data QuestionType.the-row
+question = enum QuestionType.the-type QuestionLaws.the-laws QuestionLaws.the-plain QuestionLaws.the-copy tt
 
-abbrev pub turn : Data TT.the-row
-turn = struct TT.the-type TT′.the-laws TT′.the-plain TT′.the-copy
+abbrev pub turn : Data TurnType.the-row
+turn = struct TurnType.the-type TurnLaws.the-laws TurnLaws.the-plain TurnLaws.the-copy
 
-abbrev pub check : Data TK.the-row
-check = enum TK.the-type TK′.the-laws TK′.the-plain TK′.the-copy tt
+abbrev pub check : Data CheckType.the-row
+check = enum CheckType.the-type CheckLaws.the-laws CheckLaws.the-plain CheckLaws.the-copy tt
 
-abbrev pub start : Data TS.the-row
-start = struct TS.the-type TS′.the-laws TS′.the-plain TS′.the-copy
+abbrev pub start : Data StartType.the-row
+start = struct StartType.the-type StartLaws.the-laws StartLaws.the-plain StartLaws.the-copy
 
-abbrev pub answer : Data TA.the-row
-answer = enum TA.the-type TA′.the-laws TA′.the-plain TA′.the-copy tt
+abbrev pub answer : Data AnswerType.the-row
+answer = enum AnswerType.the-type AnswerLaws.the-laws AnswerLaws.the-plain AnswerLaws.the-copy tt
 
-abbrev pub bench : Data TN.the-row
-bench = struct TN.the-type TN′.the-laws TN′.the-plain TN′.the-copy
+abbrev pub bench : Data BenchType.the-row
+bench = struct BenchType.the-type BenchLaws.the-laws BenchLaws.the-plain BenchLaws.the-copy
 
-abbrev pub transferred : Data TR.the-row
-transferred = struct TR.the-type TR′.the-laws TR′.the-plain TR′.the-copy
+abbrev pub transferred : Data TransferredType.the-row
+transferred = struct TransferredType.the-type TransferredLaws.the-laws TransferredLaws.the-plain TransferredLaws.the-copy

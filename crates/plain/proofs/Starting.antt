@@ -19,14 +19,28 @@ use Rattle.sheet.specs.declared.Check.the-variants.{Passed, Refused}
 use Rattle.sheet.specs.declared.PlainAnswer.{PlainAnswer}
 use Rattle.sheet.specs.Protocol.{undefinedIn}
 use Rattle.sheet.specs.Checks.{unless, orElse, checkLength}
-use Rattle.sheet.specs.Plain.{any, hears, passed, chipFits, misfitIn, checkPlain, PlainAfter, plainHeard, plainSaid, plainAnswered, plainCall}
+use Rattle.sheet.specs.Plain.{any, hears, passed, chipFits, misfitIn, checkPlain, plainHeard, plainSaid, plainAnswered, plainCall}
 use Rattle.laws.proofs.Fits.{both-pass, unless-passes}
 use Rattle.chip.proofs.Passing.{registers-in}
+use Rattle.plain.specs.declared.Start.{Start}
 use Rattle.plain.specs.declared.Question.the-variants.{Misfit, Hears}
 use Rattle.plain.specs.Asking.{yes, firstYes}
 use Rattle.plain.specs.Turns.{followed, AllIn, Ready}
 use Rattle.plain.specs.Starts.{checkOf, turnAt, firstTurn, startOf, answerOf}
-use Rattle.plain.proofs.Agreeing.{any-first}
+use Rattle.plain.proofs.Searching.{any-first}
+
+-- ---- the answer, by the check and whether a chip hears
+module _ (cs : List Chip) (bytes : List ℕ) where
+  -- nothing is left to follow
+  idle : followed cs bytes (turnAt bytes (length bytes) 0) ≡ record { acknowledged = 0; chips = cs }
+  unfolding plainHeard
+  idle = ap (λ (l : List ℕ). plainHeard 160 4 (getD bytes 0 0) Control l (record { acknowledged = 0; chips = cs })) (drop-length bytes)
+
+  answered : (k : Check) (t : Bool) → record { answer = answerOf k (followed cs bytes (firstTurn bytes k t) .acknowledged); chips = followed cs bytes (firstTurn bytes k t) .chips }
+      ≡ plainAnswered k cs (plainSaid (cond t (plainHeard 160 4 (getD bytes 0 0) Control (drop 1 bytes) (record { acknowledged = 1; chips = cs })) (record { acknowledged = 0; chips = cs })))
+  answered Passed true = refl
+  answered Passed false = ap plainSaid idle
+  answered (Refused r) t = λ j. record { answer = PlainAnswer.Refused r; chips = idle j .chips }
 
 -- ---- the checks
 
@@ -61,6 +75,9 @@ module _ (cs : List Chip) (bytes : List ℕ) where
   abbrev pub hearer-at : ℕ
   hearer-at = firstYes (yes (Hears (getD bytes 0 0))) cs
 
+  abbrev pub begun : Start
+  begun = startOf bytes (length cs) misfit-at hearer-at
+
   -- a chip hears byte 0
   abbrev heard : Bool
   heard = any (hears (getD bytes 0 0)) cs
@@ -73,7 +90,7 @@ module _ (cs : List Chip) (bytes : List ℕ) where
       fields = let at : misfit-at ≡ 0 + misfit-at = omega arith in ap (λ (m : ℕ). unless (leb (length cs) misfit-at) (ChipField m)) at ∙ sym (misfit 0 cs)
 
   -- so the turn from which the chips follow is the one of a transfer that the sheet takes
-  turned : startOf bytes (length cs) misfit-at hearer-at .turn ≡ firstTurn bytes (checkPlain 160 4 cs bytes) heard
+  turned : begun .turn ≡ firstTurn bytes (checkPlain 160 4 cs bytes) heard
   turned = λ j. firstTurn bytes (checked j) (sym (any-first (hears (getD bytes 0 0)) cs) j)
 
   -- what a transfer that is taken is known to be: there is a byte, and the chips are in range
@@ -86,7 +103,7 @@ module _ (cs : List Chip) (bytes : List ℕ) where
       let x = both-pass (unless (ltb 0 (length bytes)) EmptyTransfer) (unless (leb (length bytes) 4096) LongTransfer) (w .0) in
       (ltb-true 0 (length bytes) (unless-passes _ EmptyTransfer (x .0)), all-in 0 cs (v .0))
 
-  pub ready : Ready cs bytes (startOf bytes (length cs) misfit-at hearer-at .turn)
+  pub ready : Ready cs bytes (begun .turn)
   ready = subst (Ready cs bytes) (sym turned) (by-test (passed (checkPlain 160 4 cs bytes) && heard) refl)
     where
       by-test : (b : Bool) → (passed (checkPlain 160 4 cs bytes) && heard) ≡ b → Ready cs bytes (cond b (turnAt bytes 1 1) (turnAt bytes (length bytes) 0))
@@ -95,6 +112,7 @@ module _ (cs : List Chip) (bytes : List ℕ) where
           record { within = t .0; counted = le-refl 1; byte = refl; right = λ _. t .1 }
       by-test false e = record { within = le-refl (length bytes); counted = zero-le; byte = refl; right = λ l. absurd (lt-irrefl (length bytes) l) }
 
+<<<<<<< HEAD
 -- ---- the answer, by the check and whether a chip hears
 module _ (cs : List Chip) (bytes : List ℕ) where
   -- nothing is left to follow
@@ -112,5 +130,9 @@ module _ (cs : List Chip) (bytes : List ℕ) where
     answer = answerOf (startOf bytes (length cs) (misfit-at cs bytes) (hearer-at cs bytes) .check) (followed cs bytes (startOf bytes (length cs) (misfit-at cs bytes) (hearer-at cs bytes) .turn) .acknowledged);
     chips = followed cs bytes (startOf bytes (length cs) (misfit-at cs bytes) (hearer-at cs bytes) .turn) .chips;
   } ≡ plainCall 160 4 cs bytes
+=======
+  -- the call, as it is begun, followed and answered
+  pub concluded : record { answer = answerOf (begun .check) (followed cs bytes (begun .turn) .acknowledged); chips = followed cs bytes (begun .turn) .chips } ≡ plainCall 160 4 cs bytes
+>>>>>>> e9d5538
   unfolding plainCall
-  concluded = (λ j. record { answer = answerOf (checked cs bytes j) (followed cs bytes (turned cs bytes j) .acknowledged); chips = followed cs bytes (turned cs bytes j) .chips }) ∙ answered (checkPlain 160 4 cs bytes) (heard cs bytes)
+  concluded = (λ j. record { answer = answerOf (checked j) (followed cs bytes (turned j) .acknowledged); chips = followed cs bytes (turned j) .chips }) ∙ answered cs bytes (checkPlain 160 4 cs bytes) heard

@@ -1,9 +1,8 @@
--- A call in a walk, at the callee's theorem: the contract is taken apart once, here. The frame stands first in the context; what the callee says of its result is then said of the local that holds it.
---     calls            any callee. Behind the frame stand the tokens and what the parameters own; afterwards the tokens, and what is said of the last values
---     calls-plain      a callee whose parameters are plain data, by value: nothing is taken from the context
---     with-data        what a parameter owns, before parameters that are plain data
---     one-token, two-tokens      the tokens of one lifetime or two, as a callee's, and back
--- The `requires` is shown from nothing, as a fact is. Assumes `Given`, and a `Tables`.
+-- A call in a walk, at the callee's theorem: the contract is taken apart once, here. What the callee says of its result is then said of local d, which holds it.
+-- Assumes nothing: `Given` and the `Tables` are arguments.
+--     calls                            any callee. Behind the frame stand the tokens and what the parameters own; afterwards the tokens, and what is said of the last values
+--     one-token, token-back            one lifetime's token, as the tokens of a callee, and back
+--     two-tokens, tokens-back          two lifetimes'
 use mathlib.Core.Path.{_≡_, refl, sym, ap, subst}
 use mathlib.Core.List.{List, [], _∷_}
 use Prim.Native.Nat.{ℕ, zero}
@@ -14,13 +13,13 @@ use mir.Val.{Val, WT, hasTy}
 use base.Logic.{SProp, ent, sep, emp, id⊢, via}
 use base.Fml.{Lft, Share, ftrue, flft}
 use prog.Wp.{Heap, Env, spotOf, Tables, Calls, Loops, next}
-use ghost.Atoms.{Atoms, sem}
+use ghost.Atoms.{Atoms}
 use sound.WpLaws.{fmOf}
 use contract.Monad.{fact}
-use types.Kit.{Goal, Soaks, Given, Item, ‵, raw, _⊛_, some, later, ⋆, sel⊢, Post, prop, runs, lands, settles, post, Seq, Step, step, _$_, _∵_, !, qed, move, drop, use0, use1, use2, use3, split, join, fjoin, pick, rewrite, frame as framing, await, done}
-use types.Run.{Opds, Finds, Writes, stop, from, land, land-last}
-use denote.RattleType.{RattleType, Denots, Valss, owns}
-use denote.Laws.{Is, Ises, Are, shows, owns-make}
+use types.Kit.{Goal, Soaks, Given, Item, ‵, raw, _⊛_, some, later, ⋆, sel⊢, Post, prop, runs, lands, settles, post, Seq, Step, step, _$_, _∵_, !, qed, move, drop, use0, use1, use2, use3, split, join, pick, rewrite, frame as framing, await, done}
+use types.Run.{Opds, Writes, stop, from, land, land-last}
+use denote.RattleType.{owns}
+use denote.Laws.{Is, shows}
 use denote.Signature.{typeAt, typesAt}
 use denote.Steps.{only, heard, peeks, nothing}
 use denote.Triple.Entry.{Res, alive}
@@ -29,7 +28,7 @@ use denote.Triple.Clauses.{Ended, Clauses, Lasts, lasts, atExit, closing}
 use denote.Triple.Spec.{tripleOf, Meets}
 use denote.Triple.Call.{calls-from, calls-from-last}
 use Rattle.walks.proofs.Locals.{Cell, frame, Within, stored, stores}
-use Rattle.walks.proofs.Data.{Data, Datas, valsOf, makess}
+use Rattle.walks.proofs.Data.{Data}
 
 -- what follows a statement: the rest of its part, or nothing
 pub data Tail : Type 0 where

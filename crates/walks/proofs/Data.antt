@@ -1,5 +1,5 @@
--- Plain data, as a walk meets it in its locals and hands it to callees: a type with one machine value, which owns only facts. One record, so that a rule is stated once for numbers, structs and enums.
--- Assumes nothing; `typed` and `makes` assume `Given`.
+-- Plain data, as a walk has it in its locals and hands it to callees: a type of one machine value that owns only facts. One record, so that a rule is stated once for numbers, structs and enums.
+-- Assumes nothing: `Given` is an argument.
 use mathlib.Core.Path.{_≡_, refl}
 use mathlib.Core.List.{List, [], _∷_}
 use lib.Dec.{T}

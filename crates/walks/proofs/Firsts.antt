@@ -1,5 +1,4 @@
 -- The lists of a loop that replaces each element by what f makes of it: in the turn at i the first i are replaced.
---     first-length     such a list is as long.        first-at     element i is still as it was.        first-more       with f of that stored at i it is the next turn's list.        first-all        after all turns it is `map f xs`
 -- Assumes nothing.
 use mathlib.Core.Path.{_≡_, refl, ap}
 use mathlib.Core.List.{List, [], _∷_, map}

@@ -8,3 +8,4 @@ pub mod Callees
 pub mod Proved
 pub mod Firsts
 pub mod Arrays
+pub mod Walk

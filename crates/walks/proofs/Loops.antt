@@ -1,8 +1,9 @@
--- A loop in a walk: `while .. { .. }`, behind which straight code returns. A turn begins in some state x, of any type: `At x` is the context there, and `Fact x` what is known. A measure of the state falls with each turn.
---     turned           the loop and what follows it, from a turn in any state
---     tests            a test whose one arm returns
---     goes-on          the test at the head of a turn: the turn goes on, or the loop is left and what follows runs.        next-turn    a turn ends in the state y.        returned     for `leaves`, of a `return` in the turn
--- Assumes `Given`, and a `Tables`.
+-- A loop in a walk: `while .. { .. }`, behind which straight code returns. A turn begins in some state x: `At x` is the context there, and `Fact x` what is known. A measure of the state falls with each turn.
+-- Assumes nothing: `Given` and the `Tables` are arguments.
+--     turned                  the loop and what follows it, from a turn in any state
+--     goes-on                 the test at the head of a turn: the turn goes on, or the loop is left and what follows runs
+--     next-turn               a turn ends in the state y
+--     tests, returned         a test in a turn whose one arm returns
 use mathlib.Core.Path.{_≡_, refl}
 use mathlib.Core.Bool.{Bool, not}
 use mathlib.Core.WellFounded.{InvImage·wf}

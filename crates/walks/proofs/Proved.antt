@@ -1,6 +1,9 @@
--- A walk proves its function: from a walk of the body, in the words of `Slices.antt`, to the statement that the function meets its contract. One lemma for each kind of parameters (`Callees.antt`).
---     shared-meets     a `&[R]`, then data.        mut-meets    a `&mut [R]`, then data.        mut-shared-meets     a `&mut [R]`, a `&[R₂]`, then data
--- A walk begins with what the function was lent, and ends with it again, by `ends`: at the result y, whose relation holds, and which the contract allows. Assumes `Given`, and a `Tables`.
+-- A walk proves its function: from a walk of the body to the statement that the function meets its contract, by the function's parameters (`Callees.antt`).
+-- Assumes nothing: `Given` and the `Tables` are arguments.
+--     shared-meets            a `&[R]`, then data
+--     mut-meets               a `&mut [R]`, then data
+--     mut-shared-meets        a `&mut [R]`, a `&[R₂]`, then data
+-- A walk begins with the frame and what the function was lent, and ends with what it was lent, by `ends`: at the result y, whose relation holds, and which the contract allows.
 use mathlib.Core.Path.{_≡_, refl, sym, subst}
 use mathlib.Core.List.{List, [], _∷_}
 use Prim.Native.Nat.{ℕ}
@@ -15,20 +18,20 @@ use ghost.Atoms.{Atoms, sem}
 use sound.WpLaws.{WpFn-mono}
 use contract.Lifetimes.{Lfts, Shares, AllOutlive}
 use contract.Monad.{fact, factI, fact-use}
-use types.Kit.{Given, Item, ‵, raw, _⊛_, ⋆, Goal, prop, Sq, Step, _$_, _∵_, !, qed, by, move, keep, split, join, use0, fsplit, fjoin, frame, done}
+use types.Kit.{Given, Item, ‵, raw, _⊛_, ⋆, Goal, prop, runs, atRet, Sq, Step, _$_, _∵_, !, qed, by, move, keep, split, join, use0, fsplit, fjoin, frame as framing, done}
 use denote.Exit.{Exit, unchanged, yes, Last, left}
-use denote.RattleType.{RattleType, Denots, Valss, flat, owns}
+use denote.RattleType.{RattleType, Denots, flat, owns}
 use denote.Laws.{Is, Ises, Are, Spells, valss, Tellss}
-use denote.Ref.{RefT}
-use denote.Slice.{sliceVal, slice-vals, MutSlice, ShrSlice, Room, mut-slice-tells, shr-slice-tells}
+use denote.Slice.{sliceVal, slice-vals, Room, mut-slice-tells, shr-slice-tells}
 use denote.Signature.{Slot, plain, typeAt, typesAt}
 use denote.Steps.{nothing}
 use denote.Triple.End.{Fins, all}
 use denote.Triple.Clauses.{Ended, Clauses, Lasts, atExit, closing}
 use denote.Triple.Entry.{Args, Vals, Res, onEntry}
 use denote.Triple.Spec.{Meets}
-use denote.Triple.Walked.{says, Fit, Ending, onExit, Stays, stay-none, stay-slice, stay-none-slice, fitsOf, hasOf, Goes, AllGo, goes-none, goes-slice, goes-none-slice, ends-at, walkOf, walked, walk-meets}
+use denote.Triple.Walked.{says, Fit, Ending, onExit, Stays, stay-none, stay-slice, stay-none-slice, fitsOf, hasOf, AllGo, goes-none, goes-slice, goes-none-slice, ends-at, walkOf, walked, walk-meets}
 use Rattle.walks.proofs.Data.{Data, Datas, spells, valsOf, tellss}
+use Rattle.walks.proofs.Locals.{frame, env, at-entry, Passable, starts}
 use Rattle.walks.proofs.Slices.{slice, lent, shared}
 use Rattle.walks.proofs.Callees.{of-shared, of-mut, of-mut-shared, Given-data}
 
@@ -106,9 +109,9 @@ module _ {M : Type 1} (𝓤 : URA M) (H : Heap 𝓤) (A : Atoms 𝓤) (W : Given
       → (Out : (κs : Lfts (T .signature .lifetimes)) (qs : Shares (T .signature .lifetimes)) (a : Args (T .signature) κs) → Lasts T κs a → List (Item 𝓤))
       → ((κs : Lfts (T .signature .lifetimes)) (qs : Shares (T .signature .lifetimes)) (a : Args (T .signature) κs) (ws : Lasts T κs a) → Right κs qs a → (y : Res (T .signature) κs) → Is (typeAt (T .signature .result) κs) y (D κs .val y ∷ [])
       → ent 𝓤 (⋆ 𝓤 H A (Out κs qs a ws)) (onExit 𝓤 H A T hs κs qs (vals κs qs a) (D κs .val y) y a ws))
-      → ((κs : Lfts (T .signature .lifetimes)) (qs : Shares (T .signature .lifetimes)) (a : Args (T .signature) κs) → Right κs qs a → ψ κs a → (Kf : Val → SProp 𝓤)
-      → ((y : Res (T .signature) κs) (ws : Lasts T κs a) → Fit T hs κs a ws → Is (typeAt (T .signature .result) κs) y (D κs .val y ∷ []) → φ κs a ws y → Sq W (Out κs qs a ws) (prop (Kf (D κs .val y))))
-      → Sq W (In κs qs a) (prop (WpFn 𝓤 H (𝓣 .C) (𝓣 .Λ) fn (flat (typesAt (T .signature .params) κs) (vals κs qs a)) Kf)))
+      → ((κs : Lfts (T .signature .lifetimes)) (qs : Shares (T .signature .lifetimes)) (a : Args (T .signature) κs) → Right κs qs a → ψ κs a → (post : Val → SProp 𝓤)
+      → ((y : Res (T .signature) κs) (ws : Lasts T κs a) → Fit T hs κs a ws → Is (typeAt (T .signature .result) κs) y (D κs .val y ∷ []) → φ κs a ws y → Sq W (Out κs qs a ws) (prop (post (D κs .val y))))
+      → Sq W (In κs qs a) (prop (WpFn 𝓤 H (𝓣 .C) (𝓣 .Λ) fn (flat (typesAt (T .signature .params) κs) (vals κs qs a)) post)))
       → Meets 𝓤 H A (T .signature) (WpFn 𝓤 H (𝓣 .C) (𝓣 .Λ) fn) (closing 𝓤 H A T cl)
   by-walk In begins D Out ends walk =
       walk-meets 𝓤 H A T hs W gs cl (WpFn 𝓤 H (𝓣 .C) (𝓣 .Λ) fn) (WpFn-mono 𝓤 H (W .laws) 𝓣 fn)
@@ -117,54 +120,65 @@ module _ {M : Type 1} (𝓤 : URA M) (H : Heap 𝓤) (A : Atoms 𝓤) (W : Given
 
 -- ---- by the function's parameters
 module _ {M : Type 1} (𝓤 : URA M) (H : Heap 𝓤) (A : Atoms 𝓤) (W : Given 𝓤 H A) (𝓣 : Tables 𝓤 H) (fn : Fn) (Q : RattleType) (D : Data Q) where
+  abbrev body-runs : (ℕ → ℕ) → (Val → SProp 𝓤) → Goal 𝓤 H
+  body-runs l post = runs (𝓣 .C) (𝓣 .Λ) (env (fn .locals) l) (fn .body) (atRet (env (fn .locals) l) post)
+
   module _ (R : RattleType) (ps : List (Slot 1)) (Ds : Given-data 1 ps) where
+    -- the arguments are of their locals' types
+    abbrev Typed-one : Type 0
+    Typed-one = (κ : Lft) (b o : ℕ) (xs : List (R .Denot)) (a : Denots (typesAt ps (κ, tt))) → Room R (length xs) → Are (typesAt ps (κ, tt)) (Ises (typesAt ps (κ, tt))) a (valsOf (typesAt ps (κ, tt)) (Ds (κ, tt)) a) → Passable (fn .locals) (sliceVal (b, o) (length xs) ∷ flat (typesAt ps (κ, tt)) (valsOf (typesAt ps (κ, tt)) (Ds (κ, tt)) a))
+
     module _ (cl : Clauses 𝓤 (of-shared R ps Q)) (ψ : (κs : Lfts 1) → Args (of-shared R ps Q .signature) κs → Type 0) (φ : (κs : Lfts 1) → Args (of-shared R ps Q .signature) κs → Q .Denot → Type 0) where
       abbrev pub Shared-walk : Type 2
       Shared-walk = (κ : Lft) (s : Share) (b o : ℕ) (γ : GName) (xs : List (R .Denot)) (a : Denots (typesAt ps (κ, tt))) → Room R (length xs) → Are (typesAt ps (κ, tt)) (Ises (typesAt ps (κ, tt))) a (valsOf (typesAt ps (κ, tt)) (Ds (κ, tt)) a) → ψ (κ, tt) (slice R b o γ xs, a)
-          → (Kf : Val → SProp 𝓤) → ((y : Q .Denot) → Is Q y (D .val y ∷ []) → φ (κ, tt) (slice R b o γ xs, a) y → Sq W (shared R (slice R b o γ xs) κ s ∷ []) (prop (Kf (D .val y))))
-          → Sq W (shared R (slice R b o γ xs) κ s ∷ []) (prop (WpFn 𝓤 H (𝓣 .C) (𝓣 .Λ) fn (sliceVal (b, o) (length xs) ∷ flat (typesAt ps (κ, tt)) (valsOf (typesAt ps (κ, tt)) (Ds (κ, tt)) a)) Kf))
+          → (post : Val → SProp 𝓤) → ((y : Q .Denot) → Is Q y (D .val y ∷ []) → φ (κ, tt) (slice R b o γ xs, a) y → Sq W (shared R (slice R b o γ xs) κ s ∷ []) (prop (post (D .val y))))
+          → (l : ℕ → ℕ) → Sq W (frame (env (fn .locals) l) (at-entry (fn .locals) (sliceVal (b, o) (length xs) ∷ flat (typesAt ps (κ, tt)) (valsOf (typesAt ps (κ, tt)) (Ds (κ, tt)) a))) ∷ shared R (slice R b o γ xs) κ s ∷ []) (body-runs l post)
 
-      pub shared-meets : Asks 𝓤 (of-shared R ps Q) cl ψ → Ensures 𝓤 (of-shared R ps Q) cl (λ κs a ws r. φ κs a r) → Shared-walk → Meets 𝓤 H A (of-shared R ps Q .signature) (WpFn 𝓤 H (𝓣 .C) (𝓣 .Λ) fn) (closing 𝓤 H A (of-shared R ps Q) cl)
-      shared-meets asks ens walk =
+      pub shared-meets : Typed-one → Asks 𝓤 (of-shared R ps Q) cl ψ → Ensures 𝓤 (of-shared R ps Q) cl (λ κs a ws r. φ κs a r) → Shared-walk → Meets 𝓤 H A (of-shared R ps Q .signature) (WpFn 𝓤 H (𝓣 .C) (𝓣 .Λ) fn) (closing 𝓤 H A (of-shared R ps Q) cl)
+      shared-meets typed asks ens walk =
           by-walk 𝓤 H A W 𝓣 fn (of-shared R ps Q) (stay-none-slice (0 ∷ []) tt (plain (λ _. R)) yes, stays 1 ps) (goes-none-slice 𝓤 H A W 1 (0 ∷ []) tt (plain (λ _. R)) yes, go 1 𝓤 H A W ps Ds)
           (λ κs. (slice-vals, spells (typesAt ps κs) (Ds κs))) (λ κs. (shr-slice-tells (named 0) (κs .0) R, tellss (typesAt ps κs) (Ds κs))) cl ψ (λ κs a ws r. φ κs a r) asks ens
           (λ κs qs a. shared R (a .0) (κs .0) (qs .0) ∷ [])
           (λ κs qs a. qed W ((‵ (flft (κs .0) (qs .0)) ⊛ ‵ ftrue) ∷ ‵ (owns (typesAt (of-shared R ps Q .signature .params) κs) a (slice-vals (a .0), valsOf (typesAt ps κs) (Ds κs) (a .1))) ∷ []) ∵ split ! $ move ! (2 ∷ []) $ fsplit ! $ move ! (0 ∷ 2 ∷ []) $ join ! $ keep ! (0 ∷ []) $ done !)
           (λ κs. D) (λ κs qs a ws. shared R (a .0) (κs .0) (qs .0) ∷ [])
-          (λ κs qs a ws are y is. qed W (shared R (a .0) (κs .0) (qs .0) ∷ []) ∵ nothing ! $ move ! (1 ∷ []) $ split ! $ move ! (1 ∷ 2 ∷ []) $ join ! $ frame ! $
-          has-data 1 ! κs ps (Ds κs) (a .1) (ws .1) (are .1) $ move ! (1 ∷ 0 ∷ []) $ fjoin ! $ frame ! $ by ! (D .makes 𝓤 H A W y _ is))
-          (λ κs qs a are p Kf k. walk (κs .0) (qs .0) (a .0 .ptr .0) (a .0 .ptr .1) (a .0 .name) (a .0 .now) (a .1) (are .0 .0 .1) (are .1) p Kf (λ y is f. k y (tt, lasts-of 1 κs ps (Ds κs) (a .1)) (tt, fit 1 κs ps (a .1) _) is f))
+          (λ κs qs a ws are y is. qed W (shared R (a .0) (κs .0) (qs .0) ∷ []) ∵ nothing ! $ move ! (1 ∷ []) $ split ! $ move ! (1 ∷ 2 ∷ []) $ join ! $ framing ! $
+          has-data 1 ! κs ps (Ds κs) (a .1) (ws .1) (are .1) $ move ! (1 ∷ 0 ∷ []) $ fjoin ! $ framing ! $ by ! (D .makes 𝓤 H A W y _ is))
+          (λ κs qs a are p post k. starts ! fn _ (typed (κs .0) (a .0 .ptr .0) (a .0 .ptr .1) (a .0 .now) (a .1) (are .0 .0 .1) (are .1)) (walk (κs .0) (qs .0) (a .0 .ptr .0) (a .0 .ptr .1) (a .0 .name) (a .0 .now) (a .1) (are .0 .0 .1) (are .1) p post (λ y is f. k y (tt, lasts-of 1 κs ps (Ds κs) (a .1)) (tt, fit 1 κs ps (a .1) _) is f)))
 
     -- it ends with a last list, as long as the one that was lent
     module _ (cl : Clauses 𝓤 (of-mut R ps Q)) (ψ : (κs : Lfts 1) → Args (of-mut R ps Q .signature) κs → Type 0) (φ : (κs : Lfts 1) → Args (of-mut R ps Q .signature) κs → List (R .Denot) → Q .Denot → Type 0) where
       abbrev pub Mut-walk : Type 2
       Mut-walk = (κ : Lft) (s : Share) (b o : ℕ) (γ : GName) (xs : List (R .Denot)) (a : Denots (typesAt ps (κ, tt))) → Room R (length xs) → Are (typesAt ps (κ, tt)) (Ises (typesAt ps (κ, tt))) a (valsOf (typesAt ps (κ, tt)) (Ds (κ, tt)) a) → ψ (κ, tt) (slice R b o γ xs, a)
-          → (Kf : Val → SProp 𝓤) → ((y : Q .Denot) (zs : List (R .Denot)) → length zs ≡ length xs → Is Q y (D .val y ∷ []) → φ (κ, tt) (slice R b o γ xs, a) zs y → Sq W (lent R (slice R b o γ zs) (length xs) κ s ∷ []) (prop (Kf (D .val y))))
-          → Sq W (lent R (slice R b o γ xs) (length xs) κ s ∷ []) (prop (WpFn 𝓤 H (𝓣 .C) (𝓣 .Λ) fn (sliceVal (b, o) (length xs) ∷ flat (typesAt ps (κ, tt)) (valsOf (typesAt ps (κ, tt)) (Ds (κ, tt)) a)) Kf))
+          → (post : Val → SProp 𝓤) → ((y : Q .Denot) (zs : List (R .Denot)) → length zs ≡ length xs → Is Q y (D .val y ∷ []) → φ (κ, tt) (slice R b o γ xs, a) zs y → Sq W (lent R (slice R b o γ zs) (length xs) κ s ∷ []) (prop (post (D .val y))))
+          → (l : ℕ → ℕ) → Sq W (frame (env (fn .locals) l) (at-entry (fn .locals) (sliceVal (b, o) (length xs) ∷ flat (typesAt ps (κ, tt)) (valsOf (typesAt ps (κ, tt)) (Ds (κ, tt)) a))) ∷ lent R (slice R b o γ xs) (length xs) κ s ∷ []) (body-runs l post)
 
-      pub mut-meets : Asks 𝓤 (of-mut R ps Q) cl ψ → Ensures 𝓤 (of-mut R ps Q) cl (λ κs a ws r. φ κs a (ws .0) r) → Mut-walk → Meets 𝓤 H A (of-mut R ps Q .signature) (WpFn 𝓤 H (𝓣 .C) (𝓣 .Λ) fn) (closing 𝓤 H A (of-mut R ps Q) cl)
-      mut-meets asks ens walk =
+      pub mut-meets : Typed-one → Asks 𝓤 (of-mut R ps Q) cl ψ → Ensures 𝓤 (of-mut R ps Q) cl (λ κs a ws r. φ κs a (ws .0) r) → Mut-walk → Meets 𝓤 H A (of-mut R ps Q .signature) (WpFn 𝓤 H (𝓣 .C) (𝓣 .Λ) fn) (closing 𝓤 H A (of-mut R ps Q) cl)
+      mut-meets typed asks ens walk =
           by-walk 𝓤 H A W 𝓣 fn (of-mut R ps Q) (stay-slice (0 ∷ []) tt (plain (λ _. R)), stays 1 ps) (goes-slice 𝓤 H A W 1 0 tt (plain (λ _. R)), go 1 𝓤 H A W ps Ds)
           (λ κs. (slice-vals, spells (typesAt ps κs) (Ds κs))) (λ κs. (mut-slice-tells (named 0) (κs .0) R, tellss (typesAt ps κs) (Ds κs))) cl ψ (λ κs a ws r. φ κs a (ws .0) r) asks ens
           (λ κs qs a. lent R (a .0) (length (a .0 .now)) (κs .0) (qs .0) ∷ [])
           (λ κs qs a. qed W ((‵ (flft (κs .0) (qs .0)) ⊛ ‵ ftrue) ∷ ‵ (owns (typesAt (of-mut R ps Q .signature .params) κs) a (slice-vals (a .0), valsOf (typesAt ps κs) (Ds κs) (a .1))) ∷ []) ∵ split ! $ move ! (2 ∷ []) $ fsplit ! $ move ! (0 ∷ 2 ∷ []) $ join ! $ keep ! (0 ∷ []) $ done !)
           (λ κs. D) (λ κs qs a ws. lent R (slice R (a .0 .ptr .0) (a .0 .ptr .1) (a .0 .name) (ws .0)) (length (a .0 .now)) (κs .0) (qs .0) ∷ [])
-          (λ κs qs a ws are y is. qed W (lent R (slice R (a .0 .ptr .0) (a .0 .ptr .1) (a .0 .name) (ws .0)) (length (a .0 .now)) (κs .0) (qs .0) ∷ []) ∵ nothing ! $ move ! (1 ∷ []) $ split ! $ move ! (1 ∷ 2 ∷ []) $ join ! $ frame ! $
-          has-data 1 ! κs ps (Ds κs) (a .1) (ws .1) (are .1) $ move ! (1 ∷ 0 ∷ []) $ fjoin ! $ frame ! $ by ! (D .makes 𝓤 H A W y _ is))
-          (λ κs qs a are p Kf k. walk (κs .0) (qs .0) (a .0 .ptr .0) (a .0 .ptr .1) (a .0 .name) (a .0 .now) (a .1) (are .0 .0 .1) (are .1) p Kf (λ y zs len is f. k y (zs, lasts-of 1 κs ps (Ds κs) (a .1)) (len, fit 1 κs ps (a .1) _) is f))
+          (λ κs qs a ws are y is. qed W (lent R (slice R (a .0 .ptr .0) (a .0 .ptr .1) (a .0 .name) (ws .0)) (length (a .0 .now)) (κs .0) (qs .0) ∷ []) ∵ nothing ! $ move ! (1 ∷ []) $ split ! $ move ! (1 ∷ 2 ∷ []) $ join ! $ framing ! $
+          has-data 1 ! κs ps (Ds κs) (a .1) (ws .1) (are .1) $ move ! (1 ∷ 0 ∷ []) $ fjoin ! $ framing ! $ by ! (D .makes 𝓤 H A W y _ is))
+          (λ κs qs a are p post k. starts ! fn _ (typed (κs .0) (a .0 .ptr .0) (a .0 .ptr .1) (a .0 .now) (a .1) (are .0 .0 .1) (are .1)) (walk (κs .0) (qs .0) (a .0 .ptr .0) (a .0 .ptr .1) (a .0 .name) (a .0 .now) (a .1) (are .0 .0 .1) (are .1) p post (λ y zs len is f. k y (zs, lasts-of 1 κs ps (Ds κs) (a .1)) (len, fit 1 κs ps (a .1) _) is f)))
 
   module _ (R R₂ : RattleType) (ps : List (Slot 2)) (Ds : Given-data 2 ps) (cl : Clauses 𝓤 (of-mut-shared R R₂ ps Q)) (ψ : (κs : Lfts 2) → Args (of-mut-shared R R₂ ps Q .signature) κs → Type 0)
       (φ : (κs : Lfts 2) → Args (of-mut-shared R R₂ ps Q .signature) κs → List (R .Denot) → Q .Denot → Type 0) where
     abbrev pub Mut-shared-walk : Type 2
     Mut-shared-walk = (κ κ₂ : Lft) (s s₂ : Share) (b o b₂ o₂ : ℕ) (γ γ₂ : GName) (xs : List (R .Denot)) (xs₂ : List (R₂ .Denot)) (a : Denots (typesAt ps (κ, (κ₂, tt)))) → Room R (length xs) → Room R₂ (length xs₂)
         → Are (typesAt ps (κ, (κ₂, tt))) (Ises (typesAt ps (κ, (κ₂, tt)))) a (valsOf (typesAt ps (κ, (κ₂, tt))) (Ds (κ, (κ₂, tt))) a) → ψ (κ, (κ₂, tt)) (slice R b o γ xs, (slice R₂ b₂ o₂ γ₂ xs₂, a))
-        → (Kf : Val → SProp 𝓤) → ((y : Q .Denot) (zs : List (R .Denot)) → length zs ≡ length xs → Is Q y (D .val y ∷ []) → φ (κ, (κ₂, tt)) (slice R b o γ xs, (slice R₂ b₂ o₂ γ₂ xs₂, a)) zs y
-        → Sq W (lent R (slice R b o γ zs) (length xs) κ s ∷ shared R₂ (slice R₂ b₂ o₂ γ₂ xs₂) κ₂ s₂ ∷ []) (prop (Kf (D .val y))))
-        → Sq W (lent R (slice R b o γ xs) (length xs) κ s ∷ shared R₂ (slice R₂ b₂ o₂ γ₂ xs₂) κ₂ s₂ ∷ [])
-        (prop (WpFn 𝓤 H (𝓣 .C) (𝓣 .Λ) fn (sliceVal (b, o) (length xs) ∷ sliceVal (b₂, o₂) (length xs₂) ∷ flat (typesAt ps (κ, (κ₂, tt))) (valsOf (typesAt ps (κ, (κ₂, tt))) (Ds (κ, (κ₂, tt))) a)) Kf))
+        → (post : Val → SProp 𝓤) → ((y : Q .Denot) (zs : List (R .Denot)) → length zs ≡ length xs → Is Q y (D .val y ∷ []) → φ (κ, (κ₂, tt)) (slice R b o γ xs, (slice R₂ b₂ o₂ γ₂ xs₂, a)) zs y
+        → Sq W (lent R (slice R b o γ zs) (length xs) κ s ∷ shared R₂ (slice R₂ b₂ o₂ γ₂ xs₂) κ₂ s₂ ∷ []) (prop (post (D .val y))))
+        → (l : ℕ → ℕ) → Sq W (frame (env (fn .locals) l) (at-entry (fn .locals) (sliceVal (b, o) (length xs) ∷ sliceVal (b₂, o₂) (length xs₂) ∷ flat (typesAt ps (κ, (κ₂, tt))) (valsOf (typesAt ps (κ, (κ₂, tt))) (Ds (κ, (κ₂, tt))) a)))
+        ∷ lent R (slice R b o γ xs) (length xs) κ s ∷ shared R₂ (slice R₂ b₂ o₂ γ₂ xs₂) κ₂ s₂ ∷ []) (body-runs l post)
 
-    pub mut-shared-meets : Asks 𝓤 (of-mut-shared R R₂ ps Q) cl ψ → Ensures 𝓤 (of-mut-shared R R₂ ps Q) cl (λ κs a ws r. φ κs a (ws .0) r) → Mut-shared-walk → Meets 𝓤 H A (of-mut-shared R R₂ ps Q .signature) (WpFn 𝓤 H (𝓣 .C) (𝓣 .Λ) fn) (closing 𝓤 H A (of-mut-shared R R₂ ps Q) cl)
-    mut-shared-meets asks ens walk =
+    abbrev Typed-two : Type 0
+    Typed-two = (κ κ₂ : Lft) (b o b₂ o₂ : ℕ) (xs : List (R .Denot)) (xs₂ : List (R₂ .Denot)) (a : Denots (typesAt ps (κ, (κ₂, tt)))) → Room R (length xs) → Room R₂ (length xs₂) → Are (typesAt ps (κ, (κ₂, tt))) (Ises (typesAt ps (κ, (κ₂, tt)))) a (valsOf (typesAt ps (κ, (κ₂, tt))) (Ds (κ, (κ₂, tt))) a)
+        → Passable (fn .locals) (sliceVal (b, o) (length xs) ∷ sliceVal (b₂, o₂) (length xs₂) ∷ flat (typesAt ps (κ, (κ₂, tt))) (valsOf (typesAt ps (κ, (κ₂, tt))) (Ds (κ, (κ₂, tt))) a))
+
+    pub mut-shared-meets : Typed-two → Asks 𝓤 (of-mut-shared R R₂ ps Q) cl ψ → Ensures 𝓤 (of-mut-shared R R₂ ps Q) cl (λ κs a ws r. φ κs a (ws .0) r) → Mut-shared-walk → Meets 𝓤 H A (of-mut-shared R R₂ ps Q .signature) (WpFn 𝓤 H (𝓣 .C) (𝓣 .Λ) fn) (closing 𝓤 H A (of-mut-shared R R₂ ps Q) cl)
+    mut-shared-meets typed asks ens walk =
         by-walk 𝓤 H A W 𝓣 fn (of-mut-shared R R₂ ps Q) (stay-slice (0 ∷ []) tt (plain (λ _. R)), (stay-none-slice (1 ∷ []) tt (plain (λ _. R₂)) yes, stays 2 ps)) (goes-slice 𝓤 H A W 2 0 tt (plain (λ _. R)), (goes-none-slice 𝓤 H A W 2 (1 ∷ []) tt (plain (λ _. R₂)) yes, go 2 𝓤 H A W ps Ds))
         (λ κs. (slice-vals, (slice-vals, spells (typesAt ps κs) (Ds κs)))) (λ κs. (mut-slice-tells (named 0) (κs .0) R, (shr-slice-tells (named 1) (κs .1 .0) R₂, tellss (typesAt ps κs) (Ds κs)))) cl ψ (λ κs a ws r. φ κs a (ws .0) r) asks ens
         (λ κs qs a. lent R (a .0) (length (a .0 .now)) (κs .0) (qs .0) ∷ shared R₂ (a .1 .0) (κs .1 .0) (qs .1 .0) ∷ [])
@@ -175,7 +189,7 @@ module _ {M : Type 1} (𝓤 : URA M) (H : Heap 𝓤) (A : Atoms 𝓤) (W : Given
         (λ κs. D) (λ κs qs a ws. lent R (slice R (a .0 .ptr .0) (a .0 .ptr .1) (a .0 .name) (ws .0)) (length (a .0 .now)) (κs .0) (qs .0) ∷ shared R₂ (a .1 .0) (κs .1 .0) (qs .1 .0) ∷ [])
         (λ κs qs a ws are y is. qed W (lent R (slice R (a .0 .ptr .0) (a .0 .ptr .1) (a .0 .name) (ws .0)) (length (a .0 .now)) (κs .0) (qs .0) ∷ shared R₂ (a .1 .0) (κs .1 .0) (qs .1 .0) ∷ []) ∵ nothing ! $ move ! (1 ∷ []) $ split ! $ move ! (3 ∷ []) $ split ! $
         -- [the shared slice; its token; the lent slice; its token; nothing]
-        move ! (1 ∷ 4 ∷ []) $ join ! $ move ! (3 ∷ 0 ∷ []) $ join ! $ frame ! $
-        has-data 2 ! κs ps (Ds κs) (a .1 .1) (ws .1 .1) (are .1 .1) $ move ! (1 ∷ 0 ∷ []) $ fjoin ! $ move ! (1 ∷ 0 ∷ []) $ fjoin ! $ frame ! $ by ! (D .makes 𝓤 H A W y _ is))
-        (λ κs qs a are p Kf k. walk (κs .0) (κs .1 .0) (qs .0) (qs .1 .0) (a .0 .ptr .0) (a .0 .ptr .1) (a .1 .0 .ptr .0) (a .1 .0 .ptr .1) (a .0 .name) (a .1 .0 .name) (a .0 .now) (a .1 .0 .now) (a .1 .1) (are .0 .0 .1) (are .1 .0 .0 .1) (are .1 .1) p Kf
-        (λ y zs len is f. k y (zs, (tt, lasts-of 2 κs ps (Ds κs) (a .1 .1))) (len, (tt, fit 2 κs ps (a .1 .1) _)) is f))
+        move ! (1 ∷ 4 ∷ []) $ join ! $ move ! (3 ∷ 0 ∷ []) $ join ! $ framing ! $
+        has-data 2 ! κs ps (Ds κs) (a .1 .1) (ws .1 .1) (are .1 .1) $ move ! (1 ∷ 0 ∷ []) $ fjoin ! $ move ! (1 ∷ 0 ∷ []) $ fjoin ! $ framing ! $ by ! (D .makes 𝓤 H A W y _ is))
+        (λ κs qs a are p post k. starts ! fn _ (typed (κs .0) (κs .1 .0) (a .0 .ptr .0) (a .0 .ptr .1) (a .1 .0 .ptr .0) (a .1 .0 .ptr .1) (a .0 .now) (a .1 .0 .now) (a .1 .1) (are .0 .0 .1) (are .1 .0 .0 .1) (are .1 .1)) (walk (κs .0) (κs .1 .0) (qs .0) (qs .1 .0) (a .0 .ptr .0) (a .0 .ptr .1) (a .1 .0 .ptr .0) (a .1 .0 .ptr .1) (a .0 .name) (a .1 .0 .name) (a .0 .now) (a .1 .0 .now) (a .1 .1) (are .0 .0 .1) (are .1 .0 .0 .1) (are .1 .1) p post
+        (λ y zs len is f. k y (zs, (tt, lasts-of 2 κs ps (Ds κs) (a .1 .1))) (len, (tt, fit 2 κs ps (a .1 .1) _)) is f)))

@@ -11,7 +11,6 @@ use borrow.Author.Needs.{needs}
 use Rattle.sheet.specs.declared.Check.{Check}
 use Rattle.sheet.specs.Plain.{passed}
 use Rattle.plain.specs.declared.Turn.{Turn}
-use Rattle.plain.specs.declared.Start.{Start}
 use Rattle.plain.specs.Starts.{checkOf, turnAt, startOf}
 use Rattle.plain.proofs.begin.Statement.{statement}
 use Rattle.plain.proofs.begin.Tie as tie
