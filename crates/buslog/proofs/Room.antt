@@ -1,6 +1,7 @@
 -- There is room for the text of any log: at most 32,768 transfer lines of 38 bytes, 1,280 column lines of 20 and two group lines of 14; or a refusal's line.
 -- Assumes nothing.
-use mathlib.Core.Path.{_≡_, refl}
+use mathlib.Core.Path.{_≡_, refl, ap}
+use mathlib.Core.Logic.{⊎-elim}
 use mathlib.Core.Bool.{Bool, true, false, cond}
 use mathlib.Core.List.{List, [], _∷_, _++_, map}
 use Prim.Native.Nat.{ℕ, zero, suc, _+_, _*_, _/_, _%_, _^_, _≤_, _<_}
@@ -9,6 +10,8 @@ use native.Mathlib.Omega.{arith}
 use lib.Count.{ones, ones-le}
 use lib.Dec.{eqb}
 use lib.ListN.{length, getD, take, drop, length-append, length-drop, length-take, length-map}
+use borrow.Author.Tests.{lt-ltb, le-ltb}
+use Rattle.lemmas.proofs.Order.{lt-or-le}
 use Rattle.sheet.specs.declared.Answer.{Answer}
 use Rattle.sheet.specs.declared.Chips.{Chips}
 use Rattle.sheet.specs.declared.Shown.{Shown}
@@ -26,8 +29,10 @@ use Rattle.laws.proofs.Nibbles.{Nibbles, take-nibbles, drop-nibbles}
 use Rattle.laws.proofs.Fits.{fits-of}
 use Rattle.agreement.proofs.Demand.{pcf8532}
 use Rattle.long.proofs.Parts.{part-few, part-long}
+use Rattle.buslog.specs.declared.Replayed.{Replayed}
+use Rattle.buslog.specs.declared.Replayed.the-variants.{Written, SmallBuffer}
 use Rattle.buslog.specs.Records.{recordsFrom}
-use Rattle.buslog.specs.Replays.{room}
+use Rattle.buslog.specs.Replays.{room, replayCall}
 use Rattle.buslog.proofs.Widths.{Small, line-few}
 use Rattle.buslog.proofs.Numbers.{Few, log-few, transfer-few}
 use Rattle.buslog.proofs.Checked.{checked}
@@ -143,3 +148,16 @@ text-few log = by-check (checkLog log) refl (log-few log)
     by-check : (k : Check) → checkLog log ≡ k → Few k → length (textBy k (logChips log) (recordsFrom 3 log)) ≤ room
     by-check Passed e f = lines-few log e
     by-check (Refused r) e f = omega (arith, line-few 88 (numberOf r ∷ placeOf r ∷ []) f)
+
+-- a replay's count is of bytes of its buffer
+pub count-few : (log out : List ℕ) (count : ℕ) → replayCall log out .result ≡ Written count → count ≤ length out
+unfolding replayCall
+count-few log out count e =
+    ⊎-elim
+    (λ (l : length out < room). absurd (omega (arith, ap told (rw (lt-ltb (length out) room l) at e))))
+    (λ (l : room ≤ length out). omega (arith, text-few log, ap told (rw (le-ltb (length out) room l) at e)))
+    (lt-or-le (length out) room)
+  where
+    told : Replayed → ℕ
+    told (Written n) = suc n
+    told SmallBuffer = 0
