@@ -112,27 +112,7 @@ module _ (cs : List Chip) (bytes : List ℕ) where
           record { within = t .0; counted = le-refl 1; byte = refl; right = λ _. t .1 }
       by-test false e = record { within = le-refl (length bytes); counted = zero-le; byte = refl; right = λ l. absurd (lt-irrefl (length bytes) l) }
 
-<<<<<<< HEAD
--- ---- the answer, by the check and whether a chip hears
-module _ (cs : List Chip) (bytes : List ℕ) where
-  -- nothing is left to follow
-  idle : followed cs bytes (turnAt bytes (length bytes) 0) ≡ record { acknowledged = 0; chips = cs }
-  unfolding plainHeard
-  idle = ap (λ (l : List ℕ). plainHeard 160 4 (getD bytes 0 0) Control l (record { acknowledged = 0; chips = cs })) (drop-length bytes)
-
-  answered : (k : Check) (t : Bool) → record { answer = answerOf k (followed cs bytes (firstTurn bytes k t) .acknowledged); chips = followed cs bytes (firstTurn bytes k t) .chips }
-      ≡ plainAnswered k cs (plainSaid (cond t (plainHeard 160 4 (getD bytes 0 0) Control (drop 1 bytes) (record { acknowledged = 1; chips = cs })) (record { acknowledged = 0; chips = cs })))
-  answered Passed true = refl
-  answered Passed false = ap plainSaid idle
-  answered (Refused r) t = λ j. record { answer = PlainAnswer.Refused r; chips = idle j .chips }
-
-  pub concluded : record {
-    answer = answerOf (startOf bytes (length cs) (misfit-at cs bytes) (hearer-at cs bytes) .check) (followed cs bytes (startOf bytes (length cs) (misfit-at cs bytes) (hearer-at cs bytes) .turn) .acknowledged);
-    chips = followed cs bytes (startOf bytes (length cs) (misfit-at cs bytes) (hearer-at cs bytes) .turn) .chips;
-  } ≡ plainCall 160 4 cs bytes
-=======
   -- the call, as it is begun, followed and answered
   pub concluded : record { answer = answerOf (begun .check) (followed cs bytes (begun .turn) .acknowledged); chips = followed cs bytes (begun .turn) .chips } ≡ plainCall 160 4 cs bytes
->>>>>>> e9d5538
   unfolding plainCall
   concluded = (λ j. record { answer = answerOf (checked j) (followed cs bytes (turned j) .acknowledged); chips = followed cs bytes (turned j) .chips }) ∙ answered cs bytes (checkPlain 160 4 cs bytes) heard

@@ -52,47 +52,6 @@ module _ {M : Type 1} (𝓤 : URA M) (H : Heap 𝓤) (A : Atoms 𝓤) (W : Given
         At = λ i. frame (env (code.function .locals) l) (held i) ∷ ‵ (row ChipType.the-row fullShare (zs i) b o) ∷ opened ChipType.the-row κ s γ xs b o ∷ [];
       }
 
-<<<<<<< HEAD
-    abbrev loop : Loop 𝓤 H
-    loop = record {
-      frame = En;
-      turn = body.turn-1;
-      rest = body.t-3;
-      post = Kf;
-      State = ℕ;
-      measure = λ i. length xs - i;
-      Fact = λ i. i ≤ length xs;
-      At = λ i. frame En (held i) ∷ ‵ (row T.the-row fullShare (firstOf (taken h) i xs) b o) ∷ opened T.the-row κ s γ xs b o ∷ [];
-    }
-
-    turn : (i : ℕ) → i ≤ length xs → Sq W (loop .At i) (runs (𝓣 .C) (𝓣 .Λ) En body.turn-1 (Turned W 𝓣 loop i))
-    turn i so =
-        sets ! (of-opd ! (field ! refl refl refl)) tt (tt, record { fits = space .0 }) $ sets ! (bin ! (get ! refl) (get ! refl) tt) tt (tt, tt) $ goes-on W 𝓣 loop ! i (get ! refl)
-        (λ on.
-        let small : i < length xs = ltb→lt i (length xs) on in
-        let far : i * 200 < 2 ^ 64 = omega (arith, space .1) in
-        let next : i + 1 < 2 ^ 64 = omega (arith, space .0) in
-        let within : i < length (firstOf (taken h) i xs) = subst (λ (m : ℕ). i < m) (sym (first-length (taken h) i xs)) small in
-        let c : Chip = getD (firstOf (taken h) i xs) i blank in
-        sets ! (bin ! (get ! refl) (lit ! tt) (record { fits = far })) tt (tt, record { fits = far }) $ sets ! (bin ! (field ! refl refl refl) (get ! refl) tt) tt (tt, tt) $
-        reads-element T.the-type T′.the-laws ! fullShare (firstOf (taken h) i xs) b o i blank within refl tt refl (λ is-c.
-        calls-plain ! 6 𝓣 T.the-row chip tt refl (taken h c) (then _) (plain (λ _. T.the-row) ∷ plain (λ _. TB.the-row) ∷ []) (λ _. (chip, (heard, tt))) (λ _. (c, (h, tt))) (λ _. (is-c, (is-h, tt))) (g.clauses 𝓤 H A mem run) known tt (id⊢ 𝓤 (emp 𝓤))
-        (λ Δ. and-then ! (get ! refl) (and-then ! (get ! refl) (no-more !))) (λ r ws. id⊢ 𝓤 _) (λ is-d.
-        sets ! (bin ! (get ! refl) (lit ! tt) (record { fits = far })) tt (tt, record { fits = far }) $ sets ! (bin ! (field ! refl refl refl) (get ! refl) tt) tt (tt, tt) $
-        writes-element T.the-type T′.the-laws T′.the-plain ! (firstOf (taken h) i xs) b o i blank (taken h c) within refl is-d refl $
-        sets-last ! (bin ! (get ! refl) (lit ! tt) (record { fits = next })) tt (tt, record { fits = next }) $ forgets ! 4 $
-        rewrite ! 0 (λ (j : ℕ). frame En (held j)) (add-one i) refl $
-        rewrite ! 1 (λ (zs : List Chip). ‵ (row T.the-row fullShare zs b o)) (ap (λ (d : Chip). set (firstOf (taken h) i xs) i (taken h d)) (first-at (taken h) i xs blank) ∙ first-more (taken h) i xs blank small) refl $
-        next-turn W 𝓣 loop ! i (suc i) (omega arith) small)))
-        (λ off. sets ! (of-opd ! (unit-lit !)) tt (tt, tt) $ move ! (1 ∷ 2 ∷ []) $ shuts T.the-row ! tt xs (firstOf (taken h) i xs) b o space (first-length (taken h) i xs) $ move ! (1 ∷ []) $ leaves ! Kf refl refl tt $
-        ends tt (firstOf (taken h) i xs) (first-length (taken h) i xs) refl (ap (λ (j : ℕ). firstOf (taken h) j xs) (le-antisymm so (nltb→le i (length xs) off)) ∙ first-all (taken h) xs))
-
-  walk : Mut-walk 𝓤 H A W 𝓣 code.function unit nothing T.the-row (plain (λ _. TB.the-row) ∷ []) (λ _. (heard, tt)) (f.clauses 𝓤 H A mem run) (λ κs a. Unit {0}) (λ κs a zs r. zs ≡ map (taken (a .1 .0)) (a .0 .now))
-  walk κ s b o γ xs a space are _ Kf ends =
-      starts ! code.function (sliceVal (b, o) (length xs) ∷ heard .val (a .0) ∷ []) ((tt, (tt, (record { fits = space .0 }, tt))), (heard .typed 𝓤 H A W (a .0) (are .0), tt)) (λ l.
-      sets ! (of-opd ! (lit ! tt)) tt (tt, record { fits = lit< tt }) $ move ! (1 ∷ []) $ opens T.the-row ! tt xs b o $ move ! (2 ∷ []) $
-      turned W 𝓣 (loop κ s b o γ xs (a .0) space (are .0) Kf ends l) ! (turn κ s b o γ xs (a .0) space (are .0) Kf ends l) 0 (omega arith))
-=======
       turns : (i : ℕ) → i ≤ length xs → Sq W (loop .At i) (runs (𝓣 .C) (𝓣 .Λ) (env (code.function .locals) l) body.turn-1 (Turned W 𝓣 loop i))
       turns i so =
           sets ! (of-opd ! (field ! refl refl refl)) tt (tt, record { fits = space .0 }) $ sets ! (bin ! (get ! refl) (get ! refl) tt) tt (tt, tt) $ goes-on W 𝓣 loop ! i (get ! refl)
@@ -113,7 +72,6 @@ module _ {M : Type 1} (𝓤 : URA M) (H : Heap 𝓤) (A : Atoms 𝓤) (W : Given
           next-turn W 𝓣 loop ! i (suc i) (omega arith) small)))
           (λ off. sets ! (of-opd ! (unit-lit !)) tt (tt, tt) $ move ! (1 ∷ 2 ∷ []) $ shuts ChipType.the-row ! tt xs (zs i) b o space (first-length (taken h) i xs) $ move ! (1 ∷ []) $ leaves ! post refl refl tt $
           ends tt (zs i) (first-length (taken h) i xs) refl (ap zs (le-antisymm so (nltb→le i (length xs) off)) ∙ first-all (taken h) xs))
->>>>>>> e9d5538
 
 pub take-all-spec : {M : Type 1} → stated.statement M
 unfolding code.routine tablesOf
