@@ -1,6 +1,6 @@
 -- The digits of a number: those of its tenth, and the last one.
 -- Assumes nothing.
-use mathlib.Core.Path.{_≡_, refl, ap}
+use mathlib.Core.Path.{_≡_, ap}
 use mathlib.Core.Logic.{⊎-elim}
 use mathlib.Core.List.{List, [], _∷_, _++_}
 use Prim.Native.Nat.{ℕ, zero, suc, _+_, _/_, _%_, _≤_, _<_}
@@ -20,10 +20,12 @@ same-digits (suc k) (suc j) n hk hj =
     (λ (l : 10 ≤ n). rw (le-ltb n 10 l) (ap (λ (d : List ℕ). d ++ ((48 + n % 10) ∷ [])) (same-digits k j (n / 10) (omega arith) (omega arith))))
     (lt-or-le n 10)
 
+-- a number below ten
 pub one-digit : (n : ℕ) → n < 10 → decimal n ≡ (48 + n) ∷ []
 unfolding decimal digitsIn
 one-digit n h = rw (lt-ltb n 10 h)
 
+-- any other
 pub more-digits : (n : ℕ) → 10 ≤ n → decimal n ≡ decimal (n / 10) ++ ((48 + n % 10) ∷ [])
 unfolding decimal digitsIn
 more-digits n h = rw (le-ltb n 10 h) (ap (λ (d : List ℕ). d ++ ((48 + n % 10) ∷ [])) (same-digits n (suc (n / 10)) (n / 10) (omega arith) (omega arith)))

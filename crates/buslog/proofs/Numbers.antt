@@ -1,13 +1,13 @@
 -- The numbers of answers and refusals are below 100,000.
 -- Assumes nothing.
-use mathlib.Core.Path.{_≡_, refl, sym, ap, subst, _∙_}
+use mathlib.Core.Path.{_≡_, refl, sym, subst, _∙_}
 use mathlib.Core.Bool.{Bool, true, false, cond, _&&_, not}
 use mathlib.Core.List.{List, [], _∷_}
-use Prim.Native.Nat.{ℕ, zero, suc, _+_, _-_, _*_, _≤_, _<_}
+use Prim.Native.Nat.{ℕ, zero, suc, _+_, _-_, _≤_, _<_}
 use native.Mathlib.Omega.{arith}
 use lib.Dec.{leb, ltb, eqb}
 use lib.ListN.{length, getD, drop, length-drop}
-use Rattle.sheet.specs.declared.Both.{Both}
+use Rattle.sheet.specs.declared.Answer.{Answer}
 use Rattle.sheet.specs.declared.Registers.{Registers}
 use Rattle.sheet.specs.declared.Chips.{Chips}
 use Rattle.sheet.specs.declared.Addressed.{Addressed}
@@ -15,18 +15,18 @@ use Rattle.sheet.specs.declared.Addressed.the-variants.{To, Nobody}
 use Rattle.sheet.specs.declared.Expect.{Expect}
 use Rattle.sheet.specs.declared.Expect.the-variants.{Control}
 use Rattle.sheet.specs.declared.Refusal.{Refusal}
-use Rattle.sheet.specs.declared.Refusal.the-variants.{EmptyTransfer, LongTransfer, ChipCount, LogHead, CutRecord, LongLog}
+use Rattle.sheet.specs.declared.Refusal.the-variants.{EmptyTransfer, LongTransfer, ChipCount, LogHead, LongLog}
 use Rattle.sheet.specs.declared.Check.{Check}
 use Rattle.sheet.specs.declared.Check.the-variants.{Passed, Refused}
 use Rattle.sheet.specs.Refusals.{numberOf, placeOf, numbers}
 use Rattle.sheet.specs.Commands.{commandOf, defined}
 use Rattle.sheet.specs.Protocol.{heardBy, next, isCommand, undefinedIn}
-use Rattle.sheet.specs.Checks.{unless, orElse, checkChips, checkLength, checkCommands, checkState, checkTransfer}
-use Rattle.sheet.specs.Long.{State, Group, After, byte, heard, acknowledged, nothing, taken, answered, transferCall, registersOf, partOf}
-use Rattle.sheet.specs.Logs.{lengthOf, logChips, cutIn, checkLog}
+use Rattle.sheet.specs.Checks.{unless, orElse, checkChips, checkLength, checkCommands, checkTransfer}
+use Rattle.sheet.specs.Long.{State, Group, byte, heard, acknowledged, taken, answered, transferCall, registersOf, partOf}
+use Rattle.sheet.specs.Logs.{lengthOf, cutIn, checkLog}
 use Rattle.sheet.specs.Agree.{Valid}
 use Rattle.laws.proofs.Ranges.{InRange}
-use Rattle.laws.proofs.Fits.{Fits, fits-of, both-pass, unless-passes}
+use Rattle.laws.proofs.Fits.{fits-of}
 use Rattle.protocol.specs.declared.Listener.{Listener}
 use Rattle.protocol.specs.Listeners.{groupOf, listenerOf, begun}
 use Rattle.protocol.proofs.Hearing.{Sound, Hearing, byte-turn, at-end}
@@ -69,6 +69,7 @@ cut-few (suc k) at (b ∷ l ∷ rest) h =
     (λ e. cut-few k (at + 2 + lengthOf b l) (drop (lengthOf b l) rest) (omega (arith, leb-true (lengthOf b l) (length rest) e, length-drop (lengthOf b l) rest)))
     (omega arith)
 
+-- a log's refusal
 pub log-few : (log : List ℕ) → Few (checkLog log)
 unfolding checkLog checkChips
 log-few log =
@@ -79,7 +80,7 @@ log-few log =
 
 -- ---- transfers
 
--- what a group has counted after a transfer's bytes
+-- what a group has counted after a transfer's bytes, of which k are left at byte i
 counted-few : (k : ℕ) (ram₀ bytes : List ℕ) (r : Registers) (ram : List ℕ) (l : Listener) (i : ℕ) → i + k ≡ length bytes → Hearing ram₀ bytes r ram l i
     → Sound (heard 160 4 Control (drop 1 bytes) (begun r ram₀)) (length bytes) (length ram₀)
 counted-few zero ram₀ bytes r ram l i e h =
@@ -92,14 +93,16 @@ counted-few (suc k) ram₀ bytes r ram l i e h =
     (byte-turn ram₀ bytes r ram l i (omega arith) h (l .expect) refl (g .ram) (listenerOf (next (l .expect) x) g) refl refl)
 
 -- a group that hears a transfer of 4,096 bytes at most
-pub heard-few : (ram bytes : List ℕ) (r : Registers) → InRange 160 4 r → 0 < length bytes → length bytes < 4097
-    → Small (0 ∷ 0 ∷ heard 160 4 Control (drop 1 bytes) (begun r ram) .counts .acknowledged ∷ heard 160 4 Control (drop 1 bytes) (begun r ram) .counts .stored ∷ heard 160 4 Control (drop 1 bytes) (begun r ram) .counts .discarded ∷ [])
+heard-few : (ram bytes : List ℕ) (r : Registers) → InRange 160 4 r → 0 < length bytes → length bytes < 4097
+    → Small (numbers (Answer.Taken (heard 160 4 Control (drop 1 bytes) (begun r ram) .counts)))
 heard-few ram bytes r range some few =
     let h : Hearing ram bytes r ram (listenerOf Control (begun r ram)) 1 = record { rest = refl; sound = record { range = range; acknowledged = omega arith; bits = omega arith; long = refl }; most = omega arith } in
     let s = counted-few (length bytes - 1) ram bytes r ram (listenerOf Control (begun r ram)) 1 (omega arith) h in
     omega arith
 
+-- in a state that no call refuses
 module _ (n : Chips) (s : State) (bytes : List ℕ) (v : Valid 160 4 n s) (short : length bytes ≤ 65536) where
+  -- a refusal's place
   transfer-refused : Few (checkTransfer 160 4 n (s .registers) (s .ram) bytes)
   unfolding checkTransfer checkLength
   transfer-refused = rw v (lengths (ltb 0 (length bytes)) (leb (length bytes) 4096))
@@ -113,12 +116,14 @@ module _ (n : Chips) (s : State) (bytes : List ℕ) (v : Valid 160 4 n s) (short
       lengths true false = omega arith
       lengths false u = omega arith
 
+  -- a taken transfer's counts
   transfer-taken : checkTransfer 160 4 n (s .registers) (s .ram) bytes ≡ Passed → (to : Addressed) → Small (numbers (taken 160 4 n (s .registers) (s .ram) bytes to .result .answer))
   transfer-taken e (To g) =
       let p = transfer-passed n (s .registers) (s .ram) bytes e in
       heard-few (partOf 160 n g (s .ram)) bytes (registersOf g (s .registers)) (part-in n (s .registers) (s .ram) g (fits-of 160 4 n (s .registers) (s .ram) v)) (p .1 .0) (p .1 .1)
   transfer-taken e Nobody = omega arith
 
+  -- an answer's numbers
   pub transfer-few : Small (numbers (transferCall 160 4 n (s .registers) (s .ram) bytes .result .answer))
   unfolding transferCall
   transfer-few = by-check (checkTransfer 160 4 n (s .registers) (s .ram) bytes) refl transfer-refused

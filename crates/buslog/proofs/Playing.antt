@@ -1,27 +1,23 @@
 -- What holds while a log's transfers are carried out: what is left gives the whole text and the state at the end.
 -- Assumes nothing.
-use mathlib.Core.Path.{_≡_, refl, sym, ap, subst, _∙_}
-use mathlib.Core.List.{List, [], _∷_, _++_}
-use Prim.Native.Nat.{ℕ, _+_, _-_, _≤_, _<_}
+use mathlib.Core.Path.{_≡_, sym, _∙_}
+use mathlib.Core.List.{List, _∷_, _++_}
+use Prim.Native.Nat.{ℕ, _+_, _-_, _≤_}
 use native.Mathlib.Nat.{add-sub-cancel-left}
 use native.Mathlib.Numerals.{add-one}
 use native.Mathlib.Omega.{arith}
-use lib.ListN.{length, take, drop, length-drop}
+use lib.ListN.{length, take, drop}
 use Rattle.sheet.specs.declared.Both.{Both}
 use Rattle.sheet.specs.declared.Chips.{Chips}
 use Rattle.sheet.specs.declared.Transferred.{Transferred}
-use Rattle.sheet.specs.declared.Check.{Check}
-use Rattle.sheet.specs.declared.Check.the-variants.{Passed, Refused}
-use Rattle.sheet.specs.declared.Refusal.the-variants.{CutRecord}
+use Rattle.sheet.specs.declared.Check.the-variants.{Passed}
 use Rattle.sheet.specs.Refusals.{numbers}
 use Rattle.sheet.specs.Long.{transferCall}
 use Rattle.sheet.specs.Logs.{cutIn, line, transferLines, replayed}
-use Rattle.buslog.specs.declared.Record.{Record}
-use Rattle.buslog.specs.declared.Record.the-variants.{Body, End, Cut}
 use Rattle.buslog.specs.Texts.{Puts}
-use Rattle.buslog.specs.Records.{recordIn, recordsFrom}
+use Rattle.buslog.specs.Records.{recordsFrom}
 use Rattle.buslog.specs.Replays.{stateOf}
-use Rattle.buslog.proofs.Writing.{Writing, rest-is, turn, room}
+use Rattle.buslog.proofs.Writing.{Writing, rest-is, turn}
 use Rattle.buslog.proofs.Records.{Next}
 
 -- the record at a place is the next, the text has come to at, and i records are done
@@ -32,6 +28,7 @@ pub record Playing (log : List ℕ) (n : Chips) (r₀ : Both) (ram₀ out₀ : L
   pub few : i ≤ place
   pub long : length ram ≡ length ram₀
 
+-- a turn: the record there is whole, and its transfer is carried out
 module _ (log : List ℕ) (n : Chips) (r₀ : Both) (ram₀ out₀ : List ℕ) (r : Both) (ram out : List ℕ) (i at place : ℕ) (p : Playing log n r₀ ram₀ out₀ r ram out i at place) where
   module _ (start size : ℕ) (f : Next log place start size) (t : Transferred) (after : List ℕ)
       (result : t ≡ transferCall 160 4 n r ram (take (start + size - start) (drop start log)) .result)
@@ -41,6 +38,7 @@ module _ (log : List ℕ) (n : Chips) (r₀ : Both) (ram₀ out₀ : List ℕ) (
     unfolding transferLines
     one-more = rest-is (p .writing) (rw (f .records, add-one i, result, ram-after, add-sub-cancel-left start size))
 
+    -- and what holds at the next record
     pub next-record : (end : ℕ) (out′ : List ℕ) → length after ≡ length ram → Puts at (line 84 (i ∷ numbers (t .answer))) out out′ end
         → Playing log n r₀ ram₀ out₀ (t .registers) after out′ (i + 1) end (start + size)
     unfolding replayed

@@ -30,14 +30,17 @@ kind Cut = 2
 field : (log : List ℕ) (at : ℕ) → at + 2 ≤ length log → drop at log ≡ getD log at 0 ∷ getD log (at + 1) 0 ∷ drop (at + 2) log
 field log at h = rw (next log at (omega arith), next log (at + 1) (omega arith)) (ap (λ (k : ℕ). getD log at 0 ∷ getD log (at + 1) 0 ∷ drop k log) {x = at + 1 + 1} {y = at + 2} (omega arith))
 
+-- past the last byte
 pub nothing-left : (log : List ℕ) (at : ℕ) → length log ≤ at → recordIn at (drop at log) ≡ End
 unfolding recordIn
 nothing-left log at h = rw (drop-of-length-le log h)
 
+-- a cut length field
 pub one-byte-left : (log : List ℕ) (at : ℕ) → length log ≡ at + 1 → recordIn at (drop at log) ≡ Cut
 unfolding recordIn
 one-byte-left log at e = rw (next log at (omega arith), drop-of-length-le log {i = at + 1} (omega arith))
 
+-- a length field that is whole, and as many bytes after it as it says, or fewer
 module _ (log : List ℕ) (at size : ℕ) (e : size ≡ lengthOf (getD log at 0) (getD log (at + 1) 0)) (h : at + 2 ≤ length log) where
   pub whole-record : size ≤ length log - at - 2 → recordIn at (drop at log) ≡ Body (at + 2) size
   unfolding recordIn
@@ -81,6 +84,7 @@ record Headed (n at : ℕ) (rest : List ℕ) (start size : ℕ) : Type 0 where
   cut : cutIn n at rest ≡ cutIn n (start + size) (drop size (drop 2 rest))
   records : recordsIn n rest ≡ take size (drop 2 rest) ∷ recordsIn n (drop size (drop 2 rest))
 
+-- is what a cursor found
 headed : (n at : ℕ) (rest : List ℕ) (start size : ℕ) → length rest ≤ n → recordIn at rest ≡ Body start size → Headed n at rest start size
 unfolding recordIn cutIn recordsIn
 headed n at [] start size m e = absurd (omega (arith, ap kind e))
@@ -105,6 +109,7 @@ pub record Next (log : List ℕ) (at start size : ℕ) : Type 0 where
   pub cut : cutIn (length log) at (drop at log) ≡ cutIn (length log) (start + size) (drop (start + size) log)
   pub records : recordsFrom at log ≡ take size (drop start log) ∷ recordsFrom (start + size) log
 
+-- is what a cursor found
 pub next-of : (log : List ℕ) (at start size : ℕ) → recordIn at (drop at log) ≡ Body start size → Next log at start size
 next-of log at start size e =
     let h = headed (length log) at (drop at log) start size (omega (arith, length-drop at log)) e in

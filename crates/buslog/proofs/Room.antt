@@ -4,12 +4,12 @@ use mathlib.Core.Path.{_≡_, refl, ap}
 use mathlib.Core.Logic.{⊎-elim}
 use mathlib.Core.Bool.{Bool, true, false, cond}
 use mathlib.Core.List.{List, [], _∷_, _++_, map}
-use Prim.Native.Nat.{ℕ, zero, suc, _+_, _*_, _/_, _%_, _^_, _≤_, _<_}
+use Prim.Native.Nat.{ℕ, zero, suc, _+_, _*_, _/_, _^_, _≤_, _<_}
 use native.Mathlib.Nat.{div-le-self, mod-le}
 use native.Mathlib.Omega.{arith}
-use lib.Count.{ones, ones-le}
+use lib.Count.{ones-le}
 use lib.Dec.{eqb}
-use lib.ListN.{length, getD, take, drop, length-append, length-drop, length-take, length-map}
+use lib.ListN.{length, drop, length-append, length-drop, length-take, length-map}
 use borrow.Author.Tests.{lt-ltb, le-ltb}
 use Rattle.lemmas.proofs.Order.{lt-or-le}
 use Rattle.sheet.specs.declared.Answer.{Answer}
@@ -33,7 +33,7 @@ use Rattle.buslog.specs.declared.Replayed.{Replayed}
 use Rattle.buslog.specs.declared.Replayed.the-variants.{Written, SmallBuffer}
 use Rattle.buslog.specs.Records.{recordsFrom}
 use Rattle.buslog.specs.Replays.{room, replayCall}
-use Rattle.buslog.proofs.Widths.{Small, line-few}
+use Rattle.buslog.proofs.Widths.{line-few}
 use Rattle.buslog.proofs.Numbers.{Few, log-few, transfer-few}
 use Rattle.buslog.proofs.Checked.{checked}
 use Rattle.buslog.proofs.States.{start-valid, replayed-valid}
@@ -61,6 +61,7 @@ records-short (suc k) (b ∷ []) h = tt
 records-short (suc k) (b ∷ l ∷ rest) h =
     (omega (arith, length-take (lengthOf b l) rest), records-short k (drop (lengthOf b l) rest) (omega (arith, length-drop (lengthOf b l) rest)))
 
+-- an answer has five numbers, and a transfer's line one more
 five : (a : Answer) → length (numbers a) ≡ 5
 five (Answer.Taken t) = refl
 five (Answer.Refused r) = refl
@@ -75,6 +76,7 @@ transfers-few n i s (t ∷ ts) v short h =
 
 -- ---- pictures
 
+-- a column shows no more than it holds
 lit-le : (m q : ℕ) (s : Shown) → lit m s q ≤ q
 lit-le m q Dark = omega arith
 lit-le m q (Rows b) = omega (arith, mod-le (q / 2 ^ b) (2 ^ m), div-le-self q (2 ^ b))
@@ -84,11 +86,13 @@ picture-nibbles m s [] w i = omega arith
 picture-nibbles m s (q ∷ qs) w zero = omega (arith, lit-le m q s, w 0)
 picture-nibbles m s (q ∷ qs) w (suc i) = picture-nibbles m s qs (λ j. w (suc j)) i
 
+-- four elements a column
 lit-few : (picture : List ℕ) → Nibbles picture → litIn picture ≤ 4 * length picture
 unfolding litIn
 lit-few [] w = omega arith
 lit-few (q ∷ qs) w = omega (arith, ones-le 4 q (w 0), lit-few qs (λ j. w (suc j)))
 
+-- a line a column
 columns-few : (g c : ℕ) (picture : List ℕ) → g < 2 → c + length picture ≤ 99999 → Nibbles picture → length (columnLines g c picture) ≤ 20 * length picture
 unfolding columnLines
 columns-few g c [] hg h w = omega arith
@@ -99,6 +103,7 @@ columns-few g c (q ∷ qs) hg h w =
     one true = omega arith
     one false = omega (arith, line-few 83 (g ∷ c ∷ q ∷ []) (omega (arith, w 0)))
 
+-- the lines at the end, of a state that no call refuses
 module _ (n : Chips) (s : State) (v : Valid 160 4 n s) where
   shown-nibbles : (g : ℕ) → Nibbles (shownAt n s g)
   unfolding pictureOf
@@ -141,6 +146,7 @@ lines-few log e =
     let few = records-few (length log) (drop 3 log) in
     omega (arith, length-append (transferLines n 0 (logStart n) ts) (endLines n (replayed n (logStart n) ts)), transfers-few n 0 (logStart n) ts v (records-short (length log) (drop 3 log) shorter) (omega arith), end-few n (replayed n (logStart n) ts) (replayed-valid n (logStart n) ts v))
 
+-- the law
 pub text-few : (log : List ℕ) → length (textOf log) ≤ room
 unfolding textOf
 text-few log = by-check (checkLog log) refl (log-few log)

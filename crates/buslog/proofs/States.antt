@@ -1,15 +1,14 @@
 -- No call refuses a state that a replay comes to, so every picture of it is shown.
 -- Assumes nothing.
-use mathlib.Core.Path.{_≡_, refl}
+use mathlib.Core.Path.{_≡_}
 use mathlib.Core.List.{List, [], _∷_}
-use Prim.Native.Nat.{ℕ, zero, suc, _+_, _*_, _≤_, _<_}
+use Prim.Native.Nat.{ℕ, zero, suc, _+_, _*_, _<_}
 use native.Mathlib.Omega.{arith}
-use lib.ListN.{length, getD, replicate, length-replicate}
+use lib.ListN.{length, replicate, length-replicate}
 use borrow.Author.Tests.{lt-ltb, eq-eqb}
 use Rattle.sheet.specs.declared.Chips.{Chips}
 use Rattle.sheet.specs.declared.Check.the-variants.{Passed}
 use Rattle.sheet.specs.declared.Pictured.{Pictured}
-use Rattle.sheet.specs.Commands.{powerOn}
 use Rattle.sheet.specs.Checks.{chipsIn, checkChips, checkPicture}
 use Rattle.sheet.specs.Pictures.{litIn}
 use Rattle.sheet.specs.Long.{State, Seen, stateAfter, pictureCall}
@@ -20,6 +19,7 @@ use Rattle.laws.proofs.Fits.{check-fits, power-on-in}
 use Rattle.agreement.proofs.Demand.{pcf8532}
 use Rattle.buslog.proofs.Checked.{few-chips}
 
+-- zeros are below 16
 blank-nibbles : (k : ℕ) → Nibbles (replicate k 0)
 blank-nibbles zero i = omega arith
 blank-nibbles (suc k) zero = omega arith
@@ -39,6 +39,7 @@ start-valid n e =
       nibbles = blank-nibbles (160 * (n .zero + n .one));
     })
 
+-- after any transfers
 pub replayed-valid : (n : Chips) (s : State) (ts : List (List ℕ)) → Valid 160 4 n s → Valid 160 4 n (replayed n s ts)
 unfolding replayed
 replayed-valid n s [] v = v

@@ -1,8 +1,7 @@
 -- How long lines are: of numbers below 100,000, each of five digits at most.
 -- Assumes nothing.
-use mathlib.Core.Path.{_≡_}
 use mathlib.Core.Logic.{⊎-elim}
-use mathlib.Core.List.{List, [], _∷_, _++_}
+use mathlib.Core.List.{List, [], _∷_}
 use Prim.Native.Nat.{ℕ, zero, suc, _+_, _*_, _/_, _%_, _^_, _≤_, _<_}
 use native.Mathlib.Nat.{pow-suc, div-lt-iff-lt-mul}
 use native.Mathlib.Omega.{arith}
@@ -11,6 +10,7 @@ use borrow.Author.Tests.{lt-ltb, le-ltb}
 use Rattle.lemmas.proofs.Order.{lt-or-le}
 use Rattle.sheet.specs.Logs.{digitsIn, decimal, spaced, line}
 
+-- a number below a power of ten has no more digits than the power
 digits-few : (j k n : ℕ) → n < 10 ^ suc k → length (digitsIn j n) ≤ suc k
 unfolding digitsIn
 digits-few zero k n h = omega arith
@@ -28,10 +28,12 @@ abbrev pub Small : List ℕ → Type 0
 Small [] = Unit {0}
 Small (n ∷ ns) = (n < 100000) × Small ns
 
+-- a space and five digits a number
 spaced-few : (ns : List ℕ) → Small ns → length (spaced ns) ≤ 6 * length ns
 unfolding spaced decimal
 spaced-few [] s = omega arith
 spaced-few (n ∷ ns) s = omega (arith, length-append (decimal n) (spaced ns), digits-few (suc n) 4 n (s .0), spaced-few ns (s .1))
 
+-- and the letter and LF
 pub line-few : (letter : ℕ) (ns : List ℕ) → Small ns → length (line letter ns) ≤ 6 * length ns + 2
 line-few letter ns s = omega (arith, length-append (spaced ns) (10 ∷ []), spaced-few ns s)

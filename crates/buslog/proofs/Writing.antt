@@ -2,9 +2,8 @@
 -- Assumes nothing.
 use mathlib.Core.Path.{_≡_, refl, sym, ap, subst, _∙_}
 use mathlib.Core.List.{List, [], _∷_, _++_}
-use Prim.Native.Nat.{ℕ, suc, _+_, _≤_, _<_}
+use Prim.Native.Nat.{ℕ, suc, _+_, _≤_}
 use native.Mathlib.Nat.{add-zero}
-use native.Mathlib.Numerals.{add-one}
 use native.Mathlib.Omega.{arith}
 use lib.ListN.{length, set, length-append}
 use lib.Seq.{sets, length-sets}
@@ -32,6 +31,7 @@ pub record Writing (at₀ : ℕ) (whole out₀ : List ℕ) (at : ℕ) (rest out 
   pub same : written at rest out ≡ written at₀ whole out₀
   pub ends : at + length rest ≡ at₀ + length whole
 
+-- at the start all is left
 pub begin : (at : ℕ) (whole out : List ℕ) → Writing at whole out at whole out
 begin at whole out = record { same = refl; ends = refl }
 

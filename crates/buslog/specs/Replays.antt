@@ -1,13 +1,13 @@
 -- What a replay does to its buffer, and what its parts leave.
 -- Assumes nothing.
 use mathlib.Core.Bool.{cond}
-use mathlib.Core.List.{List, [], _++_}
+use mathlib.Core.List.{List, _++_}
 use Prim.Native.Nat.{ℕ}
-use lib.Dec.{eqb, ltb}
+use lib.Dec.{ltb}
 use lib.ListN.{length, drop}
 use Rattle.sheet.specs.declared.Both.{Both}
 use Rattle.sheet.specs.Long.{State}
-use Rattle.sheet.specs.Logs.{line, textOf}
+use Rattle.sheet.specs.Logs.{textOf}
 use Rattle.buslog.specs.declared.Replayed.{Replayed}
 use Rattle.buslog.specs.declared.Replayed.the-variants.{Written, SmallBuffer}
 

@@ -34,7 +34,7 @@ fn put_digit(out: &mut [u8], at: usize, digit: usize) -> usize
     requires { ⌜ (digit < 10) × (at + 1 ≤ length (now out)) ⌝ }
     ensures { λ r. ⌜ Puts at ((48 + digit) ∷ []) (now (out .entry)) (now (out .exit)) r ⌝ }
 {
-    put_byte(out, at, 48 + digit as u8)
+    put_byte(out, at, b'0' + digit as u8)
 }
 
 // The digits of the number's tenth, and its last digit.
@@ -49,6 +49,7 @@ fn put_number(out: &mut [u8], at: usize, n: usize) -> usize
     put_digit(out, last, n % 10)
 }
 
+// Each number after a space.
 fn put_numbers(out: &mut [u8], at: usize, numbers: &[usize]) -> usize
     requires { ⌜ at + length (spaced (now numbers)) ≤ length (now out) ⌝ }
     ensures { λ r. ⌜ Puts at (spaced (now (numbers .entry))) (now (out .entry)) (now (out .exit)) r ⌝ }
@@ -56,20 +57,21 @@ fn put_numbers(out: &mut [u8], at: usize, numbers: &[usize]) -> usize
     let mut place = at;
     let mut i = 0;
     while i < numbers.len() {
-        let after = put_byte(out, place, 32);
+        let after = put_byte(out, place, b' ');
         place = put_number(out, after, numbers[i]);
         i += 1;
     }
     place
 }
 
+// A letter, the numbers, and LF.
 fn put_line(out: &mut [u8], at: usize, letter: u8, numbers: &[usize]) -> usize
     requires { ⌜ at + length (line letter (now numbers)) ≤ length (now out) ⌝ }
     ensures { λ r. ⌜ Puts at (line letter (now (numbers .entry))) (now (out .entry)) (now (out .exit)) r ⌝ }
 {
     let start = put_byte(out, at, letter);
     let end = put_numbers(out, start, numbers);
-    put_byte(out, end, 10)
+    put_byte(out, end, b'\n')
 }
 
 // ---- the log
@@ -81,6 +83,7 @@ fn byte_at(log: &[u8], i: usize) -> u8
     if i < log.len() { log[i] } else { 0 }
 }
 
+// The chips in groups 0 and 1: bytes 1 and 2.
 fn chips_of(log: &[u8]) -> Chips
     ensures { λ r. ⌜ r ≡ logChips (now (log .entry)) ⌝ }
 {
@@ -117,15 +120,16 @@ impl Cursor {
         if log.len() <= at {
             return Record::End;
         }
-        if log.len() - at < 2 {
+        let left = log.len() - at;
+        if left < 2 {
             return Record::Cut;
         }
-        let size = length_of(log[at], log[at + 1]);
-        if size <= log.len() - at - 2 {
-            Record::Body {
-                start: at + 2,
-                size,
-            }
+        let high = log[at];
+        let low = log[at + 1];
+        let size = length_of(high, low);
+        let start = at + 2;
+        if size <= left - 2 {
+            Record::Body { start, size }
         } else {
             Record::Cut
         }
@@ -147,6 +151,7 @@ fn check_records(log: &[u8]) -> Check
     }
 }
 
+// A log is checked whole before its first line is written: 14, 12, 3, 13.
 fn check_log(log: &[u8]) -> Check
     ensures { λ r. ⌜ r ≡ checkLog (now (log .entry)) ⌝ }
 {
@@ -155,54 +160,8 @@ fn check_log(log: &[u8]) -> Check
     let head = checks::unless((3 <= log.len()) & (byte_at(log, 0) == 1), Refusal::LogHead);
     let counts = checks::unless((chips.zero <= 4) & (chips.one <= 4), Refusal::ChipCount);
     let records = check_records(log);
-    checks::or_else(
-        long,
-        checks::or_else(head, checks::or_else(counts, records)),
-    )
-}
-
-// ---- refusals
-
-fn number_of(refusal: Refusal) -> usize
-    ensures { λ r. ⌜ r ≡ numberOf refusal ⌝ }
-{
-    match refusal {
-        Refusal::EmptyTransfer => 1,
-        Refusal::LongTransfer => 2,
-        Refusal::ChipCount => 3,
-        Refusal::RamLength => 4,
-        Refusal::RamByte(_) => 5,
-        Refusal::Register => 6,
-        Refusal::UndefinedCommand(_) => 7,
-        Refusal::GroupOrPhase => 8,
-        Refusal::PictureLength => 9,
-        Refusal::ManyChips => 10,
-        Refusal::ChipField(_) => 11,
-        Refusal::LogHead => 12,
-        Refusal::CutRecord(_) => 13,
-        Refusal::LongLog => 14,
-    }
-}
-
-fn place_of(refusal: Refusal) -> usize
-    ensures { λ r. ⌜ r ≡ placeOf refusal ⌝ }
-{
-    match refusal {
-        Refusal::EmptyTransfer => 0,
-        Refusal::LongTransfer => 0,
-        Refusal::ChipCount => 0,
-        Refusal::RamLength => 0,
-        Refusal::RamByte(at) => at,
-        Refusal::Register => 0,
-        Refusal::UndefinedCommand(at) => at,
-        Refusal::GroupOrPhase => 0,
-        Refusal::PictureLength => 0,
-        Refusal::ManyChips => 0,
-        Refusal::ChipField(at) => at,
-        Refusal::LogHead => 0,
-        Refusal::CutRecord(at) => at,
-        Refusal::LongLog => 0,
-    }
+    let chips_and_records = checks::or_else(counts, records);
+    checks::or_else(long, checks::or_else(head, chips_and_records))
 }
 
 // ---- the text
@@ -223,15 +182,22 @@ fn put_transfer(out: &mut [u8], at: usize, index: usize, answer: Answer) -> usiz
             out,
             at,
             b'T',
-            &[index, number_of(refusal), place_of(refusal), 0, 0, 0],
+            &[
+                index,
+                checks::number_of(refusal),
+                checks::place_of(refusal),
+                0,
+                0,
+                0,
+            ],
         ),
     }
 }
 
 // Where the text has come to, and the registers then.
-pub struct Played {
-    pub at: usize,
-    pub registers: Both,
+struct Played {
+    at: usize,
+    registers: Both,
 }
 
 // Carries out a log's transfers and writes a line for each.
@@ -284,9 +250,9 @@ fn put_columns(out: &mut [u8], at: usize, group: usize, picture: &[u8]) -> usize
 }
 
 // Where the text has come to after a group's columns, and what the group has lit.
-pub struct Listed {
-    pub at: usize,
-    pub lit: usize,
+struct Listed {
+    at: usize,
+    lit: usize,
 }
 
 // Room for a group's picture.
@@ -327,24 +293,10 @@ fn put_end(chips: Chips, registers: Both, ram: &[u8], out: &mut [u8], at: usize)
     requires { ⌜ at + length (endLines chips (stateOf registers (now ram))) ≤ length (now out) ⌝ }
     ensures { λ r. ⌜ Puts at (endLines chips (stateOf registers (now (ram .entry)))) (now (out .entry)) (now (out .exit)) r ⌝ }
 {
-    let zero = put_group(
-        chips,
-        registers,
-        ram,
-        0,
-        160 * (chips.zero as usize),
-        out,
-        at,
-    );
-    let one = put_group(
-        chips,
-        registers,
-        ram,
-        1,
-        160 * (chips.one as usize),
-        out,
-        zero.at,
-    );
+    let zeros = 160 * (chips.zero as usize);
+    let ones = 160 * (chips.one as usize);
+    let zero = put_group(chips, registers, ram, 0, zeros, out, at);
+    let one = put_group(chips, registers, ram, 1, ones, out, zero.at);
     let next = put_line(out, one.at, b'G', &[0, zero.lit]);
     put_line(out, next, b'G', &[1, one.lit])
 }
@@ -388,8 +340,15 @@ fn put_refusal(out: &mut [u8], refusal: Refusal) -> usize
     requires { ⌜ length (line 88 (numberOf refusal ∷ placeOf refusal ∷ [])) ≤ length (now out) ⌝ }
     ensures { λ r. ⌜ Puts 0 (line 88 (numberOf refusal ∷ placeOf refusal ∷ [])) (now (out .entry)) (now (out .exit)) r ⌝ }
 {
-    put_line(out, 0, b'X', &[number_of(refusal), place_of(refusal)])
+    put_line(
+        out,
+        0,
+        b'X',
+        &[checks::number_of(refusal), checks::place_of(refusal)],
+    )
 }
+
+// ---- the call
 
 // Room for the text of any log.
 pub const TEXT: usize = 1300000;

@@ -1,7 +1,7 @@
 -- `buslog::check_records` meets its contract: the search from here on gives the whole search's answer.
 -- Assumes nothing.
 use mathlib.Core.Path.{_≡_, refl, sym, _∙_}
-use Prim.Native.Nat.{_+_, _-_}
+use Prim.Native.Nat.{_-_}
 use native.Mathlib.Omega.{arith}
 use lib.ListN.{length, drop, length-drop}
 use Rattle.sheet.specs.Logs.{cutIn}

@@ -12,46 +12,49 @@ use borrow.Author.Needs.{needs}
 use Rattle.buslog.proofs.put_end.Statement.{statement}
 use Rattle.buslog.proofs.put_end.Tie as tie
 
--- all lines
+-- a group's picture, and all lines
+abbrev picture : tie.Start → ℕ → List ℕ
+picture s g = shownAt (s .args .chips) (stateOf (s .args .registers) (s .args .ram .now)) g
+
 abbrev text : tie.Start → List ℕ
 text s = endLines (s .args .chips) (stateOf (s .args .registers) (s .args .ram .now))
 
 -- after the columns of group 0
-zero-listed : (c : tie.After-put-group) → let s = c .before .before .before .before .before in let t = stateOf (s .args .registers) (s .args .ram .now) in
-    Writing (s .args .at) (text s) (s .args .out .now) (c .put-group .result .at) (columnLines 1 0 (shownAt (s .args .chips) t 1) ++ (line 71 (0 ∷ litIn (shownAt (s .args .chips) t 0) ∷ []) ++ line 71 (1 ∷ litIn (shownAt (s .args .chips) t 1) ∷ []))) (c .put-group .last .1 .1 .1 .1 .1 .0)
-zero-listed c = let s = c .before .before .before .before .before in turn (begin (s .args .at) (text s) (s .args .out .now)) (c .put-group .ensures .0)
+zero-listed : (c : tie.After-put-group) → let s = c .before .before .before .before .before .before in
+    Writing (s .args .at) (text s) (s .args .out .now) (c .put-group .result .at) (columnLines 1 0 (picture s 1) ++ (line 71 (0 ∷ litIn (picture s 0) ∷ []) ++ line 71 (1 ∷ litIn (picture s 1) ∷ []))) (c .put-group .last .1 .1 .1 .1 .1 .0)
+zero-listed c = let s = c .before .before .before .before .before .before in turn (begin (s .args .at) (text s) (s .args .out .now)) (c .put-group .ensures .0)
 
 -- after both groups' columns: what each has lit is left
-both-listed : (c : tie.After-put-group2) → let d = c .before .before .before .before .before in let s = d .before .before .before .before .before in
+both-listed : (c : tie.After-put-group2) → let d = c .before .before .before .before in let s = d .before .before .before .before .before .before in
     Writing (s .args .at) (text s) (s .args .out .now) (c .put-group2 .result .at) (line 71 (0 ∷ d .put-group .result .lit ∷ []) ++ line 71 (1 ∷ c .put-group2 .result .lit ∷ [])) (c .put-group2 .last .1 .1 .1 .1 .1 .0)
-both-listed c = let d = c .before .before .before .before .before in
+both-listed c = let d = c .before .before .before .before in
     rest-is (turn (zero-listed d) (c .put-group2 .ensures .0)) (ap₂ (λ (zero one : ℕ). line 71 (0 ∷ zero ∷ []) ++ line 71 (1 ∷ one ∷ [])) (sym (d .put-group .ensures .1)) (sym (c .put-group2 .ensures .1)))
 
-cast-put-group : tie.Need-cast-put-group
-cast-put-group c = search needs
+cast-zeros : tie.Need-cast-zeros
+cast-zeros c = search needs
 
-mul-put-group : tie.Need-mul-put-group
-mul-put-group c = search needs
+mul-zeros : tie.Need-mul-zeros
+mul-zeros c = search needs
+
+cast-ones : tie.Need-cast-ones
+cast-ones c = search needs
+
+mul-ones : tie.Need-mul-ones
+mul-ones c = search needs
 
 put-group-requires : tie.Need-put-group-requires
-put-group-requires c κs = let s = c .before .before .before .before in
-    ((omega arith, refl, s .pre .0), room (columnLines 0 0 (shownAt (s .args .chips) (stateOf (s .args .registers) (s .args .ram .now)) 0)) _ (begin (s .args .at) (text s) (s .args .out .now)) (s .pre .1))
-
-cast-put-group-2 : tie.Need-cast-put-group-2
-cast-put-group-2 c = search needs
-
-mul-put-group-2 : tie.Need-mul-put-group-2
-mul-put-group-2 c = search needs
+put-group-requires c κs = let s = c .before .before .before .before .before in
+    ((omega arith, refl, s .pre .0), room (columnLines 0 0 (picture s 0)) _ (begin (s .args .at) (text s) (s .args .out .now)) (s .pre .1))
 
 put-group-requires-2 : tie.Need-put-group-requires-2
 put-group-requires-2 c κs = let s = c .before .before .before .before .before .before .before .before .before in
-    ((omega arith, refl, s .pre .0), room (columnLines 1 0 (shownAt (s .args .chips) (stateOf (s .args .registers) (s .args .ram .now)) 1)) _ (zero-listed (c .before .before .before .before)) (s .pre .1))
+    ((omega arith, refl, s .pre .0), room (columnLines 1 0 (picture s 1)) _ (zero-listed (c .before .before .before)) (s .pre .1))
 
 slice-aggregate-put-line : tie.Need-slice-aggregate-put-line
 slice-aggregate-put-line c = search needs
 
 put-line-requires : tie.Need-put-line-requires
-put-line-requires c κs = room (line 71 (0 ∷ c .before .before .before .before .before .before .before .before .before .put-group .result .lit ∷ [])) _ (both-listed (c .before .before .before .before)) (c .before .before .before .before .before .before .before .before .before .before .before .before .before .before .pre .1)
+put-line-requires c κs = room (line 71 (0 ∷ c .before .before .before .before .before .before .before .before .put-group .result .lit ∷ [])) _ (both-listed (c .before .before .before .before)) (c .before .before .before .before .before .before .before .before .before .before .before .before .before .before .pre .1)
 
 slice-aggregate-put-line-2 : tie.Need-slice-aggregate-put-line-2
 slice-aggregate-put-line-2 c = search needs
@@ -69,11 +72,11 @@ pub put-end-spec : {M : Type 1} → statement M
 put-end-spec =
     tie.close
     (tie.spec
-    cast-put-group
-    mul-put-group
+    cast-zeros
+    mul-zeros
+    cast-ones
+    mul-ones
     put-group-requires
-    cast-put-group-2
-    mul-put-group-2
     put-group-requires-2
     slice-aggregate-put-line
     put-line-requires

@@ -2,13 +2,11 @@
 -- Assumes nothing.
 use mathlib.Core.Path.{_≡_, sym, ap, subst, _∙_}
 use mathlib.Core.List.{List, _++_}
-use Prim.Native.Nat.{ℕ, suc, _+_, _*_, _≤_}
+use Prim.Native.Nat.{ℕ, suc, _+_, _≤_}
 use native.Mathlib.Omega.{arith}
-use lib.Dec.{T}
 use lib.ListN.{length, take, drop, length-append}
 use lib.Seq.{length-take-le, take-at}
 use Rattle.sheet.specs.declared.Pictured.{Pictured}
-use Rattle.sheet.specs.Checks.{chipsIn}
 use Rattle.sheet.specs.Pictures.{litIn}
 use Rattle.sheet.specs.Long.{Seen, State, pictureCall}
 use Rattle.sheet.specs.Logs.{shownAt, columnLines}

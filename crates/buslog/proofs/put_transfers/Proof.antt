@@ -3,15 +3,14 @@
 use mathlib.Core.Path.{_≡_, refl, sym, ap, subst, _∙_}
 use mathlib.Core.Logic.{⊎-elim}
 use mathlib.Core.List.{List, [], _∷_}
-use Prim.Native.Nat.{ℕ, _+_, _-_, _≤_}
+use Prim.Native.Nat.{ℕ, _-_, _≤_}
 use native.Mathlib.Omega.{arith}
 use lib.Dec.{T}
 use lib.ListN.{length, drop, length-drop}
 use denote.Enum.Declared.{tagOf}
 use types.Run.{OneOf}
 use Rattle.sheet.specs.declared.Check.{Check}
-use Rattle.sheet.specs.declared.Check.the-variants.{Passed, Refused}
-use Rattle.sheet.specs.declared.Refusal.the-variants.{CutRecord}
+use Rattle.sheet.specs.declared.Check.the-variants.{Passed}
 use Rattle.sheet.specs.Plain.{passed}
 use Rattle.sheet.specs.Logs.{cutIn, recordsIn, transferLines, replayed, line}
 use Rattle.sheet.specs.Refusals.{numbers}

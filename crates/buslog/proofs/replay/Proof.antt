@@ -1,6 +1,6 @@
 -- `buslog::replay` meets its contract: too small a buffer, a refused log's line, or a log's lines.
 -- Assumes nothing.
-use mathlib.Core.Path.{_≡_, refl, sym, ap, subst, _∙_}
+use mathlib.Core.Path.{_≡_, refl, sym, ap, _∙_}
 use mathlib.Core.List.{List, _++_}
 use Prim.Native.Nat.{ℕ, _≤_}
 use native.Mathlib.Nat.{zero-add}
@@ -12,7 +12,7 @@ use Rattle.sheet.specs.Logs.{textOf}
 use Rattle.buslog.specs.declared.Replayed.the-variants.{Written}
 use Rattle.buslog.specs.Texts.{written, Puts}
 use Rattle.buslog.specs.Replays.{room, replayCall}
-use Rattle.buslog.proofs.Checked.{text-passed, text-refused}
+use Rattle.buslog.proofs.Checked.{text-refused}
 use Rattle.buslog.proofs.Room.{text-few}
 use borrow.Author.Needs.{needs}
 use Rattle.buslog.proofs.replay.Statement.{statement}

@@ -1,6 +1,6 @@
 -- `replay::log_buffer` meets its contract.
 -- Assumes nothing.
-use Rattle.replay.proofs.Zeros.{zeros}
+use Rattle.lemmas.proofs.Lists.{zeros}
 use Rattle.replay.proofs.log_buffer.Statement.{statement}
 use Rattle.replay.proofs.log_buffer.Tie as tie
 

@@ -1,7 +1,7 @@
 -- `replay::text_buffer` meets its contract.
 -- Assumes nothing.
 use Rattle.buslog.specs.Replays.{room}
-use Rattle.replay.proofs.Zeros.{zeros}
+use Rattle.lemmas.proofs.Lists.{zeros}
 use Rattle.replay.proofs.text_buffer.Statement.{statement}
 use Rattle.replay.proofs.text_buffer.Tie as tie
 

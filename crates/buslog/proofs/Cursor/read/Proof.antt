@@ -10,32 +10,26 @@ use Rattle.buslog.proofs.Cursor.read.Tie as tie
 returns : tie.Need-returns
 returns c = sym (nothing-left _ _ (c .if1 .taken))
 
-sub-if2 : tie.Need-sub-if2
-sub-if2 c = search needs
+sub-left : tie.Need-sub-left
+sub-left c = search needs
 
 returns-2 : tie.Need-returns-2
 returns-2 c = let a = c .before .before .before .args in sym (one-byte-left (a .log .now) (a .self .at) (omega arith))
 
-shared-slice-read-length-of : tie.Need-shared-slice-read-length-of
-shared-slice-read-length-of c = search needs
+shared-slice-read-high : tie.Need-shared-slice-read-high
+shared-slice-read-high c = search needs
 
-add-length-of : tie.Need-add-length-of
-add-length-of c = search needs
+add-low : tie.Need-add-low
+add-low c = search needs
 
-shared-slice-read-length-of-2 : tie.Need-shared-slice-read-length-of-2
-shared-slice-read-length-of-2 c = search needs
+shared-slice-read-low : tie.Need-shared-slice-read-low
+shared-slice-read-low c = search needs
 
 length-of-requires : tie.Need-length-of-requires
 length-of-requires c κs = search needs
 
-sub-if3 : tie.Need-sub-if3
-sub-if3 c = search needs
-
-sub-if3-2 : tie.Need-sub-if3-2
-sub-if3-2 c = search needs
-
-add-t14 : tie.Need-add-t14
-add-t14 c = search needs
+add-start : tie.Need-add-start
+add-start c = search needs
 
 returns-3 : tie.Need-returns-3
 returns-3 c = let a = c .before .before .before .before .before .before .before .args in
@@ -50,14 +44,12 @@ read-spec =
     tie.close
     (tie.spec
     returns
-    sub-if2
+    sub-left
     returns-2
-    shared-slice-read-length-of
-    add-length-of
-    shared-slice-read-length-of-2
+    shared-slice-read-high
+    add-low
+    shared-slice-read-low
     length-of-requires
-    sub-if3
-    sub-if3-2
-    add-t14
+    add-start
     returns-3
     returns-4)
