@@ -1,0 +1,288 @@
+//! Generators of transfers and logs, well-formed and damaged.
+
+use crate::model::{defined, LOG_LIMIT, TRANSFER_LIMIT};
+use crate::random::Random;
+
+/// The log that the paper works out.
+pub const WORKED_LOG: [u8; 22] = [
+    0x01, 0x02, 0x00, 0x00, 0x09, 0x70, 0x80, 0xC8, 0x80, 0x09, 0x80, 0x4F, 0x40, 0xA5, 0x00, 0x03,
+    0x70, 0x00, 0xFC, 0x00, 0x01, 0x50,
+];
+
+// ---- Transfers -------------------------------------------------------------
+
+/// Each command with its own control byte, then a data run.
+pub fn commands_then_data(address: u8, commands: &[u8], data: &[u8]) -> Vec<u8> {
+    let mut bytes = vec![address];
+    for command in commands {
+        bytes.extend([0x80, *command]);
+    }
+    bytes.push(0x40);
+    bytes.extend(data);
+    bytes
+}
+
+/// A command that the table names.
+pub fn command(random: &mut Random) -> u8 {
+    let low = random.byte();
+    match random.below(8) {
+        0 => low % 10,
+        1 => 0x40 | low & 15,
+        2 => 0xC0 | low & 15,
+        3 => 0xC8 | low & 7,
+        4 => 0xE0 | low & 3,
+        5 => 0xE8 | low & 7,
+        6 => 0xF0 | low & 7,
+        _ => 0xF8 | low & 3,
+    }
+}
+
+fn undefined_command(random: &mut Random) -> u8 {
+    if random.one_in(2) {
+        return random.pick(&[0x0A, 0x3F, 0x50, 0xBF, 0xD0, 0xDF, 0xE4, 0xE7, 0xFC, 0xFF]);
+    }
+    loop {
+        let byte = random.byte();
+        if !defined(byte) {
+            return byte;
+        }
+    }
+}
+
+/// Commands that set the pointer near a chip's edge.
+fn edge_pointer(random: &mut Random) -> Vec<u8> {
+    let pointer = random.pick(&[0, 1, 143, 150, 152, 153, 154, 155, 156, 157, 158, 159]);
+    let device = 0xE0 | random.below(4) as u8;
+    vec![device, pointer / 16, 0x40 | (pointer % 16)]
+}
+
+/// A mode-set (mostly enabled), and perhaps banks and blinking.
+fn settings(random: &mut Random) -> Vec<u8> {
+    let enable = if random.one_in(6) { 0xC0 } else { 0xC8 };
+    let mut commands = vec![enable | random.below(8) as u8];
+    if random.one_in(2) {
+        commands.push(0xF8 | random.below(4) as u8);
+    }
+    if random.one_in(3) {
+        commands.push(0xF0 | random.below(8) as u8);
+    }
+    commands
+}
+
+fn commands(random: &mut Random) -> Vec<u8> {
+    let mut commands = Vec::new();
+    if random.one_in(2) {
+        commands.extend(settings(random));
+    }
+    if random.one_in(2) {
+        commands.extend(edge_pointer(random));
+    }
+    for _ in 0..random.below(4) {
+        commands.push(command(random));
+    }
+    commands
+}
+
+fn data(random: &mut Random) -> Vec<u8> {
+    let length = match random.below(8) {
+        0 => 0,
+        1..=5 => random.between(1, 6),
+        6 => random.between(7, 40),
+        _ => random.between(41, 90),
+    };
+    match random.below(4) {
+        0 => vec![0xFF; length],
+        1 => vec![0x00; length],
+        _ => random.bytes(length),
+    }
+}
+
+fn address(random: &mut Random) -> u8 {
+    random.pick(&[0x70, 0x70, 0x72])
+}
+
+/// Control bits that the rules ignore, set now and then.
+fn ignored_bits(random: &mut Random) -> u8 {
+    if random.one_in(5) {
+        random.byte() & 0x3F
+    } else {
+        0
+    }
+}
+
+/// A control byte with Co = 1 and RS as given, and the byte that follows it.
+fn push_single(random: &mut Random, bytes: &mut Vec<u8>, rs: u8, byte: u8) {
+    bytes.push(0x80 | rs | ignored_bits(random));
+    bytes.push(byte);
+}
+
+/// A transfer without a fault: commands and single data bytes, then a run of commands or data.
+pub fn good_transfer(random: &mut Random) -> Vec<u8> {
+    let mut bytes = vec![address(random)];
+    for command in commands(random) {
+        push_single(random, &mut bytes, 0, command);
+    }
+    for _ in 0..random.pick(&[0, 0, 0, 1, 2, 5]) {
+        let byte = random.byte();
+        push_single(random, &mut bytes, 0x40, byte);
+    }
+    match random.below(6) {
+        0 => {}
+        1 => {
+            bytes.push(ignored_bits(random));
+            bytes.extend(commands(random));
+        }
+        _ => {
+            bytes.push(0x40 | ignored_bits(random));
+            bytes.extend(data(random));
+        }
+    }
+    bytes
+}
+
+/// A good transfer with an undefined command in front of or behind its parts.
+fn with_undefined(random: &mut Random) -> Vec<u8> {
+    let mut bytes = good_transfer(random);
+    let wrong = undefined_command(random);
+    if random.one_in(2) {
+        bytes.splice(1..1, [0x80, wrong]);
+    } else {
+        let mut commands = commands(random);
+        commands.insert(random.below(commands.len() + 1), wrong);
+        bytes = vec![bytes[0], 0x00];
+        bytes.extend(commands);
+    }
+    bytes
+}
+
+fn with_other_address(random: &mut Random) -> Vec<u8> {
+    let mut bytes = good_transfer(random);
+    bytes[0] = if random.one_in(2) {
+        random.pick(&[0x71, 0x73, 0x6F, 0x74, 0x00])
+    } else {
+        random.byte()
+    };
+    bytes
+}
+
+fn cut(random: &mut Random) -> Vec<u8> {
+    let mut bytes = good_transfer(random);
+    bytes.truncate(random.between(1, bytes.len()));
+    bytes
+}
+
+/// An address with bytes after it that follow no plan.
+fn noise(random: &mut Random) -> Vec<u8> {
+    let mut bytes = vec![address(random)];
+    let length = random.below(12);
+    bytes.extend(random.bytes(length));
+    bytes
+}
+
+/// A transfer, most often a good one, never over-long.
+pub fn transfer(random: &mut Random) -> Vec<u8> {
+    match random.below(16) {
+        0 => with_undefined(random),
+        1 => with_other_address(random),
+        2 => cut(random),
+        3 => noise(random),
+        4 if random.one_in(3) => Vec::new(),
+        _ => good_transfer(random),
+    }
+}
+
+/// A transfer of just the given length, mostly one long data run.
+pub fn transfer_of_length(random: &mut Random, length: usize) -> Vec<u8> {
+    let mut bytes = vec![address(random), 0x80, 0xC8 | random.below(4) as u8, 0x40];
+    let rest = random.bytes(length.saturating_sub(bytes.len()));
+    bytes.extend(rest);
+    bytes.truncate(length);
+    bytes
+}
+
+/// A transfer with a length on either side of the limit.
+pub fn long_transfer(random: &mut Random) -> Vec<u8> {
+    let length = random.between(TRANSFER_LIMIT - 1, TRANSFER_LIMIT + 2);
+    transfer_of_length(random, length)
+}
+
+// ---- Logs ------------------------------------------------------------------
+
+/// A log of given chips and transfers.
+pub fn log_of(chips0: u8, chips1: u8, transfers: &[Vec<u8>]) -> Vec<u8> {
+    let mut log = vec![1, chips0, chips1];
+    for bytes in transfers {
+        push_record(&mut log, bytes);
+    }
+    log
+}
+
+fn push_record(log: &mut Vec<u8>, bytes: &[u8]) {
+    log.extend((bytes.len() as u16).to_be_bytes());
+    log.extend(bytes);
+}
+
+pub fn good_log(random: &mut Random) -> Vec<u8> {
+    let chips0 = random.below(5) as u8;
+    let chips1 = random.below(5) as u8;
+    let count = match random.below(10) {
+        0 => random.below(2),
+        1 => random.between(80, 140),
+        _ => random.between(3, 40),
+    };
+    let transfers: Vec<_> = (0..count).map(|_| transfer(random)).collect();
+    log_of(chips0, chips1, &transfers)
+}
+
+/// A log with one fault: cut, a wrong length field, a wrong head, or a chip count over 4.
+pub fn damaged_log(random: &mut Random) -> Vec<u8> {
+    let mut log = good_log(random);
+    match random.below(6) {
+        0 => log[0] = random.pick(&[0, 2, 255]),
+        1 => log[random.between(1, 2)] = random.pick(&[5, 6, 255]),
+        2 => log.truncate(random.between(0, log.len())),
+        3 => log.push(random.byte()),
+        4 => log.extend([0, 5, 0x70]),
+        _ => log[..3].copy_from_slice(&random.pick(&[[2, 5, 0], [1, 5, 5], [0, 0, 0]])),
+    }
+    log
+}
+
+/// A log with a transfer near the limit of length.
+pub fn log_with_long_transfer(random: &mut Random) -> Vec<u8> {
+    let mut log = good_log(random);
+    push_record(&mut log, &long_transfer(random));
+    push_record(&mut log, &good_transfer(random));
+    log
+}
+
+/// A good log of just the given length, from 512 bytes up.
+pub fn log_of_length(random: &mut Random, length: usize) -> Vec<u8> {
+    let mut log = vec![1, 2, 2];
+    while log.len() + 1024 < length {
+        let bytes = if random.one_in(8) {
+            let length = random.between(100, 900);
+            transfer_of_length(random, length)
+        } else {
+            transfer(random)
+        };
+        push_record(&mut log, &bytes);
+    }
+    let rest = length - log.len() - 2;
+    push_record(&mut log, &transfer_of_length(random, rest));
+    log
+}
+
+/// A log of any kind, of at most some thousand bytes.
+pub fn log(random: &mut Random) -> Vec<u8> {
+    match random.below(20) {
+        0 => log_with_long_transfer(random),
+        1..=3 => damaged_log(random),
+        _ => good_log(random),
+    }
+}
+
+/// A log over the limit of length.
+pub fn too_long_log(random: &mut Random) -> Vec<u8> {
+    log_of_length(random, LOG_LIMIT + 1)
+}

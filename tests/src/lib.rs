@@ -1,0 +1,5 @@
+//! An independent model of paper 01, and generators of inputs for it.
+
+pub mod generate;
+pub mod model;
+pub mod random;

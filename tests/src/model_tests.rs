@@ -1,0 +1,275 @@
+//! The paper's cases ("Both sides of each edge"), the worked log, refusals, and the two accounts compared.
+
+use super::*;
+use crate::{generate, random::Random};
+
+/// A bus with chips in group 0 only, from power-on.
+struct Bus {
+    chips: u8,
+    registers: [u8; REGISTERS],
+    ram: Vec<u8>,
+}
+
+impl Bus {
+    fn new(chips: u8, column: u8) -> Self {
+        Bus {
+            chips,
+            registers: [0; REGISTERS],
+            ram: vec![column; COLUMNS * chips as usize],
+        }
+    }
+
+    fn send(&mut self, bytes: &[u8]) -> [usize; 5] {
+        transfer(self.chips, 0, &mut self.registers, &mut self.ram, bytes).numbers()
+    }
+
+    /// Sends commands one by one, then data; gives the answer.
+    fn set_and_send(&mut self, commands: &[u8], data: &[u8]) -> [usize; 5] {
+        self.send(&generate::commands_then_data(112, commands, data))
+    }
+
+    fn state(&self) -> Registers {
+        Registers::from_bytes(&self.registers[..SET])
+    }
+
+    /// The columns that are not `column`.
+    fn others(&self, column: u8) -> Vec<(usize, u8)> {
+        let all = self.ram.iter().copied().enumerate();
+        all.filter(|(_, value)| *value != column).collect()
+    }
+
+    fn a_and_p(&self) -> (u8, u8) {
+        (self.state().a, self.state().p)
+    }
+}
+
+#[test]
+fn mode_4_over_the_edge() {
+    let mut bus = Bus::new(2, 0);
+    assert_eq!(bus.set_and_send(&[0x09, 0x4F], &[0xA5]), [0, 0, 7, 8, 0]);
+    assert_eq!(bus.others(0), [(159, 5), (160, 10)]);
+    assert_eq!(bus.a_and_p(), (1, 1));
+}
+
+#[test]
+fn mode_3_over_the_edge() {
+    let mut bus = Bus::new(2, 0);
+    assert_eq!(
+        bus.set_and_send(&[0xC3, 0x09, 0x4F], &[0xFF]),
+        [0, 0, 9, 8, 0]
+    );
+    assert_eq!(bus.others(0), [(159, 7), (160, 7), (161, 3)]);
+    assert_eq!(bus.a_and_p(), (1, 2));
+}
+
+#[test]
+fn mode_3_leaves_row_2_of_the_last_column() {
+    let mut bus = Bus::new(2, 15);
+    bus.set_and_send(&[0xC3, 0x09, 0x4F], &[0x00]);
+    assert_eq!(bus.others(15), [(159, 8), (160, 8), (161, 12)]);
+}
+
+#[test]
+fn static_over_the_edge() {
+    let mut bus = Bus::new(2, 0);
+    bus.set_and_send(&[0xC1, 0x09, 0x4C], &[0x81]);
+    assert_eq!(bus.others(0), [(156, 1), (163, 1)]);
+    assert_eq!(bus.a_and_p(), (1, 4));
+}
+
+#[test]
+fn mode_2_in_the_second_bank() {
+    let mut bus = Bus::new(2, 0);
+    bus.set_and_send(&[0xC2, 0xFA, 0x09, 0x4E], &[0xFF]);
+    assert_eq!(bus.others(0), [(158, 12), (159, 12), (160, 12), (161, 12)]);
+}
+
+#[test]
+fn mode_3_past_the_last_chip() {
+    let mut bus = Bus::new(1, 0);
+    assert_eq!(
+        bus.set_and_send(&[0xC3, 0x09, 0x4F], &[0xFF]),
+        [0, 0, 8, 3, 5]
+    );
+    assert_eq!(bus.others(0), [(159, 7)]);
+}
+
+#[test]
+fn past_the_fourth_chip() {
+    let mut bus = Bus::new(4, 0);
+    let answer = bus.set_and_send(&[0xE3, 0x09, 0x4E], &[0xFF, 0xFF]);
+    assert_eq!(answer, [0, 0, 9, 8, 8]);
+    assert_eq!(bus.others(0), [(638, 15), (639, 15)]);
+    assert_eq!(bus.a_and_p(), (4, 2));
+}
+
+#[test]
+fn pointer_high_keeps_the_low_nibble() {
+    let mut bus = Bus::new(1, 0);
+    bus.send(&[0x70, 0x00, 0x09, 0x4F]);
+    assert_eq!(bus.a_and_p(), (0, 159));
+    bus.send(&[0x70, 0x00, 0x00]);
+    assert_eq!(bus.a_and_p(), (0, 15));
+}
+
+#[test]
+fn edges_of_the_commands() {
+    for (taken, refused) in [(0x09, 0x0A), (0xE3, 0xE4), (0xFB, 0xFC)] {
+        let mut bus = Bus::new(1, 0);
+        assert_eq!(bus.send(&[0x70, 0x00, taken]), [0, 0, 3, 0, 0]);
+        let before = bus.registers;
+        assert_eq!(bus.send(&[0x70, 0x00, refused]), [7, 2, 0, 0, 0]);
+        assert_eq!(bus.registers, before);
+    }
+    assert_eq!((0..=255).filter(|byte| defined(*byte)).count(), 66);
+}
+
+#[test]
+fn alternate_blinking_shows_the_other_bank() {
+    let mut bus = Bus::new(1, 12);
+    bus.send(&[0x70, 0x00, 0xCA, 0xF8, 0xF5]);
+    let view = View {
+        chips0: 1,
+        chips1: 0,
+        registers: &bus.registers,
+        ram: &bus.ram,
+        group: 0,
+        phase: 1,
+    };
+    let mut out = [9; COLUMNS];
+    assert_eq!(picture(view, &mut out).numbers(), [0, 0, 320, 0, 0]);
+    assert_eq!(out, [3; COLUMNS]);
+}
+
+#[test]
+fn addresses_alone() {
+    assert_eq!(Bus::new(1, 0).send(&[0x70]), [0, 0, 1, 0, 0]);
+    assert_eq!(Bus::new(1, 0).send(&[0x71]), [0, 0, 0, 0, 0]);
+    assert_eq!(Bus::new(1, 0).send(&[0x72, 0x00, 0xFF]), [0, 0, 0, 0, 0]);
+    assert_eq!(Bus::new(0, 0).send(&[0x70]), [0, 0, 0, 0, 0]);
+}
+
+#[test]
+fn worked_log() {
+    let text = "T 0 0 0 9 8 0\nT 1 7 2 0 0 0\nT 2 0 0 0 0 0\nS 0 159 5\nS 0 160 10\nG 0 4\nG 1 0\n";
+    assert_eq!(log_text(&generate::WORKED_LOG), text.as_bytes());
+}
+
+fn text(log: &[u8]) -> String {
+    String::from_utf8(log_text(log)).unwrap()
+}
+
+#[test]
+fn refused_logs() {
+    assert_eq!(text(&[]), "X 12 0\n");
+    assert_eq!(text(&[1, 0]), "X 12 0\n");
+    assert_eq!(text(&[2, 9, 9]), "X 12 0\n");
+    assert_eq!(text(&[1, 0, 5, 0]), "X 3 0\n");
+    assert_eq!(text(&[1, 1, 0, 0]), "X 13 3\n");
+    assert_eq!(text(&[1, 1, 0, 0, 1, 0x70, 0, 2, 0x70]), "X 13 6\n");
+    assert_eq!(text(&[0; 65537]), "X 14 0\n");
+    assert_eq!(text(&[0; 65536]), "X 12 0\n");
+}
+
+#[test]
+fn odd_records() {
+    assert_eq!(text(&[1, 4, 4]), "G 0 0\nG 1 0\n");
+    assert_eq!(text(&[1, 1, 0, 0, 0]), "T 0 1 0 0 0 0\nG 0 0\nG 1 0\n");
+    let long = [vec![1, 0, 0, 0x10, 0x01], vec![0x50; 4097]].concat();
+    assert_eq!(text(&long), "T 0 2 0 0 0 0\nG 0 0\nG 1 0\n");
+}
+
+#[test]
+fn order_of_transfer_refusals() {
+    let long = vec![0x50; 4097];
+    let mut wrong = [0; REGISTERS];
+    wrong[REGISTERS - 1] = 4;
+    let number = |chips: u8, mut registers: [u8; REGISTERS], mut ram: Vec<u8>, bytes: &[u8]| {
+        let [number, place, ..] = transfer(chips, 0, &mut registers, &mut ram, bytes).numbers();
+        (number, place)
+    };
+    assert_eq!(number(5, wrong, vec![16; 3], &[]), (3, 0));
+    assert_eq!(number(1, wrong, vec![16; 3], &[]), (6, 0));
+    assert_eq!(number(1, [0; 18], vec![16; 161], &[]), (4, 0));
+    let mut ram = vec![0; COLUMNS];
+    ram[17] = 16;
+    ram[18] = 255;
+    assert_eq!(number(1, [0; 18], ram, &[]), (5, 17));
+    assert_eq!(number(1, [0; 18], vec![0; COLUMNS], &[]), (1, 0));
+    assert_eq!(number(1, [0; 18], vec![0; COLUMNS], &long), (2, 0));
+}
+
+#[test]
+fn order_of_plain_refusals() {
+    let mut bad = Chip::new(0, 3);
+    bad.registers.p = 160;
+    assert_eq!(plain_transfer(&mut [bad; 9], &[]).number, 10);
+    let mut chips = [Chip::new(0, 0), bad];
+    assert_eq!(plain_transfer(&mut chips, &[]).numbers(), [11, 1, 0, 0, 0]);
+    assert_eq!(plain_transfer(&mut [], &[]).number, 1);
+    assert_eq!(plain_transfer(&mut [], &[0x70, 0, 0xFF]), Answer::default());
+    let mut chips = [Chip::new(1, 0)];
+    assert_eq!(plain_transfer(&mut chips, &[0x70, 0, 0xFF]).number, 0);
+    let refused = plain_transfer(&mut chips, &[0x72, 0, 0xFF]);
+    assert_eq!(refused.numbers(), [7, 2, 0, 0, 0]);
+}
+
+#[test]
+fn one_plain_chip() {
+    let mut chip = Chip::new(0, 4);
+    chip.registers.e = 9;
+    assert_eq!(plain_picture(&chip, 2, &mut []).number, 11);
+    assert_eq!(plain_power_on(&mut chip).number, 11);
+    assert_eq!(chip.registers, Registers::power_on());
+    chip.subaddress = 3;
+    chip.registers.e = 9;
+    assert_eq!(plain_power_on(&mut chip).number, 0);
+    assert_eq!(plain_picture(&chip, 2, &mut []).number, 8);
+    assert_eq!(plain_picture(&chip, 1, &mut [0; 159]).number, 9);
+    chip.registers.e = 1;
+    chip.columns[7] = 5;
+    assert_eq!(plain_picture(&chip, 1, &mut [0; 160]).counts, [2, 0, 0]);
+}
+
+#[test]
+fn plain_acknowledgement_counts_once() {
+    let mut chips = [Chip::new(0, 0), Chip::new(0, 0), Chip::new(0, 2)];
+    let answer = plain_transfer(&mut chips, &[0x70, 0x40, 0xFF, 0xFF]);
+    assert_eq!(answer.numbers(), [0, 0, 4, 0, 0]);
+    assert_eq!(chips[1].columns[..5], [15, 15, 15, 15, 0]);
+    assert_eq!(chips[2].columns, [0; COLUMNS]);
+    assert_eq!(chips[2].registers.p, 4);
+}
+
+/// The chips of the plain account that stand for a long bus.
+fn plain_chips(counts: [u8; 2], registers: &[u8; REGISTERS], ram: &[u8]) -> Vec<Chip> {
+    let mut chips = Vec::new();
+    for sa0 in 0..2 {
+        for subaddress in 0..counts[sa0] {
+            let mut chip = Chip::new(sa0 as u8, subaddress);
+            chip.columns
+                .copy_from_slice(&ram[COLUMNS * chips.len()..][..COLUMNS]);
+            chip.registers = Registers::from_bytes(&registers[SET * sa0..][..SET]);
+            chips.push(chip);
+        }
+    }
+    chips
+}
+
+#[test]
+fn both_accounts_agree() {
+    let mut random = Random::new(3);
+    for _ in 0..300 {
+        let counts = [random.below(5) as u8, random.below(5) as u8];
+        let mut ram = vec![0; COLUMNS * (counts[0] + counts[1]) as usize];
+        let mut registers = [0; REGISTERS];
+        let mut chips = plain_chips(counts, &registers, &ram);
+        for _ in 0..20 {
+            let bytes = generate::transfer(&mut random);
+            let long = transfer(counts[0], counts[1], &mut registers, &mut ram, &bytes);
+            let plain = plain_transfer(&mut chips, &bytes);
+            assert_eq!(long.numbers()[..3], plain.numbers()[..3]);
+            assert_eq!(chips, plain_chips(counts, &registers, &ram));
+        }
+    }
+}
