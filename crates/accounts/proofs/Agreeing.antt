@@ -14,9 +14,10 @@ use Rattle.sheet.specs.declared.Both.{Both}
 use Rattle.sheet.specs.declared.Chip.{Chip}
 use Rattle.sheet.specs.declared.Chips.{Chips}
 use Rattle.sheet.specs.declared.Transferred.{Transferred}
+use Rattle.sheet.specs.declared.PlainAnswer.{PlainAnswer}
 use Rattle.sheet.specs.Long.{State, transferCall, stateAfter}
 use Rattle.sheet.specs.Plain.{plainCall}
-use Rattle.sheet.specs.Agree.{groupChips, chipsOf}
+use Rattle.sheet.specs.Agree.{groupChips, chipsOf, Valid, plainly}
 use Rattle.agreement.proofs.Demand.{pcf8532}
 use Rattle.plain.specs.declared.Bench.{Bench}
 use Rattle.plain.specs.declared.BenchTransferred.{BenchTransferred}
@@ -62,3 +63,13 @@ sides-agree n r ram b bytes after long plain like er el ep =
       alike = record { valid = agreed .valid; count = like .count; chips = first-of (b .count) _ (b .chips) size ∙ held };
       answer = ap (λ (cs : List Chip). plainCall 160 4 cs bytes .answer) (like .chips) ∙ agreed .acknowledge;
     })
+
+-- the same of `plain::transfer`, over a lent list: what it ensures and what `long::transfer` ensures
+pub lists-agree : (n : Chips) (s : State) (bytes after : List ℕ) (long : Transferred) (before chips : List Chip) (answer : PlainAnswer)
+    → Valid 160 4 n s → before ≡ chipsOf 160 n s
+    → after ≡ transferCall 160 4 n (s .registers) (s .ram) bytes .ram → long ≡ transferCall 160 4 n (s .registers) (s .ram) bytes .result
+    → answer ≡ plainCall 160 4 before bytes .answer → chips ≡ plainCall 160 4 before bytes .chips
+    → (chips ≡ chipsOf 160 n (record { registers = long .registers; ram = after })) × (answer ≡ plainly (long .answer))
+lists-agree n s bytes after long before chips answer v eb er el ea ec =
+    let agreed = pcf8532 .transfer n s bytes v in
+    rw (er, el, ea, ec, eb) (agreed .hold, agreed .acknowledge)
