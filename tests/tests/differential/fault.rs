@@ -1,0 +1,134 @@
+//! Random cases, with faults put in one by one.
+
+use crate::case::{ram_length, Case};
+use humtrellis_tests::model::COLUMNS;
+use humtrellis_tests::{generate, random::Random};
+
+/// Registers in range, edge values more often than others.
+pub fn registers(random: &mut Random) -> Vec<u8> {
+    let mut registers = Vec::new();
+    for limit in [1, 1, 3, 159, 4, 1, 1, 1, 3].repeat(2) {
+        let value = match random.below(4) {
+            0 => limit - random.below(limit.min(4) + 1),
+            _ => random.below(limit + 1),
+        };
+        registers.push(value as u8);
+    }
+    registers
+}
+
+pub fn columns(random: &mut Random, length: usize) -> Vec<u8> {
+    let mask = random.pick(&[0, 15, 15, 5, 12]);
+    (0..length).map(|_| random.byte() & mask).collect()
+}
+
+pub fn transfer(random: &mut Random) -> Vec<u8> {
+    if random.one_in(60) {
+        generate::long_transfer(random)
+    } else {
+        generate::transfer(random)
+    }
+}
+
+/// A case without a fault, but perhaps in its transfer.
+pub fn good_case(random: &mut Random) -> Case {
+    let chips = [random.below(5) as u8, random.below(5) as u8];
+    let shown = [random.below(2) as u8, random.below(2) as u8];
+    let out = COLUMNS * chips[shown[0] as usize] as usize;
+    Case {
+        chips,
+        registers: registers(random),
+        ram: columns(random, ram_length(chips)),
+        bytes: transfer(random),
+        shown,
+        out: random.bytes(out),
+        answer: (0..5).map(|_| random.number() as usize).collect(),
+    }
+}
+
+type Fault = fn(&mut Random, &mut Case);
+
+const FAULTS: [Fault; 9] = [
+    wrong_count,
+    wrong_register,
+    wrong_registers_length,
+    wrong_ram_length,
+    wrong_columns,
+    wrong_transfer,
+    wrong_view,
+    wrong_out,
+    wrong_answer_length,
+];
+
+/// A case with any number of faults, most often a few.
+pub fn damaged_case(random: &mut Random) -> Case {
+    let mut case = good_case(random);
+    let rarity = random.between(2, 12);
+    for fault in FAULTS {
+        if random.one_in(rarity) {
+            fault(random, &mut case);
+        }
+    }
+    case
+}
+
+fn wrong_count(random: &mut Random, case: &mut Case) {
+    case.chips[random.below(2)] = random.pick(&[5, 6, 8, 255]);
+    if random.one_in(2) {
+        case.ram = columns(random, ram_length(case.chips));
+    }
+}
+
+fn wrong_register(random: &mut Random, case: &mut Case) {
+    let place = random.below(18);
+    let limit = [1, 1, 3, 159, 4, 1, 1, 1, 3][place % 9];
+    case.registers[place] = random.pick(&[limit + 1, limit + 2, 254, 255]);
+}
+
+fn wrong_registers_length(random: &mut Random, case: &mut Case) {
+    if random.one_in(4) {
+        case.registers.resize(random.pick(&[0, 9, 17, 19, 36]), 0);
+    }
+}
+
+fn wrong_ram_length(random: &mut Random, case: &mut Case) {
+    let length = case.ram.len();
+    let others = [0, length.saturating_sub(1), length + 1, length + COLUMNS];
+    let value = random.byte() & 31;
+    case.ram.resize(random.pick(&others), value);
+}
+
+fn wrong_columns(random: &mut Random, case: &mut Case) {
+    for _ in 0..random.between(1, 3) {
+        let length = case.ram.len();
+        if length > 0 {
+            let any = random.below(length);
+            let place = random.pick(&[0, length - 1, any]);
+            case.ram[place] = random.pick(&[16, 17, 128, 255]);
+        }
+    }
+}
+
+fn wrong_transfer(random: &mut Random, case: &mut Case) {
+    case.bytes = match random.below(3) {
+        0 => vec![],
+        1 => generate::long_transfer(random),
+        _ => random.bytes(20),
+    };
+}
+
+fn wrong_view(random: &mut Random, case: &mut Case) {
+    case.shown[random.below(2)] = random.pick(&[2, 3, 255]);
+}
+
+fn wrong_out(random: &mut Random, case: &mut Case) {
+    let length = case.out.len();
+    let others = [0, length.saturating_sub(1), length + 1, 160, 320, 640];
+    case.out.resize(random.pick(&others), 0xEE);
+}
+
+fn wrong_answer_length(random: &mut Random, case: &mut Case) {
+    if random.one_in(4) {
+        case.answer.resize(random.pick(&[0, 1, 4, 6, 10]), 3);
+    }
+}

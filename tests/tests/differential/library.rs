@@ -1,0 +1,194 @@
+//! The calls of include/humtrellis.h, over buffers with a fence on both sides.
+
+/// Returned, with nothing written, for registers or an answer of another size.
+pub const SIZE: u8 = 255;
+
+#[rustfmt::skip]
+extern "C" {
+    fn humtrellis_power_on(
+        chips0: u8, chips1: u8, ram: *const u8, ram_length: usize,
+        registers: *mut u8, registers_length: usize, answer: *mut usize, answer_length: usize,
+    ) -> u8;
+
+    fn humtrellis_transfer(
+        chips0: u8, chips1: u8, registers: *mut u8, registers_length: usize,
+        ram: *mut u8, ram_length: usize, bytes: *const u8, bytes_length: usize,
+        answer: *mut usize, answer_length: usize,
+    ) -> u8;
+
+    fn humtrellis_picture(
+        chips0: u8, chips1: u8, registers: *const u8, registers_length: usize,
+        ram: *const u8, ram_length: usize, group: u8, phase: u8,
+        out: *mut u8, out_length: usize, answer: *mut usize, answer_length: usize,
+    ) -> u8;
+
+    #[cfg(feature = "plain")]
+    fn humtrellis_plain_transfer(
+        chips: *mut u8, chips_length: usize, bytes: *const u8, bytes_length: usize,
+        answer: *mut usize, answer_length: usize,
+    ) -> u8;
+
+    #[cfg(feature = "replay")]
+    fn humtrellis_replay(log: *const u8, log_length: usize, out: *mut u8, out_length: usize) -> usize;
+}
+
+const FENCE: usize = 24;
+
+/// A copy of a buffer with a fence before and behind it.
+struct Fenced<T> {
+    all: Vec<T>,
+    fence: T,
+}
+
+impl<T: Copy + PartialEq + std::fmt::Debug> Fenced<T> {
+    fn new(buffer: &[T], fence: T) -> Self {
+        let fences = vec![fence; FENCE];
+        let all = [&fences, buffer, &fences].concat();
+        Fenced { all, fence }
+    }
+
+    fn length(&self) -> usize {
+        self.all.len() - 2 * FENCE
+    }
+
+    fn pointer(&mut self) -> *mut T {
+        self.all[FENCE..].as_mut_ptr()
+    }
+
+    /// Gives the buffer back after a look at the fences.
+    fn back(&self, buffer: &mut [T]) {
+        let end = FENCE + self.length();
+        let fences = self.all[..FENCE].iter().chain(&self.all[end..]);
+        assert!(fences.copied().all(|x| x == self.fence), "fence broken");
+        buffer.copy_from_slice(&self.all[FENCE..end]);
+    }
+}
+
+fn bytes(buffer: &[u8]) -> Fenced<u8> {
+    Fenced::new(buffer, 0xA7)
+}
+
+fn numbers(buffer: &[usize]) -> Fenced<usize> {
+    Fenced::new(buffer, 0xA7A7)
+}
+
+pub fn power_on(
+    [chips0, chips1]: [u8; 2],
+    ram: &mut [u8],
+    registers: &mut [u8],
+    answer: &mut [usize],
+) -> u8 {
+    let (mut r, mut s, mut a) = (bytes(ram), bytes(registers), numbers(answer));
+    // Safety: each pointer goes with the length of the buffer that it points to.
+    let number = unsafe {
+        humtrellis_power_on(
+            chips0,
+            chips1,
+            r.pointer(),
+            r.length(),
+            s.pointer(),
+            s.length(),
+            a.pointer(),
+            a.length(),
+        )
+    };
+    r.back(ram);
+    s.back(registers);
+    a.back(answer);
+    number
+}
+
+pub fn transfer(
+    [chips0, chips1]: [u8; 2],
+    registers: &mut [u8],
+    ram: &mut [u8],
+    sent: &mut [u8],
+    answer: &mut [usize],
+) -> u8 {
+    let (mut s, mut r) = (bytes(registers), bytes(ram));
+    let (mut b, mut a) = (bytes(sent), numbers(answer));
+    // Safety: each pointer goes with the length of the buffer that it points to.
+    let number = unsafe {
+        humtrellis_transfer(
+            chips0,
+            chips1,
+            s.pointer(),
+            s.length(),
+            r.pointer(),
+            r.length(),
+            b.pointer(),
+            b.length(),
+            a.pointer(),
+            a.length(),
+        )
+    };
+    s.back(registers);
+    r.back(ram);
+    b.back(sent);
+    a.back(answer);
+    number
+}
+
+pub fn picture(
+    [chips0, chips1]: [u8; 2],
+    registers: &mut [u8],
+    ram: &mut [u8],
+    [group, phase]: [u8; 2],
+    out: &mut [u8],
+    answer: &mut [usize],
+) -> u8 {
+    let (mut s, mut r) = (bytes(registers), bytes(ram));
+    let (mut o, mut a) = (bytes(out), numbers(answer));
+    // Safety: each pointer goes with the length of the buffer that it points to.
+    let number = unsafe {
+        humtrellis_picture(
+            chips0,
+            chips1,
+            s.pointer(),
+            s.length(),
+            r.pointer(),
+            r.length(),
+            group,
+            phase,
+            o.pointer(),
+            o.length(),
+            a.pointer(),
+            a.length(),
+        )
+    };
+    s.back(registers);
+    r.back(ram);
+    o.back(out);
+    a.back(answer);
+    number
+}
+
+#[cfg(feature = "plain")]
+pub fn plain_transfer(chips: &mut [u8], sent: &mut [u8], answer: &mut [usize]) -> u8 {
+    let (mut c, mut b, mut a) = (bytes(chips), bytes(sent), numbers(answer));
+    // Safety: each pointer goes with the length of the buffer that it points to.
+    let number = unsafe {
+        humtrellis_plain_transfer(
+            c.pointer(),
+            c.length(),
+            b.pointer(),
+            b.length(),
+            a.pointer(),
+            a.length(),
+        )
+    };
+    c.back(chips);
+    b.back(sent);
+    a.back(answer);
+    number
+}
+
+#[cfg(feature = "replay")]
+pub fn replay(log: &mut [u8], out: &mut [u8]) -> usize {
+    let (mut l, mut o) = (bytes(log), bytes(out));
+    // Safety: each pointer goes with the length of the buffer that it points to.
+    let length = unsafe { humtrellis_replay(l.pointer(), l.length(), o.pointer(), o.length()) };
+    l.back(log);
+    o.back(out);
+    length
+}

@@ -1,0 +1,188 @@
+//! The proved library against the model: every number returned and every byte of every buffer.
+//! Fixed seeds; SOAK=seconds goes on with other seeds.
+
+#[cfg(library_missing)]
+compile_error!("target/staticlib/libcabi.a is missing: run rt staticlib cabi first");
+
+mod case;
+mod fault;
+mod library;
+mod orders;
+#[cfg(feature = "plain")]
+mod plain;
+#[cfg(feature = "replay")]
+mod replay;
+
+use case::{Call, Case};
+use humtrellis_tests::model::COLUMNS;
+use humtrellis_tests::{generate, random::Random};
+use std::time::{Duration, Instant};
+
+/// Runs a test for each seed below `count`, then for more seeds as long as SOAK says.
+pub fn for_seeds(count: u64, test: fn(&mut Random)) {
+    let soak = std::env::var("SOAK").map_or(0, |seconds| seconds.parse().expect("SOAK: seconds"));
+    let end = Instant::now() + Duration::from_secs(soak);
+    let mut seed = 0;
+    while seed < count || Instant::now() < end {
+        test(&mut Random::new(seed));
+        seed += 1;
+    }
+}
+
+#[test]
+fn good_cases() {
+    for_seeds(150_000, |random| {
+        let case = fault::good_case(random);
+        case.try_all();
+    });
+}
+
+#[test]
+fn damaged_cases() {
+    for_seeds(300_000, |random| {
+        let case = fault::damaged_case(random);
+        case.try_all();
+    });
+}
+
+/// Power-on, then transfers one after another with the state carried over, and pictures between.
+#[test]
+fn sequences() {
+    for_seeds(1500, |random| {
+        let mut case = fault::good_case(random);
+        case.compare(Call::PowerOn);
+        for _ in 0..60 {
+            case.bytes = fault::transfer(random);
+            case.compare(Call::Transfer);
+            compare_pictures(&case);
+        }
+    });
+}
+
+fn compare_pictures(case: &Case) {
+    for shown in [[0, 0], [0, 1], [1, 0], [1, 1]] {
+        let mut case = case.clone();
+        case.shown = shown;
+        case.out = vec![0xEE; COLUMNS * case.chips[shown[0] as usize] as usize];
+        assert_eq!(case.compare(Call::Picture), 0);
+    }
+}
+
+/// A case of `chips` in one group, the other having one chip, with RAM of a pattern.
+fn patterned(group: usize, chips: u8) -> Case {
+    let mut counts = [1, 1];
+    counts[group] = chips;
+    let mut case = Case::new(counts);
+    for (place, column) in case.ram.iter_mut().enumerate() {
+        *column = (place * 7 % 16) as u8;
+    }
+    case
+}
+
+/// A data byte from every pointer, counter, mode and input bank.
+#[test]
+fn every_position() {
+    let mut random = Random::new(1);
+    for chips in 0..=4 {
+        let group = chips as usize % 2;
+        let address = [0x70, 0x72][group];
+        let mut case = patterned(group, chips);
+        for state in 0..160 * 5 * 4 * 2 {
+            let p = state % 160;
+            let set = [
+                1,
+                0,
+                state / 1600 % 4,
+                p,
+                state / 160 % 5,
+                state / 6400,
+                0,
+                0,
+                0,
+            ];
+            let set = set.map(|value| value as u8);
+            case.registers[9 * group..][..9].copy_from_slice(&set);
+            case.bytes = vec![address, 0x40, random.byte(), random.byte()];
+            assert_eq!(case.try_call(Call::Transfer), 0);
+        }
+    }
+}
+
+/// Every command byte, control byte and address byte.
+#[test]
+fn every_byte() {
+    let mut random = Random::new(2);
+    for chips in [[1, 0], [0, 1], [2, 3]] {
+        let mut case = Case::new(chips);
+        for byte in 0..=255 {
+            case.registers = fault::registers(&mut random);
+            let other = generate::command(&mut random);
+            for address in [0x70, 0x72] {
+                for bytes in [
+                    vec![byte, 0x00, other],
+                    vec![address, byte],
+                    vec![address, byte, other],
+                    vec![address, byte, other, 0x40, 0xA5],
+                    vec![address, 0x80, byte, 0x40, 0x3C],
+                    vec![address, 0x00, other, byte, other],
+                    vec![address, 0xC0, byte, 0x80, byte, 0x40],
+                ] {
+                    case.bytes = bytes;
+                    case.try_call(Call::Transfer);
+                }
+            }
+        }
+    }
+}
+
+/// Every value of every register.
+#[test]
+fn every_register() {
+    for place in 0..18 {
+        for value in 0..=255 {
+            let mut case = patterned(0, 1);
+            case.registers[place] = value;
+            case.bytes = vec![[0x70, 0x72][place / 9], 0x80, 0x03, 0x40, 0xA5];
+            case.shown = [(place / 9) as u8, 1];
+            case.try_all();
+        }
+    }
+}
+
+/// Every setting that a picture depends on, over all column values.
+#[test]
+fn every_picture() {
+    for state in 0..2 * 4 * 2 * 2 * 4 * 2 {
+        let (e, m, o) = (state % 2, state / 2 % 4, state / 8 % 2);
+        let (ab, bf, i) = (state / 16 % 2, state / 32 % 4, state / 128);
+        for group in 0..2 {
+            let mut case = patterned(group, 2);
+            let set = [e, 0, m, 0, 0, i, o, ab, bf].map(|value: i32| value as u8);
+            case.registers[9 * group..][..9].copy_from_slice(&set);
+            compare_pictures(&case);
+        }
+    }
+}
+
+/// A column over 15 at every place of the RAM.
+#[test]
+fn every_wrong_column() {
+    for place in 0..8 * COLUMNS {
+        let mut case = Case::new([4, 4]);
+        case.ram[place] = 16;
+        case.ram[8 * COLUMNS - 1] = 255;
+        assert_eq!(case.try_all(), [5, 5, 5]);
+    }
+}
+
+/// Transfers of every length near the limits, and long runs.
+#[test]
+fn every_length() {
+    for_seeds(40, |random| {
+        let mut case = fault::good_case(random);
+        for length in [0, 1, 2, 3, 1280, 4094, 4095, 4096, 4097, 5000, 70_000] {
+            case.bytes = generate::transfer_of_length(random, length);
+            case.try_call(Call::Transfer);
+        }
+    });
+}

@@ -1,0 +1,111 @@
+//! The plain account: transfers over chips of 171 bytes.
+
+use crate::library;
+use crate::{fault, for_seeds};
+use humtrellis_tests::model::{self, Chip, Registers, COLUMNS};
+use humtrellis_tests::random::Random;
+
+const CHIP: usize = 171;
+
+fn chip_of(bytes: &[u8]) -> Chip {
+    let mut chip = Chip::new(bytes[COLUMNS], bytes[COLUMNS + 1]);
+    chip.columns.copy_from_slice(&bytes[..COLUMNS]);
+    chip.registers = Registers::from_bytes(&bytes[COLUMNS + 2..]);
+    chip
+}
+
+fn bytes_of(chip: &Chip) -> Vec<u8> {
+    let registers = chip.registers.to_bytes();
+    [&chip.columns[..], &[chip.sa0, chip.subaddress], &registers].concat()
+}
+
+fn by_model(chips: &mut [u8], sent: &[u8], answer: &mut [usize]) -> u8 {
+    if answer.len() != 5 {
+        return library::SIZE;
+    }
+    let mut list: Vec<Chip> = chips.chunks(CHIP).map(chip_of).collect();
+    let result = model::plain_transfer(&mut list, sent);
+    for (place, chip) in list.iter().enumerate() {
+        chips[CHIP * place..][..CHIP].copy_from_slice(&bytes_of(chip));
+    }
+    answer.copy_from_slice(&result.numbers());
+    result.number as u8
+}
+
+/// Makes the call both ways on `chips` and holds all results together.
+fn compare(chips: &mut [u8], sent: &[u8], answer_length: usize) {
+    let given = chips.to_vec();
+    let mut others = chips.to_vec();
+    let mut answer = vec![77; answer_length];
+    let mut expected = answer.clone();
+    let mut lent = sent.to_vec();
+    let number = library::plain_transfer(chips, &mut lent, &mut answer);
+    let expected_number = by_model(&mut others, sent, &mut expected);
+    let same = number == expected_number && answer == expected && *chips == others && lent == sent;
+    assert!(
+        same,
+        "plain differs\n chips {given:?}\n sent {sent:?}\n library {number} {answer:?} {chips:?}\n model {expected_number} {expected:?} {others:?}"
+    );
+}
+
+fn chip(random: &mut Random, set: &[u8]) -> Vec<u8> {
+    let mut bytes = fault::columns(random, COLUMNS);
+    bytes.extend([random.below(2) as u8, random.below(4) as u8]);
+    bytes.extend(set);
+    bytes
+}
+
+/// Chips with equal registers or each with its own; gaps and repeated subaddresses.
+fn chips(random: &mut Random, count: usize) -> Vec<u8> {
+    let common = fault::registers(random);
+    let equal = random.one_in(2);
+    let mut chips = Vec::new();
+    for _ in 0..count {
+        let own = fault::registers(random);
+        let set = if equal { &common } else { &own };
+        chips.extend(chip(random, &set[..9]));
+    }
+    chips
+}
+
+#[test]
+fn plain_sequences() {
+    for_seeds(1500, |random| {
+        let count = random.below(9);
+        let mut chips = chips(random, count);
+        for _ in 0..30 {
+            let sent = fault::transfer(random);
+            compare(&mut chips, &sent, 5);
+        }
+    });
+}
+
+#[test]
+fn plain_damaged() {
+    for_seeds(30_000, |random| {
+        let count = random.below(11);
+        let mut chips = chips(random, count);
+        for _ in 0..random.below(4) {
+            if !chips.is_empty() {
+                let place = random.below(chips.len());
+                let head = place / CHIP * CHIP + COLUMNS + random.below(11);
+                chips[random.pick(&[place, head])] = random.byte();
+            }
+        }
+        let sent = fault::transfer(random);
+        let length = random.pick(&[5, 5, 5, 5, 5, 5, 5, 4, 6, 0]);
+        compare(&mut chips, &sent, length);
+    });
+}
+
+/// Every value of every field of a chip.
+#[test]
+fn plain_every_field() {
+    for place in COLUMNS - 1..CHIP {
+        for value in 0..=255 {
+            let mut chips = vec![0; 2 * CHIP];
+            chips[CHIP + place] = value;
+            compare(&mut chips, &[0x70, 0x80, 0x03, 0x40, 0xA5, 0x5A], 5);
+        }
+    }
+}

@@ -1,0 +1,47 @@
+//! Logs: the library's text against the model's.
+
+use crate::{for_seeds, library};
+use humtrellis_tests::generate;
+use humtrellis_tests::model::{log_text, LOG_LIMIT};
+use humtrellis_tests::random::Random;
+
+/// Room for the text of any log.
+const ROOM: usize = 2_000_000;
+
+/// Replays a log into a buffer with room enough and holds the text to the model's.
+fn compare(log: &[u8]) {
+    let mut out = vec![0xEE; ROOM];
+    let mut lent = log.to_vec();
+    let length = library::replay(&mut lent, &mut out);
+    let expected = log_text(log);
+    let same = length == expected.len() && out[..length] == expected && lent == log;
+    assert!(
+        same,
+        "replay differs\n log {log:?}\n model\n{}",
+        String::from_utf8_lossy(&expected)
+    );
+}
+
+#[test]
+fn replay_paper() {
+    compare(&generate::WORKED_LOG);
+    for length in 0..generate::WORKED_LOG.len() {
+        compare(&generate::WORKED_LOG[..length]);
+    }
+}
+
+#[test]
+fn replay_generated() {
+    for_seeds(2000, |random| compare(&generate::log(random)));
+}
+
+#[test]
+fn replay_long() {
+    let mut random = Random::new(5);
+    for length in [LOG_LIMIT - 1, LOG_LIMIT, LOG_LIMIT + 1] {
+        compare(&generate::log_of_length(&mut random, length));
+        compare(&vec![1; length]);
+    }
+    let empty_records = [vec![1, 4, 4], vec![0; LOG_LIMIT - 4]].concat();
+    compare(&empty_records);
+}
