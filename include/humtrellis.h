@@ -13,6 +13,8 @@
 #define HUMTRELLIS_REGISTERS 18
 #define HUMTRELLIS_ANSWER 5
 #define HUMTRELLIS_SIZE 255
+#define HUMTRELLIS_CHIP 171
+#define HUMTRELLIS_TEXT 1300000
 
 /* Power-on: writes the power-on registers, taken or refused; the RAM (160 bytes a chip) is only read. Answer: number, place, 0, 0, 0. */
 uint8_t humtrellis_power_on(uint8_t chips0, uint8_t chips1, const uint8_t *ram, size_t ram_length,
@@ -27,5 +29,14 @@ uint8_t humtrellis_transfer(uint8_t chips0, uint8_t chips1, uint8_t *registers, 
 uint8_t humtrellis_picture(uint8_t chips0, uint8_t chips1, const uint8_t *registers, size_t registers_length,
                            const uint8_t *ram, size_t ram_length, uint8_t group, uint8_t phase,
                            uint8_t *out, size_t out_length, size_t *answer, size_t answer_length);
+
+/* One transfer to at most eight chips, each of which follows every byte by itself: 171 bytes a chip, its 160 columns, SA0, subaddress, E B M P A I O AB BF.
+ * Answer: number, place, acknowledged bytes, 0, 0. HUMTRELLIS_SIZE also if the chips are not 171 bytes each. */
+uint8_t humtrellis_plain_transfer(uint8_t *chips, size_t chips_length, const uint8_t *bytes, size_t bytes_length,
+                                  size_t *answer, size_t answer_length);
+
+/* The text of a bus log (docs/BENCH.md), written from the start of a buffer of at least HUMTRELLIS_TEXT bytes, which hold any text.
+ * Returns its length; 0, and nothing is written, for a smaller buffer. A refused log has a text too, its X line. */
+size_t humtrellis_replay(const uint8_t *log, size_t log_length, uint8_t *out, size_t out_length);
 
 #endif

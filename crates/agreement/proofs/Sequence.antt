@@ -6,12 +6,12 @@ use Prim.Native.Nat.{ℕ}
 use Rattle.sheet.specs.declared.Chips.{Chips}
 use Rattle.sheet.specs.declared.Chip.{Chip}
 use Rattle.sheet.specs.declared.PlainAnswer.{PlainAnswer}
-use Rattle.sheet.specs.Long.{State, stateAfter}
-use Rattle.sheet.specs.Agree.{answerTo, longAll, longAnswers, plainAll, plainAnswers, Keeps, Valid, AgreesAll}
+use Rattle.sheet.specs.Long.{State, stateAfter, stateAfterAll}
+use Rattle.sheet.specs.Agree.{answerTo, longAnswers, plainAll, plainAnswers, Keeps, Valid, AgreesAll}
 use Rattle.agreement.proofs.Transfer.{transfer}
 
 pub sequence : (C L : ℕ) → Keeps C L → (n : Chips) (s : State) (ts : List (List ℕ)) → Valid C L n s → AgreesAll C L n s ts
-unfolding longAll longAnswers plainAll plainAnswers
+unfolding stateAfterAll longAnswers plainAll plainAnswers
 sequence C L keeps n s [] v = record { hold = refl; acknowledge = refl; valid = v }
 sequence C L keeps n s (t ∷ ts) v =
     let one = transfer C L keeps n s t v in

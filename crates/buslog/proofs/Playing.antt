@@ -12,8 +12,8 @@ use Rattle.sheet.specs.declared.Chips.{Chips}
 use Rattle.sheet.specs.declared.Transferred.{Transferred}
 use Rattle.sheet.specs.declared.Check.the-variants.{Passed}
 use Rattle.sheet.specs.Refusals.{numbers}
-use Rattle.sheet.specs.Long.{transferCall}
-use Rattle.sheet.specs.Logs.{cutIn, line, transferLines, replayed}
+use Rattle.sheet.specs.Long.{transferCall, stateAfterAll}
+use Rattle.sheet.specs.Logs.{cutIn, line, transferLines}
 use Rattle.buslog.specs.Texts.{Puts}
 use Rattle.buslog.specs.Records.{recordsFrom}
 use Rattle.buslog.specs.Replays.{stateOf}
@@ -23,7 +23,7 @@ use Rattle.buslog.proofs.Records.{Next}
 -- the record at a place is the next, the text has come to at, and i records are done
 pub record Playing (log : List ℕ) (n : Chips) (r₀ : Both) (ram₀ out₀ : List ℕ) (r : Both) (ram out : List ℕ) (i at place : ℕ) : Type 0 where
   pub writing : Writing 0 (transferLines n 0 (stateOf r₀ ram₀) (recordsFrom 3 log)) out₀ at (transferLines n i (stateOf r ram) (recordsFrom place log)) out
-  pub state : replayed n (stateOf r ram) (recordsFrom place log) ≡ replayed n (stateOf r₀ ram₀) (recordsFrom 3 log)
+  pub state : stateAfterAll 160 4 n (stateOf r ram) (recordsFrom place log) ≡ stateAfterAll 160 4 n (stateOf r₀ ram₀) (recordsFrom 3 log)
   pub whole : cutIn (length log) place (drop place log) ≡ Passed
   pub few : i ≤ place
   pub long : length ram ≡ length ram₀
@@ -41,7 +41,7 @@ module _ (log : List ℕ) (n : Chips) (r₀ : Both) (ram₀ out₀ : List ℕ) (
     -- and what holds at the next record
     pub next-record : (end : ℕ) (out′ : List ℕ) → length after ≡ length ram → Puts at (line 84 (i ∷ numbers (t .answer))) out out′ end
         → Playing log n r₀ ram₀ out₀ (t .registers) after out′ (i + 1) end (start + size)
-    unfolding replayed
+    unfolding stateAfterAll
     next-record end out′ same q = record {
       writing = turn one-more q;
       state = rw (result, ram-after, add-sub-cancel-left start size) (rw (f .records) at (p .state));

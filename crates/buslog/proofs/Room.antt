@@ -21,9 +21,9 @@ use Rattle.sheet.specs.declared.Check.the-variants.{Passed, Refused}
 use Rattle.sheet.specs.Refusals.{numberOf, placeOf, numbers}
 use Rattle.sheet.specs.Commands.{backplanes}
 use Rattle.sheet.specs.Pictures.{shown, lit, pictureOf, litIn}
-use Rattle.sheet.specs.Long.{State, stateAfter, transferCall, registersOf, partOf, startOf}
+use Rattle.sheet.specs.Long.{State, stateAfter, transferCall, registersOf, partOf, startOf, stateAfterAll}
 use Rattle.sheet.specs.Checks.{chipsIn}
-use Rattle.sheet.specs.Logs.{lengthOf, logChips, recordsIn, checkLog, line, transferLines, columnLines, shownAt, endLines, logStart, logLines, replayed, textBy, textOf}
+use Rattle.sheet.specs.Logs.{lengthOf, logChips, recordsIn, checkLog, line, transferLines, columnLines, shownAt, endLines, logStart, logLines, textBy, textOf}
 use Rattle.sheet.specs.Agree.{Valid}
 use Rattle.laws.proofs.Nibbles.{Nibbles, take-nibbles, drop-nibbles}
 use Rattle.laws.proofs.Fits.{fits-of}
@@ -36,7 +36,7 @@ use Rattle.buslog.specs.Replays.{room, replayCall}
 use Rattle.buslog.proofs.Widths.{line-few}
 use Rattle.buslog.proofs.Numbers.{Few, log-few, transfer-few}
 use Rattle.buslog.proofs.Checked.{checked}
-use Rattle.buslog.proofs.States.{start-valid, replayed-valid}
+use Rattle.buslog.proofs.States.{start-valid}
 
 -- ---- transfers
 
@@ -144,7 +144,7 @@ lines-few log e =
     let v = start-valid n (c .chips) in
     let shorter : length (drop 3 log) ≤ 65536 = omega (arith, length-drop 3 log) in
     let few = records-few (length log) (drop 3 log) in
-    omega (arith, length-append (transferLines n 0 (logStart n) ts) (endLines n (replayed n (logStart n) ts)), transfers-few n 0 (logStart n) ts v (records-short (length log) (drop 3 log) shorter) (omega arith), end-few n (replayed n (logStart n) ts) (replayed-valid n (logStart n) ts v))
+    omega (arith, length-append (transferLines n 0 (logStart n) ts) (endLines n (stateAfterAll 160 4 n (logStart n) ts)), transfers-few n 0 (logStart n) ts v (records-short (length log) (drop 3 log) shorter) (omega arith), end-few n (stateAfterAll 160 4 n (logStart n) ts) (pcf8532 .sequence n (logStart n) ts v .valid))
 
 -- the law
 pub text-few : (log : List ℕ) → length (textOf log) ≤ room

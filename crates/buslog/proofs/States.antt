@@ -1,7 +1,7 @@
 -- No call refuses a state that a replay comes to, so every picture of it is shown.
 -- Assumes nothing.
 use mathlib.Core.Path.{_≡_}
-use mathlib.Core.List.{List, [], _∷_}
+use mathlib.Core.List.{List}
 use Prim.Native.Nat.{ℕ, zero, suc, _+_, _*_, _<_}
 use native.Mathlib.Omega.{arith}
 use lib.ListN.{length, replicate, length-replicate}
@@ -11,12 +11,11 @@ use Rattle.sheet.specs.declared.Check.the-variants.{Passed}
 use Rattle.sheet.specs.declared.Pictured.{Pictured}
 use Rattle.sheet.specs.Checks.{chipsIn, checkChips, checkPicture}
 use Rattle.sheet.specs.Pictures.{litIn}
-use Rattle.sheet.specs.Long.{State, Seen, stateAfter, pictureCall}
-use Rattle.sheet.specs.Logs.{shownAt, logStart, replayed}
+use Rattle.sheet.specs.Long.{State, Seen, pictureCall}
+use Rattle.sheet.specs.Logs.{shownAt, logStart}
 use Rattle.sheet.specs.Agree.{Valid}
 use Rattle.laws.proofs.Nibbles.{Nibbles}
 use Rattle.laws.proofs.Fits.{check-fits, power-on-in}
-use Rattle.agreement.proofs.Demand.{pcf8532}
 use Rattle.buslog.proofs.Checked.{few-chips}
 
 -- zeros are below 16
@@ -38,12 +37,6 @@ start-valid n e =
       columns = length-replicate (160 * (n .zero + n .one)) 0;
       nibbles = blank-nibbles (160 * (n .zero + n .one));
     })
-
--- after any transfers
-pub replayed-valid : (n : Chips) (s : State) (ts : List (List ℕ)) → Valid 160 4 n s → Valid 160 4 n (replayed n s ts)
-unfolding replayed
-replayed-valid n s [] v = v
-replayed-valid n s (t ∷ ts) v = replayed-valid n (stateAfter 160 4 n s t) ts (pcf8532 .transfer n s t v .valid)
 
 -- what is seen of a valid state: the group's picture
 abbrev pub seenAt : Chips → State → ℕ → Seen

@@ -13,7 +13,8 @@ ghost use lib.Dec.{eqb};
 ghost use lib.ListN.{length, getD, drop, replicate};
 ghost use Rattle.sheet.specs.Refusals.{numberOf, placeOf, numbers};
 ghost use Rattle.sheet.specs.Checks.{chipsIn, checkChips};
-ghost use Rattle.sheet.specs.Logs.{lengthOf, logChips, cutIn, checkLog, decimal, spaced, line, transferLines, columnLines, replayed, shownAt, endLines, logStart, logLines, textOf};
+ghost use Rattle.sheet.specs.Logs.{lengthOf, logChips, cutIn, checkLog, decimal, spaced, line, transferLines, columnLines, shownAt, endLines, logStart, logLines, textOf};
+ghost use Rattle.sheet.specs.Long.{stateAfterAll};
 ghost use Rattle.sheet.specs.Agree.{Valid};
 ghost use Rattle.sheet.specs.Pictures.{litIn};
 ghost use Rattle.buslog.specs.Texts.{Puts};
@@ -204,7 +205,7 @@ struct Played {
 fn put_transfers(log: &[u8], chips: Chips, initial: Both, ram: &mut [u8], out: &mut [u8]) -> Played
     requires { ⌜ cutIn (length (now log)) 3 (drop 3 (now log)) ≡ Check.Passed ⌝ }
     requires { ⌜ length (transferLines chips 0 (stateOf initial (now ram)) (recordsFrom 3 (now log))) ≤ length (now out) ⌝ }
-    ensures { λ r. ⌜ stateOf (r .registers) (now (ram .exit)) ≡ replayed chips (stateOf initial (now (ram .entry))) (recordsFrom 3 (now (log .entry))) ⌝ }
+    ensures { λ r. ⌜ stateOf (r .registers) (now (ram .exit)) ≡ stateAfterAll 160 4 chips (stateOf initial (now (ram .entry))) (recordsFrom 3 (now (log .entry))) ⌝ }
     ensures { λ r. ⌜ Puts 0 (transferLines chips 0 (stateOf initial (now (ram .entry))) (recordsFrom 3 (now (log .entry)))) (now (out .entry)) (now (out .exit)) (r .at) ⌝ }
 {
     let mut registers = initial;

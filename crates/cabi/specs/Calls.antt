@@ -1,61 +1,22 @@
--- The calls of the long account as C sees them: registers as bytes, answers as numbers, through the definitions of `sheet`.
-use Prim.Native.Nat.{ℕ, _%_}
+-- The calls as C sees them: registers and chips as bytes, answers as numbers, through the definitions of `sheet`.
+use Prim.Native.Nat.{ℕ, _/_, _%_}
 use mathlib.Core.Bool.{cond, _&&_}
-use mathlib.Core.List.{List, [], _∷_, _++_}
+use mathlib.Core.List.{List}
 use lib.Dec.{eqb}
-use lib.ListN.{length, getD, take, drop}
-use Rattle.sheet.specs.declared.Registers.{Registers}
-use Rattle.sheet.specs.declared.Both.{Both}
+use lib.ListN.{length, getD}
+use Rattle.sheet.specs.declared.Chip.{Chip}
 use Rattle.sheet.specs.declared.Chips.{Chips}
-use Rattle.sheet.specs.declared.Refusal.{Refusal}
-use Rattle.sheet.specs.declared.Check.{Check}
-use Rattle.sheet.specs.declared.Pictured.{Pictured}
-use Rattle.sheet.specs.Refusals.{numberOf, placeOf, numbers}
+use Rattle.sheet.specs.declared.PlainAnswer.{PlainAnswer}
+use Rattle.sheet.specs.Refusals.{numberOf, refusalNumbers, numbers, plainNumbers, pictureNumbers, checkNumbers}
 use Rattle.sheet.specs.Long.{powerOnCall, transferCall, pictureCall}
-
--- nine bytes, in the order E B M P A I O AB BF
-abbrev pub registersIn : List ℕ → Registers
-registersIn l = record {
-  e = getD l 0 0;
-  b = getD l 1 0;
-  m = getD l 2 0;
-  p = getD l 3 0;
-  a = getD l 4 0;
-  i = getD l 5 0;
-  o = getD l 6 0;
-  ab = getD l 7 0;
-  bf = getD l 8 0;
-}
-
--- group 0's and then group 1's
-abbrev pub bothOf : List ℕ → Both
-bothOf l = record { zero = registersIn (take 9 l); one = registersIn (drop 9 l) }
-
--- P and A come from bytes and stay as given or in range, so a byte holds them
-abbrev pub bytesOf : Registers → List ℕ
-bytesOf r = r .e ∷ r .b ∷ r .m ∷ r .p % 256 ∷ r .a % 256 ∷ r .i ∷ r .o ∷ r .ab ∷ r .bf ∷ []
-
-abbrev pub bothBytes : Both → List ℕ
-bothBytes r = bytesOf (r .zero) ++ bytesOf (r .one)
+use Rattle.sheet.specs.Plain.{plainCall}
+use Rattle.buslog.specs.declared.Replayed.{Replayed}
+use Rattle.cabi.specs.Bytes.{bothOf, bothBytes, listIn, listBytes}
 
 abbrev pub chipsOf : ℕ → ℕ → Chips
 chipsOf z o = record { zero = z; one = o }
 
--- ---- answers: answer, place and three more numbers
-
-abbrev pub refusalNumbers : Refusal → List ℕ
-refusalNumbers r = numberOf r ∷ placeOf r ∷ 0 ∷ 0 ∷ 0 ∷ []
-
-abbrev pub checkNumbers : Check → List ℕ
-checkNumbers Check.Passed = 0 ∷ 0 ∷ 0 ∷ 0 ∷ 0 ∷ []
-checkNumbers (Check.Refused r) = refusalNumbers r
-
--- a picture's third number is the lit elements
-abbrev pub pictureNumbers : Pictured → List ℕ
-pictureNumbers (Pictured.Lit n) = 0 ∷ 0 ∷ n ∷ 0 ∷ 0 ∷ []
-pictureNumbers (Pictured.Refused r) = refusalNumbers r
-
--- ---- the calls. Each gives the number returned and what each lent buffer holds after it
+-- ---- the long account. Each call gives the number returned and what each lent buffer holds after it
 
 pub record Called : Type 0 where
   pub number : ℕ
@@ -84,3 +45,28 @@ unfoldable pub pictureC : ℕ → ℕ → List ℕ → List ℕ → ℕ → ℕ 
 pictureC z o registers ram group phase out answer =
     let s = pictureCall 160 4 (chipsOf z o) (bothOf registers) ram group phase out in
     sized registers out answer (record { number = getD (pictureNumbers (s .result)) 0 0; registers = registers; buffer = s .out; answer = pictureNumbers (s .result) })
+
+-- ---- the plain account
+
+pub record PlainCalled : Type 0 where
+  pub number : ℕ
+  pub chips : List ℕ
+  pub answer : List ℕ
+
+-- taken, the chips are written; refused, they are as given
+abbrev pub plainDone : PlainAnswer → List Chip → List ℕ → PlainCalled
+plainDone (PlainAnswer.Acknowledged n) after given = record { number = 0; chips = listBytes after; answer = plainNumbers (PlainAnswer.Acknowledged n) }
+plainDone (PlainAnswer.Refused r) after given = record { number = numberOf r; chips = given; answer = refusalNumbers r }
+
+-- 255, and nothing is written, unless the chips are 171 bytes each and an answer has five numbers
+unfoldable pub plainC : List ℕ → List ℕ → List ℕ → PlainCalled
+plainC chips bytes answer =
+    let s = plainCall 160 4 (listIn (length chips / 171) chips) bytes in
+    cond (eqb (length chips % 171) 0 && eqb (length answer) 5) (plainDone (s .answer) (s .chips) chips) (record { number = 255; chips = chips; answer = answer })
+
+-- ---- replay
+
+-- the bytes of the text, or 0 for too small a buffer: no text is empty
+abbrev pub replayNumber : Replayed → ℕ
+replayNumber (Replayed.Written n) = n
+replayNumber Replayed.SmallBuffer = 0

@@ -14,7 +14,7 @@ use Rattle.sheet.specs.declared.Answer.{Answer}
 use Rattle.sheet.specs.declared.PlainAnswer.{PlainAnswer}
 use Rattle.sheet.specs.Commands.{commandOf, obeyed, inRange}
 use Rattle.sheet.specs.Checks.{checkState}
-use Rattle.sheet.specs.Long.{State, powerOnCall, transferCall, stateAfter}
+use Rattle.sheet.specs.Long.{State, powerOnCall, transferCall, stateAfter, stateAfterAll}
 use Rattle.sheet.specs.Pictures.{pictureOf, litIn}
 use Rattle.sheet.specs.Plain.{plainCall}
 
@@ -42,10 +42,6 @@ abbrev pub answerTo : ℕ → ℕ → Chips → State → List ℕ → PlainAnsw
 answerTo C L n s bytes = plainly (transferCall C L n (s .registers) (s .ram) bytes .result .answer)
 
 -- ---- and of a sequence
-
-unfoldable pub longAll : ℕ → ℕ → Chips → State → List (List ℕ) → State
-longAll C L n s [] = s
-longAll C L n s (t ∷ ts) = longAll C L n (stateAfter C L n s t) ts
 
 unfoldable pub longAnswers : ℕ → ℕ → Chips → State → List (List ℕ) → List PlainAnswer
 longAnswers C L n s [] = []
@@ -77,9 +73,9 @@ pub record Agrees (C L : ℕ) (n : Chips) (s : State) (bytes : List ℕ) : Type 
 
 -- any sequence
 pub record AgreesAll (C L : ℕ) (n : Chips) (s : State) (ts : List (List ℕ)) : Type 0 where
-  pub hold : plainAll C L (chipsOf C n s) ts ≡ chipsOf C n (longAll C L n s ts)
+  pub hold : plainAll C L (chipsOf C n s) ts ≡ chipsOf C n (stateAfterAll C L n s ts)
   pub acknowledge : plainAnswers C L (chipsOf C n s) ts ≡ longAnswers C L n s ts
-  pub valid : Valid C L n (longAll C L n s ts)
+  pub valid : Valid C L n (stateAfterAll C L n s ts)
 
 -- show: the chips' pictures, each by its own registers and columns, are the long picture one after the other, and their lit elements add up
 abbrev pub chipPicture : ℕ → Chip → List ℕ

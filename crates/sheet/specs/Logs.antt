@@ -12,7 +12,7 @@ use Rattle.sheet.specs.Refusals.{numberOf, placeOf, numbers}
 use Rattle.sheet.specs.Checks.{unless, orElse, checkChips}
 use Rattle.sheet.specs.Commands.{powerOn}
 use Rattle.sheet.specs.Pictures.{pictureOf, litIn}
-use Rattle.sheet.specs.Long.{State, transferCall, stateAfter, registersOf, partOf}
+use Rattle.sheet.specs.Long.{State, transferCall, stateAfter, stateAfterAll, registersOf, partOf}
 
 -- ---- the log
 
@@ -79,11 +79,6 @@ unfoldable pub columnLines : ℕ → ℕ → List ℕ → List ℕ
 columnLines g c [] = []
 columnLines g c (q ∷ qs) = cond (eqb q 0) [] (line 83 (g ∷ c ∷ q ∷ [])) ++ columnLines g (suc c) qs
 
--- the state after all records, a refused transfer changing nothing
-unfoldable pub replayed : Chips → State → List (List ℕ) → State
-replayed n s [] = s
-replayed n s (t ∷ ts) = replayed n (stateAfter 160 4 n s t) ts
-
 -- group g's picture at phase 0
 abbrev pub shownAt : Chips → State → ℕ → List ℕ
 shownAt n s g = pictureOf (registersOf g (s .registers)) 0 (partOf 160 n g (s .ram))
@@ -99,7 +94,7 @@ abbrev pub logStart : Chips → State
 logStart n = record { registers = record { zero = powerOn; one = powerOn }; ram = replicate (160 * (n .zero + n .one)) 0 }
 
 abbrev pub logLines : Chips → List (List ℕ) → List ℕ
-logLines n ts = transferLines n 0 (logStart n) ts ++ endLines n (replayed n (logStart n) ts)
+logLines n ts = transferLines n 0 (logStart n) ts ++ endLines n (stateAfterAll 160 4 n (logStart n) ts)
 
 -- a refused log gives one line, `X number place`
 abbrev pub textBy : Check → Chips → List (List ℕ) → List ℕ

@@ -5,8 +5,7 @@ use mathlib.Core.List.{List, [], _∷_, _++_}
 use lib.Dec.{T, eqb}
 use lib.ListN.{getD, take, replicate}
 use Rattle.sheet.specs.declared.Chip.{Chip}
-use Rattle.sheet.specs.declared.PlainAnswer.{PlainAnswer}
-use Rattle.sheet.specs.Refusals.{numberOf, placeOf, numbers}
+use Rattle.sheet.specs.Refusals.{numbers, plainNumbers}
 use Rattle.sheet.specs.Commands.{within, powerOn, commandOf, inRange, backplanes, bankRow}
 use Rattle.sheet.specs.Places.{advanced, position, atPosition}
 use Rattle.sheet.specs.Plain.{putRows, column, columns, chipData, chipAcknowledges, plainHeard, chipFits, misfitIn, checkPlain, plainCall}
@@ -53,10 +52,6 @@ passes row =
     && (holds (s .ram) (row .columns) && holds (pictureOf r (row .phase) (s .ram)) (row .picture))))
 
 -- the same of the plain account: acknowledged, every chip's A and P, and the chips' columns one after the other
-abbrev pub plainNumbers : PlainAnswer → List ℕ
-plainNumbers (PlainAnswer.Acknowledged n) = 0 ∷ 0 ∷ n ∷ []
-plainNumbers (PlainAnswer.Refused r) = numberOf r ∷ placeOf r ∷ 0 ∷ []
-
 abbrev pub allAt : ℕ → ℕ → List Chip → Bool
 allAt a p [] = Bool.true
 allAt a p (c ∷ cs) = eqb (c .registers .a) a && (eqb (c .registers .p) p && allAt a p cs)
@@ -68,7 +63,7 @@ chipColumns (c ∷ cs) = c .columns ++ chipColumns cs
 abbrev pub passesPlain : Row → Bool
 passesPlain row =
     let s = plainCall 160 4 (groupChips 160 (row .chips) 0 0 powerOn (replicate (160 * row .chips) (row .fill))) (row .bytes) in
-    same (plainNumbers (s .answer)) (take 3 (row .answer)) && (allAt (row .a) (row .p) (s .chips) && holds (chipColumns (s .chips)) (row .columns))
+    same (plainNumbers (s .answer)) (take 3 (row .answer) ++ (0 ∷ 0 ∷ [])) && (allAt (row .a) (row .p) (s .chips) && holds (chipColumns (s .chips)) (row .columns))
 
 abbrev pub every : List Row → Bool
 every [] = Bool.true

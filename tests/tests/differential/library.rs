@@ -22,13 +22,11 @@ extern "C" {
         out: *mut u8, out_length: usize, answer: *mut usize, answer_length: usize,
     ) -> u8;
 
-    #[cfg(feature = "plain")]
     fn humtrellis_plain_transfer(
         chips: *mut u8, chips_length: usize, bytes: *const u8, bytes_length: usize,
         answer: *mut usize, answer_length: usize,
     ) -> u8;
 
-    #[cfg(feature = "replay")]
     fn humtrellis_replay(log: *const u8, log_length: usize, out: *mut u8, out_length: usize) -> usize;
 }
 
@@ -163,7 +161,6 @@ pub fn picture(
     number
 }
 
-#[cfg(feature = "plain")]
 pub fn plain_transfer(chips: &mut [u8], sent: &mut [u8], answer: &mut [usize]) -> u8 {
     let (mut c, mut b, mut a) = (bytes(chips), bytes(sent), numbers(answer));
     // Safety: each pointer goes with the length of the buffer that it points to.
@@ -183,7 +180,6 @@ pub fn plain_transfer(chips: &mut [u8], sent: &mut [u8], answer: &mut [usize]) -
     number
 }
 
-#[cfg(feature = "replay")]
 pub fn replay(log: &mut [u8], out: &mut [u8]) -> usize {
     let (mut l, mut o) = (bytes(log), bytes(out));
     // Safety: each pointer goes with the length of the buffer that it points to.

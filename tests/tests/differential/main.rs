@@ -8,9 +8,7 @@ mod case;
 mod fault;
 mod library;
 mod orders;
-#[cfg(feature = "plain")]
 mod plain;
-#[cfg(feature = "replay")]
 mod replay;
 
 use case::{Call, Case};

@@ -20,7 +20,7 @@ fn bytes_of(chip: &Chip) -> Vec<u8> {
 }
 
 fn by_model(chips: &mut [u8], sent: &[u8], answer: &mut [usize]) -> u8 {
-    if answer.len() != 5 {
+    if answer.len() != 5 || chips.len() % CHIP != 0 {
         return library::SIZE;
     }
     let mut list: Vec<Chip> = chips.chunks(CHIP).map(chip_of).collect();
@@ -96,6 +96,17 @@ fn plain_damaged() {
         let length = random.pick(&[5, 5, 5, 5, 5, 5, 5, 4, 6, 0]);
         compare(&mut chips, &sent, length);
     });
+}
+
+/// Lists that end inside a chip, and too many chips, whole or not.
+#[test]
+fn plain_every_length() {
+    for length in 0..=11 * CHIP {
+        let mut chips = vec![1; length];
+        compare(&mut chips, &[0x70, 0x40, 0xA5], 5);
+        let mut blank = vec![0; length];
+        compare(&mut blank, &[0x70, 0x40, 0xA5], 5);
+    }
 }
 
 /// Every value of every field of a chip.

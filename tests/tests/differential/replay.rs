@@ -5,16 +5,17 @@ use humtrellis_tests::generate;
 use humtrellis_tests::model::{log_text, LOG_LIMIT};
 use humtrellis_tests::random::Random;
 
-/// Room for the text of any log.
-const ROOM: usize = 2_000_000;
+/// The room that the header asks for: the text of any log.
+const ROOM: usize = 1_300_000;
 
-/// Replays a log into a buffer with room enough and holds the text to the model's.
+/// Replays a log into a buffer with room enough and holds the text to the model's; the rest of the buffer stays.
 fn compare(log: &[u8]) {
-    let mut out = vec![0xEE; ROOM];
+    let mut out = vec![0xEE; ROOM + 1];
     let mut lent = log.to_vec();
     let length = library::replay(&mut lent, &mut out);
     let expected = log_text(log);
     let same = length == expected.len() && out[..length] == expected && lent == log;
+    let same = same && out[length..].iter().all(|&byte| byte == 0xEE);
     assert!(
         same,
         "replay differs\n log {log:?}\n model\n{}",
@@ -27,6 +28,21 @@ fn replay_paper() {
     compare(&generate::WORKED_LOG);
     for length in 0..generate::WORKED_LOG.len() {
         compare(&generate::WORKED_LOG[..length]);
+    }
+}
+
+/// One byte less is refused with 0 and nothing is written.
+#[test]
+fn replay_small_buffer() {
+    for log in [&generate::WORKED_LOG[..], &[], &[1, 0, 0]] {
+        for room in [0, 1, 100, ROOM - 1] {
+            let mut out = vec![0xEE; room];
+            assert_eq!(library::replay(&mut log.to_vec(), &mut out), 0);
+            assert!(out.iter().all(|&byte| byte == 0xEE));
+        }
+        let mut out = vec![0xEE; ROOM];
+        let length = library::replay(&mut log.to_vec(), &mut out);
+        assert_eq!(out[..length], log_text(log));
     }
 }
 

@@ -12,7 +12,8 @@ use types.Run.{OneOf}
 use Rattle.sheet.specs.declared.Check.{Check}
 use Rattle.sheet.specs.declared.Check.the-variants.{Passed}
 use Rattle.sheet.specs.Plain.{passed}
-use Rattle.sheet.specs.Logs.{cutIn, recordsIn, transferLines, replayed, line}
+use Rattle.sheet.specs.Logs.{cutIn, recordsIn, transferLines, line}
+use Rattle.sheet.specs.Long.{stateAfterAll}
 use Rattle.sheet.specs.Refusals.{numbers}
 use Rattle.buslog.specs.declared.Record.{Record}
 use Rattle.buslog.specs.declared.Record.the-variants.{Body, End, Cut}
@@ -105,10 +106,10 @@ same-length-2 : tie.Need-same-length-2 Inv-loop μ-loop
 same-length-2 c = puts-length (ended c)
 
 returns : tie.Need-returns Inv-loop μ-loop
-unfolding replayed
+unfolding stateAfterAll
 returns c = let p = c .before .before in
     let a = p .before .before .before .before .args in
-    (ap (replayed (a .chips) (stateOf (p .loop .registers) (p .loop .ram))) (sym (over c)) ∙ p .loop .inv .state, ended c)
+    (ap (stateAfterAll 160 4 (a .chips) (stateOf (p .loop .registers) (p .loop .ram))) (sym (over c)) ∙ p .loop .inv .state, ended c)
 
 pub put-transfers-spec : {M : Type 1} → statement M
 put-transfers-spec =

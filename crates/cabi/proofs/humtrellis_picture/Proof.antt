@@ -9,7 +9,9 @@ use Rattle.lemmas.proofs.Tests.{both-true}
 use Rattle.sheet.specs.declared.Both.{Both}
 use Rattle.sheet.specs.declared.Pictured.{Pictured}
 use Rattle.sheet.specs.Long.{pictureCall}
-use Rattle.cabi.specs.Calls.{bothOf, chipsOf, pictureNumbers, pictureC}
+use Rattle.sheet.specs.Refusals.{pictureNumbers}
+use Rattle.cabi.specs.Bytes.{bothOf}
+use Rattle.cabi.specs.Calls.{chipsOf, pictureC}
 use borrow.Author.Needs.{needs}
 use Rattle.cabi.proofs.humtrellis_picture.Statement.{statement}
 use Rattle.cabi.proofs.humtrellis_picture.Tie as tie

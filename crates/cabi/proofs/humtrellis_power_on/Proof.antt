@@ -7,7 +7,9 @@ use borrow.Author.Tests.{eqb-true}
 use denote.Ref.{now}
 use Rattle.lemmas.proofs.Tests.{both-true}
 use Rattle.sheet.specs.declared.PowerOn.{PowerOn}
-use Rattle.cabi.specs.Calls.{bothBytes, checkNumbers, powerOnC}
+use Rattle.sheet.specs.Refusals.{checkNumbers}
+use Rattle.cabi.specs.Bytes.{bothBytes}
+use Rattle.cabi.specs.Calls.{powerOnC}
 use borrow.Author.Needs.{needs}
 use Rattle.cabi.proofs.humtrellis_power_on.Statement.{statement}
 use Rattle.cabi.proofs.humtrellis_power_on.Tie as tie

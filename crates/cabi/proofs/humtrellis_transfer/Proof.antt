@@ -10,7 +10,8 @@ use Rattle.sheet.specs.declared.Both.{Both}
 use Rattle.sheet.specs.declared.Transferred.{Transferred}
 use Rattle.sheet.specs.Refusals.{numbers}
 use Rattle.sheet.specs.Long.{transferCall}
-use Rattle.cabi.specs.Calls.{bothOf, bothBytes, chipsOf, transferC}
+use Rattle.cabi.specs.Bytes.{bothOf, bothBytes}
+use Rattle.cabi.specs.Calls.{chipsOf, transferC}
 use borrow.Author.Needs.{needs}
 use Rattle.cabi.proofs.humtrellis_transfer.Statement.{statement}
 use Rattle.cabi.proofs.humtrellis_transfer.Tie as tie

@@ -1,9 +1,9 @@
--- `cabi::registers_of` meets its contract: a byte fits.
+-- `cabi::registers::registers_of` meets its contract: a byte fits.
 -- Assumes nothing.
 use native.Mathlib.Omega.{arith}
 use borrow.Author.Needs.{needs}
-use Rattle.cabi.proofs.registers_of.Statement.{statement}
-use Rattle.cabi.proofs.registers_of.Tie as tie
+use Rattle.cabi.proofs.registers.registers_of.Statement.{statement}
+use Rattle.cabi.proofs.registers.registers_of.Tie as tie
 
 shared-slice-read-t3 : tie.Need-shared-slice-read-t3
 shared-slice-read-t3 c = search needs

@@ -1,8 +1,8 @@
--- `cabi::put_pictured` meets its contract, shown or refused.
+-- `cabi::answers::put_pictured` meets its contract, shown or refused.
 -- Assumes nothing.
 use borrow.Author.Needs.{needs}
-use Rattle.cabi.proofs.put_pictured.Statement.{statement}
-use Rattle.cabi.proofs.put_pictured.Tie as tie
+use Rattle.cabi.proofs.answers.put_pictured.Statement.{statement}
+use Rattle.cabi.proofs.answers.put_pictured.Tie as tie
 
 enum-known-pictured : tie.Need-enum-known-pictured
 enum-known-pictured c = search needs

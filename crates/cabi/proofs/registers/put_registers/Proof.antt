@@ -1,13 +1,13 @@
--- `cabi::put_registers` meets its contract: nine bytes are set whole.
+-- `cabi::registers::put_registers` meets its contract: nine bytes are set whole.
 -- Assumes nothing.
 use native.Mathlib.Omega.{arith}
 use lib.ListN.{length-set}
 use denote.Ref.{now}
 use Rattle.lemmas.proofs.Lists.{filled}
-use Rattle.cabi.specs.Calls.{bytesOf}
+use Rattle.cabi.specs.Bytes.{bytesOf}
 use borrow.Author.Needs.{needs}
-use Rattle.cabi.proofs.put_registers.Statement.{statement}
-use Rattle.cabi.proofs.put_registers.Tie as tie
+use Rattle.cabi.proofs.registers.put_registers.Statement.{statement}
+use Rattle.cabi.proofs.registers.put_registers.Tie as tie
 
 slice-write-out : tie.Need-slice-write-out
 slice-write-out c = search needs

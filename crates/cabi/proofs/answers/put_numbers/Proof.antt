@@ -1,4 +1,4 @@
--- `cabi::put_numbers` meets its contract: five numbers are set whole.
+-- `cabi::answers::put_numbers` meets its contract: five numbers are set whole.
 -- Assumes nothing.
 use mathlib.Core.Path.{refl}
 use mathlib.Core.List.{[], _∷_}
@@ -7,8 +7,8 @@ use lib.ListN.{length-set}
 use denote.Ref.{now}
 use Rattle.lemmas.proofs.Lists.{filled}
 use borrow.Author.Needs.{needs}
-use Rattle.cabi.proofs.put_numbers.Statement.{statement}
-use Rattle.cabi.proofs.put_numbers.Tie as tie
+use Rattle.cabi.proofs.answers.put_numbers.Statement.{statement}
+use Rattle.cabi.proofs.answers.put_numbers.Tie as tie
 
 slice-write-out : tie.Need-slice-write-out
 slice-write-out c = search needs

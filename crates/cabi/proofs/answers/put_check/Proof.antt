@@ -1,8 +1,8 @@
--- `cabi::put_check` meets its contract, taken or refused.
+-- `cabi::answers::put_check` meets its contract, taken or refused.
 -- Assumes nothing.
 use borrow.Author.Needs.{needs}
-use Rattle.cabi.proofs.put_check.Statement.{statement}
-use Rattle.cabi.proofs.put_check.Tie as tie
+use Rattle.cabi.proofs.answers.put_check.Statement.{statement}
+use Rattle.cabi.proofs.answers.put_check.Tie as tie
 
 enum-told : tie.Need-enum-told
 enum-told c = search needs

@@ -1,14 +1,14 @@
--- `cabi::both_of` meets its contract.
+-- `cabi::registers::both_of` meets its contract.
 -- Assumes nothing.
 use mathlib.Core.Path.{ap, _∙_}
 use native.Mathlib.Omega.{arith}
 use lib.ListN.{length-take}
 use denote.Ref.{now}
 use Rattle.lemmas.proofs.Lists.{part-rest}
-use Rattle.cabi.specs.Calls.{registersIn}
+use Rattle.cabi.specs.Bytes.{registersIn}
 use borrow.Author.Needs.{needs}
-use Rattle.cabi.proofs.both_of.Statement.{statement}
-use Rattle.cabi.proofs.both_of.Tie as tie
+use Rattle.cabi.proofs.registers.both_of.Statement.{statement}
+use Rattle.cabi.proofs.registers.both_of.Tie as tie
 
 slice-aggregate-registers-of : tie.Need-slice-aggregate-registers-of
 slice-aggregate-registers-of c = simp length-take (omega (arith, c .before .before .pre))

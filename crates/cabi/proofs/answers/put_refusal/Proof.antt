@@ -1,4 +1,4 @@
--- `cabi::put_refusal` meets its contract: a refusal's number is at most 14.
+-- `cabi::answers::put_refusal` meets its contract: a refusal's number is at most 14.
 -- Assumes nothing.
 use mathlib.Core.Path.{ap₂, _∙_}
 use mathlib.Core.List.{[], _∷_}
@@ -8,8 +8,8 @@ use Rattle.sheet.specs.declared.Refusal.{Refusal}
 use Rattle.sheet.specs.declared.Refusal.the-variants.{EmptyTransfer, LongTransfer, ChipCount, RamLength, RamByte, Register, UndefinedCommand, GroupOrPhase, PictureLength, ManyChips, ChipField, LogHead, CutRecord, LongLog}
 use Rattle.sheet.specs.Refusals.{numberOf}
 use borrow.Author.Needs.{needs}
-use Rattle.cabi.proofs.put_refusal.Statement.{statement}
-use Rattle.cabi.proofs.put_refusal.Tie as tie
+use Rattle.cabi.proofs.answers.put_refusal.Statement.{statement}
+use Rattle.cabi.proofs.answers.put_refusal.Tie as tie
 
 few : (r : Refusal) → numberOf r ≤ 14
 few EmptyTransfer = omega arith

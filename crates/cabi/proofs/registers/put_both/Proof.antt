@@ -1,24 +1,15 @@
--- `cabi::put_both` meets its contract: the first nine bytes, then the others.
+-- `cabi::registers::put_both` meets its contract: the first nine bytes, then the others.
 -- Assumes nothing.
-use mathlib.Core.Path.{_≡_, ap, ap₂, _∙_}
-use mathlib.Core.List.{List, [], _++_, append-nil}
-use Prim.Native.Nat.{ℕ, _-_}
+use mathlib.Core.Path.{ap, ap₂, _∙_}
+use mathlib.Core.List.{List, _++_}
+use Prim.Native.Nat.{ℕ}
 use native.Mathlib.Omega.{arith}
-use lib.ListN.{length, take, drop, length-take, length-drop, length-append, drop-of-length-le}
-use lib.Seq.{take-at, drop-at}
+use lib.ListN.{length, drop, length-take}
 use denote.Ref.{now}
+use Rattle.cabi.proofs.Parts.{end-replaced}
 use borrow.Author.Needs.{needs}
-use Rattle.cabi.proofs.put_both.Statement.{statement}
-use Rattle.cabi.proofs.put_both.Tie as tie
-
--- the first half replaced and then the second
-halves : (out a b : List ℕ) → length out ≡ 18 → length a ≡ 9
-    → take 9 (a ++ drop 9 out) ++ (b ++ drop (length (a ++ drop 9 out) - 9) (drop 9 (a ++ drop 9 out))) ≡ a ++ b
-halves out a b eo ea =
-    let rest : drop (length (a ++ drop 9 out) - 9) (drop 9 (a ++ drop 9 out)) ≡ [] =
-    ap (λ (l : List ℕ). drop (length (a ++ drop 9 out) - 9) l) (drop-at a (drop 9 out) 9 ea)
-    ∙ drop-of-length-le (drop 9 out) {i = length (a ++ drop 9 out) - 9} (omega (arith, length-append a (drop 9 out), length-drop 9 out)) in
-    ap₂ (λ (x y : List ℕ). x ++ (b ++ y)) (take-at a (drop 9 out) 9 ea) rest ∙ ap (λ (l : List ℕ). a ++ l) (append-nil b)
+use Rattle.cabi.proofs.registers.put_both.Statement.{statement}
+use Rattle.cabi.proofs.registers.put_both.Tie as tie
 
 slice-relend-prefix-put-registers : tie.Need-slice-relend-prefix-put-registers
 slice-relend-prefix-put-registers c = search needs
@@ -47,7 +38,7 @@ same-length c = search needs
 returns : tie.Need-returns
 returns c = let s = c .before .before .before .before .before .before .before .before .before .before .before in
     let a = s .args in
-    halves (now (a .out)) (c .before .before .before .before .before .before .put-registers .last .1 .0) (c .before .before .put-registers2 .last .1 .0) (s .pre) (ap length (c .before .before .before .before .before .before .put-registers .ensures))
+    end-replaced (c .before .before .before .before .before .before .put-registers .last .1 .0) (drop 9 (now (a .out))) (c .before .before .put-registers2 .last .1 .0) 9 (ap length (c .before .before .before .before .before .before .put-registers .ensures))
     ∙ ap₂ (λ (x y : List ℕ). x ++ y) (c .before .before .before .before .before .before .put-registers .ensures) (c .before .before .put-registers2 .ensures)
 
 pub put-both-spec : {M : Type 1} → statement M

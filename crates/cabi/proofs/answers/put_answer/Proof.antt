@@ -1,8 +1,8 @@
--- `cabi::put_answer` meets its contract, taken or refused.
+-- `cabi::answers::put_answer` meets its contract, taken or refused.
 -- Assumes nothing.
 use borrow.Author.Needs.{needs}
-use Rattle.cabi.proofs.put_answer.Statement.{statement}
-use Rattle.cabi.proofs.put_answer.Tie as tie
+use Rattle.cabi.proofs.answers.put_answer.Statement.{statement}
+use Rattle.cabi.proofs.answers.put_answer.Tie as tie
 
 enum-known-answer : tie.Need-enum-known-answer
 enum-known-answer c = search needs

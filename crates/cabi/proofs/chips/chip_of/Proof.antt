@@ -1,0 +1,58 @@
+-- `cabi::chips::chip_of` meets its contract.
+-- Assumes nothing.
+use mathlib.Core.Path.{ap, _∙_}
+use native.Mathlib.Omega.{arith}
+use lib.ListN.{getD, length-take, length-replicate}
+use denote.Ref.{now}
+use Rattle.lemmas.proofs.Lists.{part-rest}
+use Rattle.cabi.specs.Bytes.{registersIn}
+use borrow.Author.Needs.{needs}
+use Rattle.cabi.proofs.chips.chip_of.Statement.{statement}
+use Rattle.cabi.proofs.chips.chip_of.Tie as tie
+
+slice-aggregate-copy : tie.Need-slice-aggregate-copy
+slice-aggregate-copy c = simp length-take (omega (arith, c .before .before .pre))
+
+slice-aggregate-copy-2 : tie.Need-slice-aggregate-copy-2
+slice-aggregate-copy-2 c = search needs
+
+copy-requires : tie.Need-copy-requires
+copy-requires c κs = simp length-take (omega (arith, c .before .before .before .pre))
+
+shared-slice-read-t10 : tie.Need-shared-slice-read-t10
+shared-slice-read-t10 c = search needs
+
+shared-slice-read-t12 : tie.Need-shared-slice-read-t12
+shared-slice-read-t12 c = search needs
+
+sub-registers-of : tie.Need-sub-registers-of
+sub-registers-of c = search needs
+
+part-registers-of-start : tie.Need-part-registers-of-start
+part-registers-of-start c = search needs
+
+part-registers-of-end : tie.Need-part-registers-of-end
+part-registers-of-end c = search needs
+
+registers-of-requires : tie.Need-registers-of-requires
+registers-of-requires c κs = search needs
+
+returns : tie.Need-returns
+returns c = let bytes = now (c .before .before .before .before .before .before .before .before .before .args .bytes) in
+    let registers = c .registers-of .ensures ∙ ap registersIn (part-rest bytes 162) in
+    λ j. record { columns = c .before .before .before .before .before .copy .ensures j; sa0 = getD bytes 160 0; subaddress = getD bytes 161 0; registers = registers j }
+
+pub chip-of-spec : {M : Type 1} → statement M
+chip-of-spec =
+    tie.close
+    (tie.spec
+    slice-aggregate-copy
+    slice-aggregate-copy-2
+    copy-requires
+    shared-slice-read-t10
+    shared-slice-read-t12
+    sub-registers-of
+    part-registers-of-start
+    part-registers-of-end
+    registers-of-requires
+    returns)
