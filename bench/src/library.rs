@@ -1,0 +1,76 @@
+//! (a): the proved library, through the calls of include/humtrellis.h.
+
+use crate::ways::{Numbers, RegisterBytes};
+use humtrellis_tests::model::View;
+
+#[rustfmt::skip]
+extern "C" {
+    fn humtrellis_transfer(
+        chips0: u8, chips1: u8, registers: *mut u8, registers_length: usize,
+        ram: *mut u8, ram_length: usize, bytes: *const u8, bytes_length: usize,
+        answer: *mut usize, answer_length: usize,
+    ) -> u8;
+
+    fn humtrellis_picture(
+        chips0: u8, chips1: u8, registers: *const u8, registers_length: usize,
+        ram: *const u8, ram_length: usize, group: u8, phase: u8,
+        out: *mut u8, out_length: usize, answer: *mut usize, answer_length: usize,
+    ) -> u8;
+
+    #[cfg(feature = "replay")]
+    fn humtrellis_replay(log: *const u8, log_length: usize, out: *mut u8, out_length: usize) -> usize;
+}
+
+pub fn transfer(
+    [chips0, chips1]: [u8; 2],
+    registers: &mut RegisterBytes,
+    ram: &mut [u8],
+    bytes: &[u8],
+) -> Numbers {
+    let mut answer = [0; 5];
+    // Safety: each pointer goes with the length of the buffer that it points to.
+    unsafe {
+        humtrellis_transfer(
+            chips0,
+            chips1,
+            registers.as_mut_ptr(),
+            registers.len(),
+            ram.as_mut_ptr(),
+            ram.len(),
+            bytes.as_ptr(),
+            bytes.len(),
+            answer.as_mut_ptr(),
+            answer.len(),
+        )
+    };
+    answer
+}
+
+pub fn picture(view: View, out: &mut [u8]) -> Numbers {
+    let mut answer = [0; 5];
+    // Safety: each pointer goes with the length of the buffer that it points to.
+    unsafe {
+        humtrellis_picture(
+            view.chips0,
+            view.chips1,
+            view.registers.as_ptr(),
+            view.registers.len(),
+            view.ram.as_ptr(),
+            view.ram.len(),
+            view.group,
+            view.phase,
+            out.as_mut_ptr(),
+            out.len(),
+            answer.as_mut_ptr(),
+            answer.len(),
+        )
+    };
+    answer
+}
+
+/// Writes the text of a log and gives its length.
+#[cfg(feature = "replay")]
+pub fn replay(log: &[u8], out: &mut [u8]) -> usize {
+    // Safety: each pointer goes with the length of the buffer that it points to.
+    unsafe { humtrellis_replay(log.as_ptr(), log.len(), out.as_mut_ptr(), out.len()) }
+}

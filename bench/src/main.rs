@@ -1,0 +1,38 @@
+//! Times the proved library, the independent model and a table loop side by side; docs/SPEED.md says what is printed.
+
+mod agree;
+mod library;
+mod measure;
+#[cfg(feature = "replay")]
+mod replay;
+mod report;
+mod samples;
+mod table_loop;
+mod timing;
+mod ways;
+
+use samples::MODES;
+use std::process::ExitCode;
+
+fn run() -> Result<(), String> {
+    agree::check()?;
+    let transfers = MODES.map(measure::transfers);
+    report::transfers(&transfers);
+    let pictures = MODES.map(measure::pictures);
+    report::pictures(&pictures);
+    #[cfg(feature = "replay")]
+    replay::run()?;
+    report::targets(&transfers, &pictures);
+    Ok(())
+}
+
+/// A missed target is a measurement, not a failure; different answers are one.
+fn main() -> ExitCode {
+    match run() {
+        Ok(()) => ExitCode::SUCCESS,
+        Err(message) => {
+            eprintln!("{message}; nothing that differs is timed");
+            ExitCode::FAILURE
+        }
+    }
+}

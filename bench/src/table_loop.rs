@@ -1,0 +1,46 @@
+//! (c): what a careful programmer writes by hand, in plain Rust without `unsafe`.
+//! It trusts its caller as little as the library does: every check of paper 01 in its order, with the same refusals.
+//! A run then goes a byte at a time over a table of 256 entries a mode: bytes whose columns are all there without a test
+//! for the end, the one cut byte apart, the counts in closed form.
+
+mod checks;
+mod commands;
+mod picture;
+mod run;
+mod tables;
+mod transfer;
+
+pub use picture::picture;
+pub use transfer::transfer;
+
+/// Columns of one chip.
+const COLUMNS: usize = 160;
+/// Bytes of one register set.
+const SET: usize = 9;
+
+/// Places of the registers in a set, in the order of the C interface.
+const E: usize = 0;
+const B: usize = 1;
+const M: usize = 2;
+const P: usize = 3;
+const A: usize = 4;
+const I: usize = 5;
+const O: usize = 6;
+const AB: usize = 7;
+const BF: usize = 8;
+
+/// A refusal's number and place.
+type Refusal = (usize, usize);
+
+fn refused((number, place): Refusal) -> [usize; 5] {
+    [number, place, 0, 0, 0]
+}
+
+/// Where the columns of a group begin and end in the long RAM.
+fn group_range(chips: [u8; 2], group: usize) -> std::ops::Range<usize> {
+    let middle = COLUMNS * chips[0] as usize;
+    match group {
+        0 => 0..middle,
+        _ => middle..middle + COLUMNS * chips[1] as usize,
+    }
+}

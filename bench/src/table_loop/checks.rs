@@ -1,0 +1,32 @@
+//! The checks that transfer and picture share, in the order 3, 6, 4, 5.
+
+use super::{Refusal, COLUMNS, SET};
+
+/// The highest value of each register, for both groups.
+const LIMITS: [u8; 2 * SET] = [1, 1, 3, 159, 4, 1, 1, 1, 3, 1, 1, 3, 159, 4, 1, 1, 1, 3];
+
+pub fn check_state(chips: [u8; 2], registers: &[u8; 2 * SET], ram: &[u8]) -> Result<(), Refusal> {
+    if chips[0] > 4 || chips[1] > 4 {
+        return Err((3, 0));
+    }
+    // No branch leaves the walk, so that all registers are compared at once.
+    let pairs = registers.iter().zip(&LIMITS);
+    if pairs.fold(false, |outside, (x, limit)| outside | (x > limit)) {
+        return Err((6, 0));
+    }
+    if ram.len() != COLUMNS * (chips[0] as usize + chips[1] as usize) {
+        return Err((4, 0));
+    }
+    check_columns(ram)
+}
+
+fn check_columns(ram: &[u8]) -> Result<(), Refusal> {
+    // A high bit in the union of all columns is in one of them; the union is taken many columns at once.
+    if ram.iter().fold(0, |union, column| union | column) <= 15 {
+        return Ok(());
+    }
+    match ram.iter().position(|column| *column > 15) {
+        Some(place) => Err((5, place)),
+        None => Ok(()),
+    }
+}

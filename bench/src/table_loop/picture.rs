@@ -1,0 +1,61 @@
+//! The picture of a group, eight columns as one word.
+
+use super::{checks, group_range, refused, Refusal, AB, BF, COLUMNS, E, M, O, SET};
+use humtrellis_tests::model::View;
+
+/// The rows that each mode shows, for eight columns at once.
+const ROWS: [u64; 4] = [
+    0x0F0F_0F0F_0F0F_0F0F,
+    0x0101_0101_0101_0101,
+    0x0303_0303_0303_0303,
+    0x0707_0707_0707_0707,
+];
+
+#[inline(never)]
+pub fn picture(view: View, out: &mut [u8]) -> [usize; 5] {
+    if let Err(refusal) = check(view, out.len()) {
+        return refused(refusal);
+    }
+    let group = view.group as usize;
+    let columns = &view.ram[group_range([view.chips0, view.chips1], group)];
+    let set = &view.registers.as_chunks::<SET>().0[group];
+    let (shift, rows) = shown(set, view.phase);
+    [0, 0, show(columns, shift, rows, out), 0, 0]
+}
+
+fn check(view: View, length: usize) -> Result<(), Refusal> {
+    let chips = [view.chips0, view.chips1];
+    checks::check_state(chips, view.registers, view.ram)?;
+    if view.group > 1 || view.phase > 1 {
+        return Err((8, 0));
+    }
+    if length != COLUMNS * chips[view.group as usize] as usize {
+        return Err((9, 0));
+    }
+    Ok(())
+}
+
+/// The first row shown, and which rows from there on; dark is no row.
+fn shown(set: &[u8; SET], phase: u8) -> (u8, u64) {
+    let blinks = set[BF] != 0 && phase == 1;
+    let banks = set[M] == 1 || set[M] == 2;
+    if set[E] == 0 || blinks && set[AB] == 0 {
+        (0, 0)
+    } else if banks {
+        (2 * (set[O] ^ blinks as u8), ROWS[set[M] as usize])
+    } else {
+        (0, ROWS[set[M] as usize & 3])
+    }
+}
+
+/// Writes the picture and counts the lit elements; 160 columns a chip are whole words.
+fn show(columns: &[u8], shift: u8, rows: u64, out: &mut [u8]) -> usize {
+    let mut lit = 0;
+    let words = columns.as_chunks::<8>().0;
+    for (shown, word) in out.as_chunks_mut::<8>().0.iter_mut().zip(words) {
+        let value = u64::from_ne_bytes(*word) >> shift & rows;
+        *shown = value.to_ne_bytes();
+        lit += value.count_ones() as usize;
+    }
+    lit
+}

@@ -1,0 +1,68 @@
+//! A transfer: the checks, then its parts.
+
+use super::{checks, commands, group_range, refused, run, Refusal, SET};
+
+#[inline(never)]
+pub fn transfer(
+    chips: [u8; 2],
+    registers: &mut [u8; 2 * SET],
+    ram: &mut [u8],
+    bytes: &[u8],
+) -> [usize; 5] {
+    let group = match hearing_group(chips, registers, ram, bytes) {
+        Err(refusal) => return refused(refusal),
+        Ok(None) => return [0; 5],
+        Ok(Some(group)) => group,
+    };
+    let columns = &mut ram[group_range(chips, group)];
+    let set = &mut registers.as_chunks_mut::<SET>().0[group];
+    let [acknowledged, stored, discarded] = carry_out(set, columns, bytes);
+    [0, 0, acknowledged, stored, discarded]
+}
+
+/// The group that hears a transfer, if one does, after all checks.
+fn hearing_group(
+    chips: [u8; 2],
+    registers: &[u8; 2 * SET],
+    ram: &[u8],
+    bytes: &[u8],
+) -> Result<Option<usize>, Refusal> {
+    checks::check_state(chips, registers, ram)?;
+    let Some(address) = bytes.first() else {
+        return Err((1, 0));
+    };
+    if bytes.len() > 4096 {
+        return Err((2, 0));
+    }
+    let group = match address {
+        112 if chips[0] > 0 => 0,
+        114 if chips[1] > 0 => 1,
+        _ => return Ok(None),
+    };
+    match commands::first_undefined(bytes) {
+        Some(place) => Err((7, place)),
+        None => Ok(Some(group)),
+    }
+}
+
+/// Goes from control byte to control byte; every part but data bytes is acknowledged.
+fn carry_out(set: &mut [u8; SET], columns: &mut [u8], bytes: &[u8]) -> [usize; 3] {
+    let mut counts = [1, 0, 0];
+    let mut rest = &bytes[1..];
+    while let Some((control, after)) = rest.split_first() {
+        counts[0] += 1;
+        let length = match control & 0x80 {
+            0 => after.len(),
+            _ => after.len().min(1),
+        };
+        let (part, next) = after.split_at(length);
+        if control & 0x40 == 0 {
+            counts[0] += length;
+            part.iter().for_each(|byte| commands::obey(set, *byte));
+        } else {
+            run::store(set, columns, part, &mut counts);
+        }
+        rest = next;
+    }
+    counts
+}
