@@ -1,15 +1,14 @@
 -- From what the two functions ensure and demand 3: alike before, alike after, and the same answer.
 -- Assumes nothing.
-use mathlib.Core.Path.{_≡_, refl, sym, ap, ap₂, _∙_}
+use mathlib.Core.Path.{_≡_, sym, ap, _∙_}
 use mathlib.Core.Logic.{⊎-elim}
 use mathlib.Core.List.{List, _++_, append-nil}
-use Prim.Native.Nat.{ℕ, zero, suc, _+_, _*_, _≤_, _<_}
+use Prim.Native.Nat.{ℕ, _≤_, _<_}
 use native.Mathlib.Omega.{arith}
-use lib.ListN.{length, take, drop, length-append, drop-of-length-le}
+use lib.ListN.{length, take, drop, drop-of-length-le}
 use lib.Seq.{take-at, take-all, length-take-le}
 use borrow.Author.Tests.{le-leb}
 use Rattle.lemmas.proofs.Order.{lt-or-le}
-use Rattle.sheet.specs.declared.Registers.{Registers}
 use Rattle.sheet.specs.declared.Both.{Both}
 use Rattle.sheet.specs.declared.Chip.{Chip}
 use Rattle.sheet.specs.declared.Chips.{Chips}
@@ -17,23 +16,13 @@ use Rattle.sheet.specs.declared.Transferred.{Transferred}
 use Rattle.sheet.specs.declared.PlainAnswer.{PlainAnswer}
 use Rattle.sheet.specs.Long.{State, transferCall, stateAfter}
 use Rattle.sheet.specs.Plain.{plainCall}
-use Rattle.sheet.specs.Agree.{groupChips, chipsOf, Valid, plainly}
+use Rattle.sheet.specs.Agree.{chipsOf, Valid, plainly}
+use Rattle.agreement.proofs.Checks.{length-chips}
 use Rattle.agreement.proofs.Demand.{pcf8532}
 use Rattle.plain.specs.declared.Bench.{Bench}
 use Rattle.plain.specs.declared.BenchTransferred.{BenchTransferred}
 use Rattle.plain.specs.Benches.{benchTransferred}
 use Rattle.accounts.specs.Alike.{Alike, Agreed}
-
--- as many chips as the counts say
-length-group : (C n g i : ℕ) (r : Registers) (columns : List ℕ) → length (groupChips C n g i r columns) ≡ n
-unfolding groupChips
-length-group C zero g i r columns = refl
-length-group C (suc n) g i r columns = ap suc (length-group C n g (suc i) r (drop C columns))
-
-length-chips : (C : ℕ) (n : Chips) (s : State) → length (chipsOf C n s) ≡ n .zero + n .one
-length-chips C n s =
-    length-append (groupChips C (n .zero) 0 0 (s .registers .zero) (s .ram)) _
-    ∙ ap₂ (λ (x y : ℕ). x + y) (length-group C (n .zero) 0 0 (s .registers .zero) (s .ram)) (length-group C (n .one) 1 0 (s .registers .one) (drop (C * n .zero) (s .ram)))
 
 -- the first k of a list, replaced by as many
 first-of : (k : ℕ) (a l : List Chip) → length a ≡ length (take k l) → take k (a ++ drop k l) ≡ a

@@ -4,6 +4,9 @@ use plain::BenchTransferred;
 use sheet::Both;
 use sheet::Chips;
 use sheet::Transferred;
+ghost use mathlib.Core.Path.{_≡_};
+ghost use Rattle.sheet.specs.Long.{transferCall};
+ghost use Rattle.plain.specs.Benches.{benchTransferred};
 ghost use Rattle.accounts.specs.Alike.{Alike, Agreed};
 
 pub struct Sides {
@@ -20,6 +23,9 @@ pub fn side_by_side(
     bytes: &[u8],
 ) -> Sides
     requires { ⌜ Alike chips registers (now ram) bench ⌝ }
+    ensures { λ r. ⌜ r .long ≡ transferCall 160 4 chips registers (now (ram .entry)) (now (bytes .entry)) .result ⌝ }
+    ensures { λ _. ⌜ now (ram .exit) ≡ transferCall 160 4 chips registers (now (ram .entry)) (now (bytes .entry)) .ram ⌝ }
+    ensures { λ r. ⌜ r .plain ≡ benchTransferred bench (now (bytes .entry)) ⌝ }
     ensures { λ r. ⌜ Agreed chips (now (ram .exit)) r ⌝ }
 {
     let plain = plain::transfer_bench(bench, bytes);

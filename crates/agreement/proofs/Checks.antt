@@ -22,7 +22,7 @@ use Rattle.sheet.specs.Protocol.{addressOf, heardBy, undefinedIn}
 use Rattle.sheet.specs.Checks.{orElse, checkLength, checkCommands, checkTransfer}
 use Rattle.sheet.specs.Plain.{any, hears, chipFits, misfitIn, checkPlain}
 use Rattle.sheet.specs.Long.{State}
-use Rattle.sheet.specs.Agree.{groupChips, chipsOf, Valid}
+use Rattle.sheet.specs.Agree.{groupChips, groupOf, chipsOf, Valid}
 use Rattle.laws.proofs.Ranges.{InRange, in-range}
 use Rattle.laws.proofs.Nibbles.{Nibbles, check-nibbles, take-nibbles, drop-nibbles}
 use Rattle.laws.proofs.Fits.{Fits, fits-of}
@@ -41,10 +41,16 @@ module _ (C L g : ℕ) (r : Registers) (pg : g < 2) (h : InRange C L r) where
       rw (lt-ltb g 2 pg, lt-ltb i L (omega arith), in-range C L r h, check-nibbles 0 (take C ram) (take-nibbles C ram w))
       (all-fit (suc k) n (suc i) (drop C ram) rest (omega arith) (drop-nibbles C ram w) ∙ ap (λ (j : ℕ). misfitIn C L j rest) (omega arith))
 
-pub length-chips : (C n g i : ℕ) (r : Registers) (ram : List ℕ) → length (groupChips C n g i r ram) ≡ n
+-- as many chips as the counts say
+length-group : (C n g i : ℕ) (r : Registers) (ram : List ℕ) → length (groupChips C n g i r ram) ≡ n
 unfolding groupChips
-length-chips C zero g i r ram = refl
-length-chips C (suc n) g i r ram = ap suc (length-chips C n g (suc i) r (drop C ram))
+length-group C zero g i r ram = refl
+length-group C (suc n) g i r ram = ap suc (length-group C n g (suc i) r (drop C ram))
+
+pub length-chips : (C : ℕ) (n : Chips) (s : State) → length (chipsOf C n s) ≡ n .zero + n .one
+length-chips C n s =
+    length-append (groupOf C 0 n s) (groupOf C 1 n s)
+    ∙ ap₂ (λ (x y : ℕ). x + y) (length-group C (n .zero) 0 0 (s .registers .zero) (s .ram)) (length-group C (n .one) 1 0 (s .registers .one) (drop (C * n .zero) (s .ram)))
 
 module _ (C L : ℕ) (n : Chips) (s : State) (f : Fits C L n (s .registers) (s .ram)) where
   none-misfits : misfitIn C L 0 (chipsOf C n s) ≡ Passed
@@ -56,9 +62,7 @@ module _ (C L : ℕ) (n : Chips) (s : State) (f : Fits C L n (s .registers) (s .
       ∙ all-fit C L 1 (s .registers .one) (omega arith) (f .one-in) (0 + n .zero) (n .one) 0 rest [] (omega (arith, f .one-few)) (drop-nibbles (C * n .zero) (s .ram) (f .nibbles))
 
   not-many : length (chipsOf C n s) ≤ 2 * L
-  not-many =
-      rw (length-append (groupChips C (n .zero) 0 0 (s .registers .zero) (s .ram)) (groupChips C (n .one) 1 0 (s .registers .one) (drop (C * n .zero) (s .ram))), length-chips C (n .zero) 0 0 (s .registers .zero) (s .ram), length-chips C (n .one) 1 0 (s .registers .one) (drop (C * n .zero) (s .ram)))
-      (omega (arith, f .zero-few, f .one-few))
+  not-many = rw (length-chips C n s) (omega (arith, f .zero-few, f .one-few))
 
 -- ---- who hears
 

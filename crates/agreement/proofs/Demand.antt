@@ -8,17 +8,19 @@ use Rattle.laws.proofs.Kept.{pcf8532-keeps}
 use Rattle.laws.proofs.Fits.{powered-passes}
 use Rattle.agreement.proofs.Transfer as transfers
 use Rattle.agreement.proofs.Sequence as sequences
+use Rattle.agreement.proofs.Power as powers
 use Rattle.agreement.proofs.Show as pictures
 
 pub demand3 : Claim
 unfolding powerOnCall
-demand3 C L pc pl keeps = record {
+demand3 C L pc keeps = record {
   transfer = λ n s bytes v. transfers.transfer C L keeps n s bytes v;
   sequence = λ n s ts v. sequences.sequence C L keeps n s ts v;
+  power-on = λ n r ram. powers.power-on C L n r ram;
   powered-on = λ n ram ts e. sequences.sequence C L keeps n (record { registers = record { zero = powerOn; one = powerOn }; ram = ram }) ts (powered-passes C L n ram pc e);
-  show = λ n g r phase columns e. pictures.show C g r phase n columns e;
+  show = λ n s g phase out v pg pp e. pictures.show C L n s g phase out v pg pp e;
 }
 
 -- the commands of the PCF8532 keep P below 160 and A at most 4
 pub pcf8532 : Demand3 160 4
-pcf8532 = demand3 160 4 (omega arith) (omega arith) pcf8532-keeps
+pcf8532 = demand3 160 4 (omega arith) pcf8532-keeps

@@ -11,3 +11,4 @@ pub mod Transfer
 pub mod Sequence
 pub mod Show
 pub mod Demand
+pub mod Power

@@ -1,40 +1,96 @@
 -- The chips' pictures one after the other are the long picture, and their lit elements add up.
 -- Assumes nothing.
-use mathlib.Core.Path.{_≡_, refl, sym, ap, _∙_}
+use mathlib.Core.Path.{_≡_, refl, sym, ap, ap₂, _∙_}
 use mathlib.Core.List.{List, [], _∷_, _++_, map-append}
-use Prim.Native.Nat.{ℕ, zero, suc, _+_, _*_}
+use Prim.Native.Nat.{ℕ, zero, suc, _+_, _*_, _≤_, _<_}
 use native.Mathlib.Nat.{add-assoc, zero-add, mul-zero, suc-ne-zero}
 use native.Mathlib.Omega.{arith}
 use lib.Count.{ones}
-use lib.ListN.{length, take, drop, length-drop, take-append-drop}
+use lib.ListN.{length, take, drop, replicate, length-drop, length-replicate, take-append-drop}
+use lib.Seq.{length-take-le}
+use borrow.Author.Tests.{lt-ltb, eq-eqb}
 use Rattle.sheet.specs.declared.Registers.{Registers}
+use Rattle.sheet.specs.declared.Chip.{Chip}
+use Rattle.sheet.specs.declared.Chips.{Chips}
+use Rattle.sheet.specs.declared.Pictured.{Pictured}
+use Rattle.sheet.specs.Checks.{chipsIn, checkPicture}
 use Rattle.sheet.specs.Pictures.{pictureOf, litIn}
-use Rattle.sheet.specs.Agree.{groupChips, Shows}
+use Rattle.sheet.specs.Long.{State, Seen, registersOf, startOf, partOf, pictureCall}
+use Rattle.sheet.specs.Plain.{chipFits, checkChipPicture, chipPictureCall}
+use Rattle.sheet.specs.Agree.{groupChips, groupOf, Valid, chipSeen, litOf, chipPictures, chipsLit, Shows}
+use Rattle.laws.proofs.Ranges.{InRange, in-range}
+use Rattle.laws.proofs.Nibbles.{Nibbles, check-nibbles, take-nibbles, drop-nibbles}
+use Rattle.laws.proofs.Fits.{Fits, fits-of}
+use Rattle.agreement.proofs.Chips.{chipAt, own-columns}
 
 lit-join : (a b : List ℕ) → litIn (a ++ b) ≡ litIn a + litIn b
 unfolding litIn
 lit-join [] b = sym (zero-add (litIn b))
 lit-join (q ∷ qs) b = rw (lit-join qs b) (sym (add-assoc (ones q) (litIn qs) (litIn b)))
 
-module _ (C g : ℕ) (r : Registers) (phase : ℕ) where
+-- what is seen of columns that are shown
+abbrev seenOf : Registers → ℕ → List ℕ → Seen
+seenOf r phase columns = record { result = Pictured.Lit (litIn (pictureOf r phase columns)); out = pictureOf r phase columns }
+
+-- the chips' pictures and lit elements are those of columns that are shown
+record Same (C L phase : ℕ) (chips : List Chip) (r : Registers) (columns : List ℕ) : Type 0 where
+  picture : chipPictures C L phase chips ≡ pictureOf r phase columns
+  lit : chipsLit C L phase chips ≡ litIn (pictureOf r phase columns)
+
+module _ (C L g : ℕ) (r : Registers) (phase : ℕ) (pg : g < 2) (pp : phase < 2) (h : InRange C L r) where
   -- the first C columns and the rest
   apart : (columns : List ℕ) → pictureOf r phase (take C columns) ++ pictureOf r phase (drop C columns) ≡ pictureOf r phase columns
   unfolding pictureOf
   apart columns = sym (map-append _ (take C columns) (drop C columns)) ∙ ap (λ (c : List ℕ). pictureOf r phase c) (take-append-drop C columns)
 
-  shows-from : (n i : ℕ) (columns : List ℕ) → length columns ≡ C * n → Shows phase (groupChips C n g i r columns) r columns
+  -- no chip of the group is refused
+  seen-alone : (i : ℕ) (columns : List ℕ) → i < L → Nibbles columns → chipSeen C L phase (chipAt g i r columns) ≡ seenOf r phase columns
+  unfolding chipPictureCall checkChipPicture chipFits
+  seen-alone i columns l w =
+      rw (lt-ltb g 2 pg, lt-ltb i L l, in-range C L r h, check-nibbles 0 columns w, lt-ltb phase 2 pp, eq-eqb (length {A = ℕ} (replicate C 0)) C (length-replicate C 0)) refl
+
+  same-from : (n i : ℕ) (columns : List ℕ) → i + n ≤ L → Nibbles columns → length columns ≡ C * n → Same C L phase (groupChips C n g i r columns) r columns
   unfolding groupChips pictureOf litIn
-  shows-from zero i [] e = record { picture = refl; lit = refl }
-  shows-from zero i (q ∷ qs) e = absurd (suc-ne-zero (length qs) (e ∙ mul-zero C))
-  shows-from (suc n) i columns e =
-      let rest = shows-from n (suc i) (drop C columns) (length-drop C columns ∙ omega (arith, e)) in
+  same-from zero i [] l w e = record { picture = refl; lit = refl }
+  same-from zero i (q ∷ qs) l w e = absurd (suc-ne-zero (length qs) (e ∙ mul-zero C))
+  same-from (suc n) i columns l w e =
+      let rest = same-from n (suc i) (drop C columns) (omega arith) (drop-nibbles C columns w) (length-drop C columns ∙ omega (arith, e)) in
+      let first = seen-alone i (take C columns) (omega arith) (take-nibbles C columns w) in
       record {
-        picture = ap (λ (l : List ℕ). pictureOf r phase (take C columns) ++ l) (rest .picture) ∙ apart columns;
+        picture = ap₂ (λ (k : Seen) (l : List ℕ). k .out ++ l) first (rest .picture) ∙ apart columns;
         lit =
-            ap (λ (k : ℕ). litIn (pictureOf r phase (take C columns)) + k) (rest .lit)
+            ap₂ (λ (k : Seen) (m : ℕ). litOf (k .result) + m) first (rest .lit)
             ∙ sym (lit-join (pictureOf r phase (take C columns)) (pictureOf r phase (drop C columns)))
             ∙ ap litIn (apart columns);
       }
 
-  pub show : (n : ℕ) (columns : List ℕ) → length columns ≡ C * n → Shows phase (groupChips C n g 0 r columns) r columns
-  show n columns e = shows-from n 0 columns e
+  -- columns after the group's do not matter
+  same-part : (n : ℕ) (columns : List ℕ) → n ≤ L → Nibbles columns → C * n ≤ length columns → Same C L phase (groupChips C n g 0 r columns) r (take (C * n) columns)
+  same-part n columns l w e =
+      let size = length-take-le (C * n) columns e in
+      let own : groupChips C n g 0 r columns ≡ groupChips C n g 0 r (take (C * n) columns) =
+      ap (groupChips C n g 0 r) (sym (take-append-drop (C * n) columns)) ∙ own-columns C n g 0 r (take (C * n) columns) (drop (C * n) columns) size in
+      rw own (same-from n 0 (take (C * n) columns) (omega arith) (take-nibbles (C * n) columns w) size)
+
+-- no picture of a valid state is refused
+seen-group : (C L : ℕ) (n : Chips) (s : State) (g phase : ℕ) (out : List ℕ) → Valid C L n s → g < 2 → phase < 2 → length out ≡ C * chipsIn g n
+    → pictureCall C L n (s .registers) (s .ram) g phase out ≡ seenOf (registersOf g (s .registers)) phase (partOf C n g (s .ram))
+unfolding pictureCall checkPicture
+seen-group C L n s g phase out v pg pp e = rw (v, lt-ltb g 2 pg, lt-ltb phase 2 pp, eq-eqb (length out) (C * chipsIn g n) e) refl
+
+shows : (C L : ℕ) (n : Chips) (s : State) (g phase : ℕ) (out : List ℕ) → Valid C L n s → g < 2 → phase < 2 → length out ≡ C * chipsIn g n
+    → Same C L phase (groupOf C g n s) (registersOf g (s .registers)) (partOf C n g (s .ram)) → Shows C L n s g phase out
+shows C L n s g phase out v pg pp e same =
+    let seen = seen-group C L n s g phase out v pg pp e in
+    record { picture = ap (λ (k : Seen). k .out) seen ∙ sym (same .picture); lit = ap (λ (k : Seen). k .result) seen ∙ ap Pictured.Lit (sym (same .lit)) }
+
+pub show : (C L : ℕ) (n : Chips) (s : State) (g phase : ℕ) (out : List ℕ) → Valid C L n s → g < 2 → phase < 2 → length out ≡ C * chipsIn g n → Shows C L n s g phase out
+show C L n s zero phase out v pg pp e =
+    let f = fits-of C L n (s .registers) (s .ram) v in
+    shows C L n s zero phase out v pg pp e (same-part C L 0 (s .registers .zero) phase pg pp (f .zero-in) (n .zero) (s .ram) (f .zero-few) (f .nibbles) (omega (arith, f .columns)))
+show C L n s (suc zero) phase out v pg pp e =
+    let f = fits-of C L n (s .registers) (s .ram) v in
+    let rest = drop (C * n .zero) (s .ram) in
+    shows C L n s 1 phase out v pg pp e
+    (same-part C L 1 (s .registers .one) phase pg pp (f .one-in) (n .one) rest (f .one-few) (drop-nibbles (C * n .zero) (s .ram) (f .nibbles)) (omega (arith, length-drop (C * n .zero) (s .ram), f .columns)))
+show C L n s (suc (suc g)) phase out v pg pp e = absurd (omega arith)

@@ -1,10 +1,10 @@
 -- Demand 3, stated: "Chips 0 upwards of one slave address, powered on together, followed one by one, hold, acknowledge and show after any
--- sequence of accepted transfers what one long RAM does." For any column count C and subaddress limit L from 1 up. Proved in `agreement`.
+-- sequence of accepted transfers what one long RAM does." For any column count C from 1 up and any subaddress limit L. Proved in `agreement`.
 use Prim.Native.Nat.{ℕ, zero, suc, _+_, _*_, _<_}
 use mathlib.Core.Path.{_≡_}
 use mathlib.Core.Bool.{true}
-use mathlib.Core.List.{List, [], _∷_, _++_}
-use lib.ListN.{length, take, drop}
+use mathlib.Core.List.{List, [], _∷_, _++_, map}
+use lib.ListN.{length, take, drop, replicate}
 use Rattle.sheet.specs.declared.Registers.{Registers}
 use Rattle.sheet.specs.declared.Both.{Both}
 use Rattle.sheet.specs.declared.Chips.{Chips}
@@ -12,11 +12,11 @@ use Rattle.sheet.specs.declared.Chip.{Chip}
 use Rattle.sheet.specs.declared.Check.the-variants.{Passed}
 use Rattle.sheet.specs.declared.Answer.{Answer}
 use Rattle.sheet.specs.declared.PlainAnswer.{PlainAnswer}
+use Rattle.sheet.specs.declared.Pictured.{Pictured}
 use Rattle.sheet.specs.Commands.{commandOf, obeyed, inRange}
-use Rattle.sheet.specs.Checks.{checkState}
-use Rattle.sheet.specs.Long.{State, powerOnCall, transferCall, stateAfter, stateAfterAll}
-use Rattle.sheet.specs.Pictures.{pictureOf, litIn}
-use Rattle.sheet.specs.Plain.{plainCall}
+use Rattle.sheet.specs.Checks.{chipsIn, checkState}
+use Rattle.sheet.specs.Long.{State, Seen, registersOf, startOf, powerOnCall, transferCall, pictureCall, stateAfter, stateAfterAll}
+use Rattle.sheet.specs.Plain.{chipPowerOn, chipPictureCall, plainCall}
 
 -- ---- the chips of a long state
 
@@ -26,10 +26,13 @@ groupChips C zero g i r columns = []
 groupChips C (suc n) g i r columns =
     record { columns = take C columns; sa0 = g; subaddress = i; registers = r } ∷ groupChips C n g (suc i) r (drop C columns)
 
+-- the chips of group g
+abbrev pub groupOf : ℕ → ℕ → Chips → State → List Chip
+groupOf C g n s = groupChips C (chipsIn g n) g 0 (registersOf g (s .registers)) (drop (startOf C n g) (s .ram))
+
 -- both groups' chips in order
 abbrev pub chipsOf : ℕ → Chips → State → List Chip
-chipsOf C n s =
-    groupChips C (n .zero) 0 0 (s .registers .zero) (s .ram) ++ groupChips C (n .one) 1 0 (s .registers .one) (drop (C * n .zero) (s .ram))
+chipsOf C n s = groupOf C 0 n s ++ groupOf C 1 n s
 
 -- ---- what the two accounts make of one transfer
 
@@ -77,30 +80,38 @@ pub record AgreesAll (C L : ℕ) (n : Chips) (s : State) (ts : List (List ℕ)) 
   pub acknowledge : plainAnswers C L (chipsOf C n s) ts ≡ longAnswers C L n s ts
   pub valid : Valid C L n (stateAfterAll C L n s ts)
 
--- show: the chips' pictures, each by its own registers and columns, are the long picture one after the other, and their lit elements add up
-abbrev pub chipPicture : ℕ → Chip → List ℕ
-chipPicture phase c = pictureOf (c .registers) phase (c .columns)
+-- show: each chip alone, into a buffer of C bytes
+abbrev pub chipSeen : ℕ → ℕ → ℕ → Chip → Seen
+chipSeen C L phase c = chipPictureCall C L c phase (replicate C 0)
 
-abbrev pub chipPictures : ℕ → List Chip → List ℕ
-chipPictures phase [] = []
-chipPictures phase (c ∷ cs) = chipPicture phase c ++ chipPictures phase cs
+abbrev pub chipPictures : ℕ → ℕ → ℕ → List Chip → List ℕ
+chipPictures C L phase [] = []
+chipPictures C L phase (c ∷ cs) = chipSeen C L phase c .out ++ chipPictures C L phase cs
 
-abbrev pub chipsLit : ℕ → List Chip → ℕ
-chipsLit phase [] = 0
-chipsLit phase (c ∷ cs) = litIn (chipPicture phase c) + chipsLit phase cs
+-- a picture that is refused has no lit elements
+abbrev pub litOf : Pictured → ℕ
+litOf (Pictured.Lit k) = k
+litOf (Pictured.Refused r) = 0
 
-pub record Shows (phase : ℕ) (chips : List Chip) (r : Registers) (columns : List ℕ) : Type 0 where
-  pub picture : chipPictures phase chips ≡ pictureOf r phase columns
-  pub lit : chipsLit phase chips ≡ litIn (pictureOf r phase columns)
+abbrev pub chipsLit : ℕ → ℕ → ℕ → List Chip → ℕ
+chipsLit C L phase [] = 0
+chipsLit C L phase (c ∷ cs) = litOf (chipSeen C L phase c .result) + chipsLit C L phase cs
+
+-- the group's picture is its chips' one after the other, and their lit elements add up
+pub record Shows (C L : ℕ) (n : Chips) (s : State) (g phase : ℕ) (out : List ℕ) : Type 0 where
+  pub picture : pictureCall C L n (s .registers) (s .ram) g phase out .out ≡ chipPictures C L phase (groupOf C g n s)
+  pub lit : pictureCall C L n (s .registers) (s .ram) g phase out .result ≡ Pictured.Lit (chipsLit C L phase (groupOf C g n s))
 
 -- the demand
 pub record Demand3 (C L : ℕ) : Type 1 where
   pub transfer : (n : Chips) (s : State) (bytes : List ℕ) → Valid C L n s → Agrees C L n s bytes
   pub sequence : (n : Chips) (s : State) (ts : List (List ℕ)) → Valid C L n s → AgreesAll C L n s ts
+  pub power-on : (n : Chips) (r : Both) (ram : List ℕ) → map (λ c. chipPowerOn C L c .chip) (chipsOf C n (record { registers = r; ram = ram }))
+      ≡ chipsOf C n (record { registers = powerOnCall C L n ram .registers; ram = ram })
   pub powered-on : (n : Chips) (ram : List ℕ) (ts : List (List ℕ)) → powerOnCall C L n ram .check ≡ Passed
       → AgreesAll C L n (record { registers = powerOnCall C L n ram .registers; ram = ram }) ts
-  pub show : (n g : ℕ) (r : Registers) (phase : ℕ) (columns : List ℕ) → length columns ≡ C * n → Shows phase (groupChips C n g 0 r columns) r columns
+  pub show : (n : Chips) (s : State) (g phase : ℕ) (out : List ℕ) → Valid C L n s → g < 2 → phase < 2 → length out ≡ C * chipsIn g n → Shows C L n s g phase out
 
 -- for any part whose commands keep the ranges
 abbrev pub Claim : Type 1
-Claim = (C L : ℕ) → 0 < C → 0 < L → Keeps C L → Demand3 C L
+Claim = (C L : ℕ) → 0 < C → Keeps C L → Demand3 C L

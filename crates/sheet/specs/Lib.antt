@@ -11,4 +11,3 @@ pub mod Plain
 pub mod Agree
 pub mod Starred
 pub mod Worked
-pub mod Incident

@@ -80,6 +80,9 @@ table =
     ∷ record { chips = 2; fill = 0; bytes = 0x70 ∷ 0x80 ∷ 0xC3 ∷ 0x80 ∷ 0x09 ∷ 0x80 ∷ 0x4F ∷ 0x40 ∷ 0xFF ∷ []; answer = 0 ∷ 0 ∷ 9 ∷ 8 ∷ 0 ∷ []; a = 1; p = 2; columns = col 158 0 ∷ col 159 7 ∷ col 160 7 ∷ col 161 3 ∷ col 162 0 ∷ []; phase = 0; picture = [] }
     -- 1:3, the same with 00 over RAM of 15: 8, 8, 12
     ∷ record { chips = 2; fill = 15; bytes = 0x70 ∷ 0x80 ∷ 0xC3 ∷ 0x80 ∷ 0x09 ∷ 0x80 ∷ 0x4F ∷ 0x40 ∷ 0x00 ∷ []; answer = 0 ∷ 0 ∷ 9 ∷ 8 ∷ 0 ∷ []; a = 1; p = 2; columns = col 158 15 ∷ col 159 8 ∷ col 160 8 ∷ col 161 12 ∷ col 162 15 ∷ []; phase = 0; picture = [] }
+    -- the incident: -4 in 1:3 over the chip edge, two bytes in one run; the minus bar is row 2 of column 160, and dark where the firmware sends a zero for it
+    ∷ record { chips = 2; fill = 0; bytes = 0x70 ∷ 0x80 ∷ 0xCB ∷ 0x80 ∷ 0xE0 ∷ 0x80 ∷ 0x09 ∷ 0x80 ∷ 0x4F ∷ 0x40 ∷ 0x04 ∷ 0xA6 ∷ []; answer = 0 ∷ 0 ∷ 12 ∷ 16 ∷ 0 ∷ []; a = 1; p = 5; columns = col 159 0 ∷ col 160 4 ∷ col 161 0 ∷ col 162 5 ∷ col 163 4 ∷ col 164 1 ∷ []; phase = 0; picture = col 160 4 ∷ col 162 5 ∷ [] }
+    ∷ record { chips = 2; fill = 0; bytes = 0x70 ∷ 0x80 ∷ 0xCB ∷ 0x80 ∷ 0xE0 ∷ 0x80 ∷ 0x09 ∷ 0x80 ∷ 0x4F ∷ 0x40 ∷ 0x00 ∷ 0xA6 ∷ []; answer = 0 ∷ 0 ∷ 12 ∷ 16 ∷ 0 ∷ []; a = 1; p = 5; columns = col 159 0 ∷ col 160 0 ∷ col 161 0 ∷ col 162 5 ∷ col 163 4 ∷ col 164 1 ∷ []; phase = 0; picture = col 160 0 ∷ col 162 5 ∷ [] }
     -- static, two chips, P 156, 81: columns 156 and 163 = 1; A 1, P 4
     ∷ record { chips = 2; fill = 0; bytes = 0x70 ∷ 0x80 ∷ 0xC1 ∷ 0x80 ∷ 0x09 ∷ 0x80 ∷ 0x4C ∷ 0x40 ∷ 0x81 ∷ []; answer = 0 ∷ 0 ∷ 9 ∷ 8 ∷ 0 ∷ []; a = 1; p = 4; columns = col 156 1 ∷ col 157 0 ∷ col 162 0 ∷ col 163 1 ∷ col 164 0 ∷ []; phase = 0; picture = [] }
     -- 1:2, I 1, two chips, P 158, FF: columns 158-161 = 12
