@@ -77,20 +77,13 @@ fn put_line(out: &mut [u8], at: usize, letter: u8, numbers: &[usize]) -> usize
 
 // ---- the log
 
-// Byte i, or 0 past the end.
-fn byte_at(log: &[u8], i: usize) -> u8
-    ensures { λ r. ⌜ r ≡ getD (now (log .entry)) i 0 ⌝ }
-{
-    if i < log.len() { log[i] } else { 0 }
-}
-
 // The chips in groups 0 and 1: bytes 1 and 2.
 fn chips_of(log: &[u8]) -> Chips
     ensures { λ r. ⌜ r ≡ logChips (now (log .entry)) ⌝ }
 {
     Chips {
-        zero: byte_at(log, 1),
-        one: byte_at(log, 2),
+        zero: checks::byte_at(log, 1),
+        one: checks::byte_at(log, 2),
     }
 }
 
@@ -158,8 +151,11 @@ fn check_log(log: &[u8]) -> Check
 {
     let chips = chips_of(log);
     let long = checks::unless(log.len() <= 65536, Refusal::LongLog);
-    let head = checks::unless((3 <= log.len()) & (byte_at(log, 0) == 1), Refusal::LogHead);
-    let counts = checks::unless((chips.zero <= 4) & (chips.one <= 4), Refusal::ChipCount);
+    let head = checks::unless(
+        (3 <= log.len()) & (checks::byte_at(log, 0) == 1),
+        Refusal::LogHead,
+    );
+    let counts = checks::check_chips(chips);
     let records = check_records(log);
     let chips_and_records = checks::or_else(counts, records);
     checks::or_else(long, checks::or_else(head, chips_and_records))

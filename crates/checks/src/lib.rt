@@ -1,11 +1,14 @@
 // The checks that several calls share, each with its refusal.
 use sheet::Check;
+use sheet::Chips;
 use sheet::Refusal;
 ghost use mathlib.Core.Path.{_≡_};
 ghost use Prim.Native.Nat.{max};
+ghost use lib.ListN.{getD};
 ghost use Rattle.checks.specs.Highest.{highestOf};
 ghost use Rattle.sheet.specs.Refusals.{numberOf, placeOf};
-ghost use Rattle.sheet.specs.Checks.{unless, orElse, overIn, checkLength};
+ghost use Rattle.sheet.specs.Checks.{unless, orElse, overIn, checkChips, checkLength};
+ghost use Rattle.sheet.specs.Plain.{passed};
 
 // Refused unless a test holds.
 pub fn unless(holds: bool, refusal: Refusal) -> Check
@@ -26,6 +29,29 @@ pub fn or_else(first: Check, next: Check) -> Check
         Check::Passed => next,
         Check::Refused(refusal) => Check::Refused(refusal),
     }
+}
+
+pub fn passes(check: Check) -> bool
+    ensures { λ r. ⌜ r ≡ passed check ⌝ }
+{
+    match check {
+        Check::Passed => true,
+        Check::Refused(_) => false,
+    }
+}
+
+// A byte of a transfer or a log, and 0 past its end.
+pub fn byte_at(bytes: &[u8], i: usize) -> u8
+    ensures { λ r. ⌜ r ≡ getD (now (bytes .entry)) i 0 ⌝ }
+{
+    if i < bytes.len() { bytes[i] } else { 0 }
+}
+
+// The chip counts: 3.
+pub fn check_chips(chips: Chips) -> Check
+    ensures { λ r. ⌜ r ≡ checkChips 4 chips ⌝ }
+{
+    unless((chips.zero <= 4) & (chips.one <= 4), Refusal::ChipCount)
 }
 
 // The higher of two columns.

@@ -194,10 +194,7 @@ pub fn hears(chip: Chip, address: u8) -> bool
 fn columns_fit(columns: [u8; 160]) -> bool
     ensures { λ r. ⌜ r ≡ passed (overIn 0 columns) ⌝ }
 {
-    match checks::first_over(&columns) {
-        Check::Passed => true,
-        Check::Refused(_) => false,
-    }
+    checks::passes(checks::first_over(&columns))
 }
 
 // Whether every field and column of the chip is in range.

@@ -86,14 +86,6 @@ counted-at-once (suc n) m v size t p =
     counts-alike _ _ (omega (arith, q, last)) (omega (arith, q, r, bits)) (omega (arith, q, r, bits)))
     (lt-or-le (size - v) (widthOf m))
 
--- stored and discarded bits make 8 for each data byte
-pub run-sum : (n m v size : ℕ) (t : Counts) → 0 < m
-    → countedRun n m v size t .stored + countedRun n m v size t .discarded ≡ t .stored + t .discarded + 8 * n
-run-sum n m v size t p = rw (counted-at-once n m v size t p) (omega arith)
-
-pub run-acknowledged : (n m v size : ℕ) (t : Counts) → 0 < m → countedRun n m v size t .acknowledged ≤ t .acknowledged + n
-run-acknowledged n m v size t p = rw (counted-at-once n m v size t p) (omega arith)
-
 pub present-le : (size c : ℕ) → present size c ≤ 1
 present-le size c = go (ltb c size)
   where

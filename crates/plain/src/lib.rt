@@ -110,13 +110,6 @@ struct Turn {
     heard: BusByte,
 }
 
-// A byte of the transfer, and 0 past its end.
-fn byte_at(bytes: &[u8], i: usize) -> u8
-    ensures { λ r. ⌜ r ≡ getD (now (bytes .entry)) i 0 ⌝ }
-{
-    if i < bytes.len() { bytes[i] } else { 0 }
-}
-
 // A byte counts once however many chips acknowledge it: `found` is the place of the first, or the count.
 fn counted(acknowledged: usize, found: usize, count: usize) -> usize
     requires { ⌜ acknowledged < 2 ^ 63 ⌝ }
@@ -143,7 +136,7 @@ fn next(bytes: &[u8], turn: Turn, found: usize, count: usize) -> Turn
         heard: BusByte {
             address: heard.address,
             expect: protocol::follow(expect, heard.byte),
-            byte: byte_at(bytes, at),
+            byte: checks::byte_at(bytes, at),
         },
     }
 }
@@ -169,7 +162,7 @@ fn follow(chips: &mut [Chip], bytes: &[u8], start: Turn) -> usize
 fn hail(bytes: &[u8]) -> Question
     ensures { λ r. ⌜ r ≡ Question.Hears (getD (now (bytes .entry)) 0 0) ⌝ }
 {
-    Question::Hears(byte_at(bytes, 0))
+    Question::Hears(checks::byte_at(bytes, 0))
 }
 
 fn check_commands(bytes: &[u8], heard: bool) -> Check
@@ -196,15 +189,6 @@ fn check_transfer(bytes: &[u8], count: usize, misfit: usize, hearer: usize) -> C
     )
 }
 
-fn passes(check: Check) -> bool
-    ensures { λ r. ⌜ r ≡ passed check ⌝ }
-{
-    match check {
-        Check::Passed => true,
-        Check::Refused(_) => false,
-    }
-}
-
 fn turn_at(bytes: &[u8], at: usize, acknowledged: usize) -> Turn
     ensures { λ r. ⌜ r ≡ turnAt (now (bytes .entry)) at acknowledged ⌝ }
 {
@@ -212,9 +196,9 @@ fn turn_at(bytes: &[u8], at: usize, acknowledged: usize) -> Turn
         at,
         acknowledged,
         heard: BusByte {
-            address: byte_at(bytes, 0),
+            address: checks::byte_at(bytes, 0),
             expect: Expect::Control,
-            byte: byte_at(bytes, at),
+            byte: checks::byte_at(bytes, at),
         },
     }
 }
@@ -230,7 +214,7 @@ fn begin(bytes: &[u8], count: usize, misfit: usize, hearer: usize) -> Start
     ensures { λ r. ⌜ r ≡ startOf (now (bytes .entry)) count misfit hearer ⌝ }
 {
     let check = check_transfer(bytes, count, misfit, hearer);
-    if passes(check) & (hearer < count) {
+    if checks::passes(check) & (hearer < count) {
         Start {
             check,
             turn: turn_at(bytes, 1, 1),

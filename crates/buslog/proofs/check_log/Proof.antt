@@ -25,8 +25,8 @@ byte-at-requires c κs = search needs
 unless-requires-2 : tie.Need-unless-requires-2
 unless-requires-2 c κs = search needs
 
-unless-requires-3 : tie.Need-unless-requires-3
-unless-requires-3 c κs = search needs
+check-chips-requires : tie.Need-check-chips-requires
+check-chips-requires c κs = search needs
 
 check-records-requires : tie.Need-check-records-requires
 check-records-requires c κs = search needs
@@ -41,13 +41,11 @@ or-else-requires-3 : tie.Need-or-else-requires-3
 or-else-requires-3 c κs = search needs
 
 returns : tie.Need-returns
-unfolding checkLog checkChips
-returns c = let log = c .before .before .before .before .before .before .before .before .before .before .before .before .args .log .now in
-    let head = c .before .before .before .before .before .before .before .unless2 .ensures ∙ ap (λ (x : ℕ). unless (leb 3 (length log) && eqb x 1) LogHead) (c .before .before .before .before .before .before .before .before .byte-at .ensures) in
-    let chips = c .before .before .before .before .unless3 .ensures ∙ ap (λ (n : Chips). checkChips 4 n) (c .before .before .before .before .before .before .before .before .before .before .chips-of .ensures) in
-    c .or-else3 .ensures
-    ∙ ap₂ orElse (c .before .before .before .before .before .before .before .before .before .unless .ensures)
-    (c .before .or-else2 .ensures ∙ ap₂ orElse head (c .before .before .or-else .ensures ∙ ap₂ orElse chips (c .before .before .before .check-records .ensures)))
+unfolding checkLog
+returns c = let log = c .before .before .before .before .before .before .before .before .before .before .args .log .now in
+    let head = c .before .before .before .before .before .unless2 .ensures ∙ ap (λ (x : ℕ). unless (leb 3 (length log) && eqb x 1) LogHead) (c .before .before .before .before .before .before .byte-at .ensures) in
+    let chips = c .before .before .before .before .check-chips .ensures ∙ ap (λ (n : Chips). checkChips 4 n) (c .before .before .before .before .before .before .before .before .chips-of .ensures) in
+    c .or-else3 .ensures ∙ ap₂ orElse (c .before .before .before .before .before .before .before .unless .ensures) (c .before .or-else2 .ensures ∙ ap₂ orElse head (c .before .before .or-else .ensures ∙ ap₂ orElse chips (c .before .before .before .check-records .ensures)))
 
 pub check-log-spec : {M : Type 1} → statement M
 check-log-spec =
@@ -57,7 +55,7 @@ check-log-spec =
     unless-requires
     byte-at-requires
     unless-requires-2
-    unless-requires-3
+    check-chips-requires
     check-records-requires
     or-else-requires
     or-else-requires-2

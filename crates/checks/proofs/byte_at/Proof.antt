@@ -1,10 +1,11 @@
--- `buslog::byte_at` meets its contract: past its end a list gives the 0.
+-- `checks::byte_at` meets its contract: past its end a list gives the 0.
 -- Assumes nothing.
 use mathlib.Core.Path.{sym}
 use lib.ListN.{List·getD-eq-default}
+use denote.Ref.{now}
 use borrow.Author.Needs.{needs}
-use Rattle.buslog.proofs.byte_at.Statement.{statement}
-use Rattle.buslog.proofs.byte_at.Tie as tie
+use Rattle.checks.proofs.byte_at.Statement.{statement}
+use Rattle.checks.proofs.byte_at.Tie as tie
 
 shared-slice-read-result : tie.Need-shared-slice-read-result
 shared-slice-read-result c = search needs
@@ -13,7 +14,7 @@ returns : tie.Need-returns
 returns c = search needs
 
 returns-2 : tie.Need-returns-2
-returns-2 c = sym (List·getD-eq-default (c .before .args .log .now) 0 (c .if1 .left))
+returns-2 c = sym (List·getD-eq-default (now (c .before .args .bytes)) 0 (c .if1 .left))
 
 pub byte-at-spec : {M : Type 1} → statement M
 byte-at-spec = tie.close (tie.spec shared-slice-read-result returns returns-2)
