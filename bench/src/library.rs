@@ -17,7 +17,6 @@ extern "C" {
         out: *mut u8, out_length: usize, answer: *mut usize, answer_length: usize,
     ) -> u8;
 
-    #[cfg(feature = "replay")]
     fn humtrellis_replay(log: *const u8, log_length: usize, out: *mut u8, out_length: usize) -> usize;
 }
 
@@ -69,7 +68,6 @@ pub fn picture(view: View, out: &mut [u8]) -> Numbers {
 }
 
 /// Writes the text of a log and gives its length.
-#[cfg(feature = "replay")]
 pub fn replay(log: &[u8], out: &mut [u8]) -> usize {
     // Safety: each pointer goes with the length of the buffer that it points to.
     unsafe { humtrellis_replay(log.as_ptr(), log.len(), out.as_mut_ptr(), out.len()) }

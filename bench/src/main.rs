@@ -3,7 +3,6 @@
 mod agree;
 mod library;
 mod measure;
-#[cfg(feature = "replay")]
 mod replay;
 mod report;
 mod samples;
@@ -20,7 +19,6 @@ fn run() -> Result<(), String> {
     report::transfers(&transfers);
     let pictures = MODES.map(measure::pictures);
     report::pictures(&pictures);
-    #[cfg(feature = "replay")]
     replay::run()?;
     report::targets(&transfers, &pictures);
     Ok(())

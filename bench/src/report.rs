@@ -66,7 +66,6 @@ pub fn pictures(rows: &Rows) {
     print_spread(rows);
 }
 
-#[cfg(feature = "replay")]
 pub fn replay(length: usize, figures: [Figure; 2]) {
     println!("The replay of a log of {length} bytes: ms, median of {SAMPLES} samples, lowest and highest");
     for (name, figure) in ["library", "model"].iter().zip(figures) {

@@ -99,14 +99,12 @@ pub fn shown_buses(mode: Mode) -> Vec<Bus> {
 }
 
 /// Logs of just the greatest length: runs of 1 to 320 bytes in all modes over four chips.
-#[cfg(feature = "replay")]
 pub fn logs() -> Vec<Vec<u8>> {
     (0..TURNS as u64)
         .map(|seed| log(&mut Random::new(32 + seed)))
         .collect()
 }
 
-#[cfg(feature = "replay")]
 fn log(random: &mut Random) -> Vec<u8> {
     use humtrellis_tests::generate::log_of;
     use humtrellis_tests::model::LOG_LIMIT;
