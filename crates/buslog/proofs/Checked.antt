@@ -32,13 +32,6 @@ checked log e =
     let chips = both-pass (checkChips 4 (logChips log)) _ (head .1) in
     record { short = leb-true (length log) 65536 (unless-passes _ LongLog (long .0)); chips = chips .0; whole = chips .1 }
 
--- four chips at most in each group
-pub few-chips : (n : Chips) → checkChips 4 n ≡ Passed → (n .zero ≤ 4) × (n .one ≤ 4)
-unfolding checkChips
-few-chips n e =
-    let few = both-true (leb (n .zero) 4) (leb (n .one) 4) (unless-passes _ ChipCount e) in
-    (leb-true (n .zero) 4 (few .0), leb-true (n .one) 4 (few .1))
-
 -- the text by the check: lines, or one
 pub text-passed : (log : List ℕ) → checkLog log ≡ Passed → textOf log ≡ logLines (logChips log) (recordsFrom 3 log)
 unfolding textOf

@@ -15,8 +15,7 @@ use Rattle.sheet.specs.Long.{State, Seen, pictureCall}
 use Rattle.sheet.specs.Logs.{shownAt, logStart}
 use Rattle.sheet.specs.Agree.{Valid}
 use Rattle.laws.proofs.Nibbles.{Nibbles}
-use Rattle.laws.proofs.Fits.{check-fits, power-on-in}
-use Rattle.buslog.proofs.Checked.{few-chips}
+use Rattle.laws.proofs.Fits.{check-fits, few-chips, power-on-in}
 
 -- zeros are below 16
 blank-nibbles : (k : ℕ) → Nibbles (replicate k 0)
@@ -27,7 +26,7 @@ blank-nibbles (suc k) (suc i) = blank-nibbles k i
 -- power-on, with RAM all 0
 pub start-valid : (n : Chips) → checkChips 4 n ≡ Passed → Valid 160 4 n (logStart n)
 start-valid n e =
-    let few = few-chips n e in
+    let few = few-chips 4 n e in
     check-fits 160 4 n (logStart n .registers) (logStart n .ram)
     (record {
       zero-few = few .0;

@@ -33,6 +33,13 @@ pub unless-passes : (t : Bool) (r : Refusal) → unless t r ≡ Passed → t ≡
 unless-passes true r e = refl
 unless-passes false r e = absurd (subst (λ (c : Check). T (passed c)) (sym e) tt)
 
+-- L chips at most in each group
+pub few-chips : (L : ℕ) (n : Chips) → checkChips L n ≡ Passed → (n .zero ≤ L) × (n .one ≤ L)
+unfolding checkChips
+few-chips L n e =
+    let few = both-true (leb (n .zero) L) (leb (n .one) L) (unless-passes _ ChipCount e) in
+    (leb-true (n .zero) L (few .0), leb-true (n .one) L (few .1))
+
 -- ---- a state
 
 pub record Fits (C L : ℕ) (n : Chips) (r : Both) (ram : List ℕ) : Type 0 where
@@ -44,16 +51,16 @@ pub record Fits (C L : ℕ) (n : Chips) (r : Both) (ram : List ℕ) : Type 0 whe
   pub nibbles : Nibbles ram
 
 pub fits-of : (C L : ℕ) (n : Chips) (r : Both) (ram : List ℕ) → checkState C L n r ram ≡ Passed → Fits C L n r ram
-unfolding checkState checkChips checkRegisters checkRam
+unfolding checkState checkRegisters checkRam
 fits-of C L n r ram e =
     let s = both-pass (checkChips L n) _ e in
     let t = both-pass (checkRegisters C L r) (checkRam C n ram) (s .1) in
     let u = both-pass (unless (eqb (length ram) (C * (n .zero + n .one))) RamLength) (overIn 0 ram) (t .1) in
-    let few = both-true (leb (n .zero) L) (leb (n .one) L) (unless-passes _ ChipCount (s .0)) in
+    let few = few-chips L n (s .0) in
     let ranges = both-true (inRange C L (r .zero)) (inRange C L (r .one)) (unless-passes _ Register (t .0)) in
     record {
-      zero-few = leb-true (n .zero) L (few .0);
-      one-few = leb-true (n .one) L (few .1);
+      zero-few = few .0;
+      one-few = few .1;
       zero-in = range-of C L (r .zero) (ranges .0);
       one-in = range-of C L (r .one) (ranges .1);
       columns = eqb-true (length ram) (C * (n .zero + n .one)) (unless-passes _ RamLength (u .0));

@@ -8,6 +8,7 @@ use native.Mathlib.Omega.{arith}
 use lib.Dec.{ltb}
 use lib.ListN.{length, drop, drop-of-length-le, length-map}
 use Rattle.lemmas.proofs.Lists.{next as next-of}
+use Rattle.laws.proofs.Counts.{present-le}
 use Rattle.sheet.specs.declared.Chip.{Chip}
 use Rattle.sheet.specs.Protocol.{next}
 use Rattle.sheet.specs.Plain.{Plain, plainHeard, hears, any, chipAcknowledged}
@@ -48,11 +49,7 @@ module _ (cs₀ : List Chip) (bytes : List ℕ) (t₀ t : Turn) (cs : List Chip)
 
   pub turn-more : t .at < length bytes → Following cs₀ bytes t₀ (turnAfter bytes t found (length cs₀)) (map (taken (t .heard)) cs)
   turn-more l = record {
-    ready = record { within = omega arith; counted = omega (arith, s .ready .counted, once (ltb found (length cs₀))); byte = refl; right = λ _. all-kept (t .heard) cs (s .ready .right l) };
+    ready = record { within = omega arith; counted = omega (arith, s .ready .counted, present-le (length cs₀) found); byte = refl; right = λ _. all-kept (t .heard) cs (s .ready .right l) };
     same = length-map cs (taken (t .heard)) ∙ s .same;
     left = sym (stepped l) ∙ s .left;
   }
-    where
-      once : (b : Bool) → cond b 1 0 ≤ 1
-      once true = omega arith
-      once false = omega arith

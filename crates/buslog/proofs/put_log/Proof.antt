@@ -12,7 +12,8 @@ use Rattle.sheet.specs.declared.Check.the-variants.{Passed}
 use Rattle.sheet.specs.Checks.{checkChips}
 use Rattle.sheet.specs.Logs.{logLines, textOf}
 use Rattle.buslog.specs.Records.{recordsFrom}
-use Rattle.buslog.proofs.Checked.{checked, few-chips, text-passed}
+use Rattle.laws.proofs.Fits.{few-chips}
+use Rattle.buslog.proofs.Checked.{checked, text-passed}
 use borrow.Author.Needs.{needs}
 use Rattle.buslog.proofs.put_log.Statement.{statement}
 use Rattle.buslog.proofs.put_log.Tie as tie
@@ -29,7 +30,7 @@ chips c = let s = c .before .before .before in rw (c .chips-of .ensures) (checke
 
 -- so their columns are at most those of the array
 few : (c : tie.After-blank-ram) → let n = c .before .chips-of .result in 160 * (n .zero + n .one) ≤ 1280
-few c = let h = few-chips (c .before .chips-of .result) (chips (c .before)) in omega arith
+few c = let h = few-chips 4 (c .before .chips-of .result) (chips (c .before)) in omega arith
 
 small : (c : tie.After-blank-ram) → let n = c .before .chips-of .result in 160 * (n .zero + n .one) ≤ length (c .blank-ram .result)
 small c = omega (arith, few c, ap length (c .blank-ram .ensures), length-replicate {A = ℕ} 1280 0)

@@ -2,7 +2,7 @@
 -- Assumes nothing.
 use mathlib.Core.Path.{_≡_, refl, ap, _∙_}
 use Prim.Native.Nat.{ℕ, _+_, _-_, _*_, _/_, _≤_, _<_}
-use native.Mathlib.Nat.{mul-comm, div-le-self, le-div-iff-mul-le}
+use native.Mathlib.Nat.{div-le-self}
 use native.Mathlib.Numerals.{add-one}
 use native.Mathlib.Omega.{arith}
 use Rattle.sheet.specs.declared.Chip.{Chip}
@@ -10,6 +10,7 @@ use Rattle.sheet.specs.Commands.{backplanes}
 use Rattle.sheet.specs.Data.{widthOf}
 use Rattle.sheet.specs.Plain.{columns, chipData}
 use Rattle.laws.proofs.Ranges.{range-of, in-range, planes-pos}
+use Rattle.laws.proofs.Counts.{width-less}
 use Rattle.chip.proofs.Moves.{still-in, same-planes}
 use Rattle.chip.proofs.take_data.Statement.{statement}
 use Rattle.chip.proofs.take_data.Tie as tie
@@ -18,10 +19,6 @@ use Rattle.chip.proofs.take_data.Tie as tie
 record Taken (byte width : ℕ) (chip moved : Chip) (j : ℕ) : Type 0 where
   so-far : moved ≡ columns 160 4 byte j chip
   most : j ≤ width
-
--- a column of a byte begins at one of its bits
-begins : (m j : ℕ) → 0 < m → j < widthOf m → m * j < 8
-begins m j pm l = let h : j * m ≤ 7 = le-div-iff-mul-le pm .0 (omega arith) in omega (arith, mul-comm m j)
 
 abbrev Inv-loop : tie.InvT-loop
 Inv-loop byte width moved₀ j₀ moved j = Taken byte width moved₀ moved j
@@ -50,7 +47,7 @@ column-requires c κs = let p = c .before .loop in
     let h = range-of 160 4 r (s .pre) in
     let l : p .j < widthOf (backplanes r) = rw (← c .before .before .backplanes .ensures) (omega arith) in
     rw (p .inv .so-far)
-    (in-range 160 4 _ (still-in 160 4 (s .args .byte) (p .j) chip h), rw (same-planes 160 4 (s .args .byte) (p .j) chip h) (begins (backplanes r) (p .j) (planes-pos r) l))
+    (in-range 160 4 _ (still-in 160 4 (s .args .byte) (p .j) chip h), rw (same-planes 160 4 (s .args .byte) (p .j) chip h) (width-less (backplanes r) (p .j) (planes-pos r) l))
 
 add-j : tie.Need-add-j Inv-loop μ-loop
 add-j c = omega (arith, div-le-self 7 (c .before .before .before .backplanes .result))
