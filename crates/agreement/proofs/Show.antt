@@ -15,12 +15,12 @@ use Rattle.sheet.specs.declared.Chips.{Chips}
 use Rattle.sheet.specs.declared.Pictured.{Pictured}
 use Rattle.sheet.specs.Checks.{chipsIn, checkPicture}
 use Rattle.sheet.specs.Pictures.{pictureOf, litIn}
-use Rattle.sheet.specs.Long.{State, Seen, registersOf, startOf, partOf, pictureCall}
+use Rattle.sheet.specs.Long.{State, Seen, registersOf, partOf, pictureCall}
 use Rattle.sheet.specs.Plain.{chipFits, checkChipPicture, chipPictureCall}
 use Rattle.sheet.specs.Agree.{groupChips, groupOf, Valid, chipSeen, litOf, chipPictures, chipsLit, Shows}
 use Rattle.laws.proofs.Ranges.{InRange, in-range}
 use Rattle.laws.proofs.Nibbles.{Nibbles, check-nibbles, take-nibbles, drop-nibbles}
-use Rattle.laws.proofs.Fits.{Fits, fits-of}
+use Rattle.laws.proofs.Fits.{fits-of}
 use Rattle.agreement.proofs.Chips.{chipAt, own-columns}
 
 lit-join : (a b : List ℕ) → litIn (a ++ b) ≡ litIn a + litIn b

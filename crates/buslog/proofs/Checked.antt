@@ -7,11 +7,9 @@ use Prim.Native.Nat.{ℕ, _≤_}
 use lib.Dec.{eqb, leb}
 use lib.ListN.{length, getD, drop}
 use borrow.Author.Tests.{leb-true}
-use Rattle.lemmas.proofs.Tests.{both-true}
-use Rattle.sheet.specs.declared.Chips.{Chips}
 use Rattle.sheet.specs.declared.Check.the-variants.{Passed, Refused}
 use Rattle.sheet.specs.declared.Refusal.{Refusal}
-use Rattle.sheet.specs.declared.Refusal.the-variants.{ChipCount, LogHead, LongLog}
+use Rattle.sheet.specs.declared.Refusal.the-variants.{LogHead, LongLog}
 use Rattle.sheet.specs.Refusals.{numberOf, placeOf}
 use Rattle.sheet.specs.Checks.{unless, checkChips}
 use Rattle.sheet.specs.Logs.{logChips, cutIn, checkLog, line, logLines, textOf}

@@ -10,7 +10,7 @@ ghost use mathlib.Core.Bool.{cond};
 ghost use mathlib.Core.List.{[], _∷_};
 ghost use Prim.Native.Nat.{_+_, _*_, _≤_, _<_};
 ghost use lib.Dec.{eqb};
-ghost use lib.ListN.{length, getD, drop, replicate};
+ghost use lib.ListN.{length, drop, replicate};
 ghost use Rattle.sheet.specs.Refusals.{numberOf, placeOf, numbers};
 ghost use Rattle.sheet.specs.Checks.{chipsIn, checkChips};
 ghost use Rattle.sheet.specs.Logs.{lengthOf, logChips, cutIn, checkLog, decimal, spaced, line, transferLines, columnLines, shownAt, endLines, logStart, logLines, textOf};

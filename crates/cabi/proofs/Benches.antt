@@ -2,7 +2,7 @@
 -- Assumes nothing.
 use mathlib.Core.Path.{_≡_, refl, ap, subst, _∙_}
 use mathlib.Core.Bool.{Bool, true, false, cond}
-use mathlib.Core.List.{List, [], _∷_, _++_, map}
+use mathlib.Core.List.{List, [], _∷_}
 use Prim.Native.Nat.{ℕ, zero, suc, _/_, _%_, _≤_, _<_}
 use native.Mathlib.Omega.{arith}
 use lib.ListN.{length, getD, take, drop, length-append, length-drop, length-map}
@@ -70,10 +70,18 @@ followed b cs n bytes done few count eight first e =
 
 -- ---- the call, past the test of the buffers' sizes
 
-pub sized : (chips bytes answer : List ℕ) → length chips % 171 ≡ 0 → length answer ≡ 5
-    → let s = plainCall 160 4 (listIn (length chips / 171) chips) bytes in plainC chips bytes answer ≡ plainDone (s .answer) (s .chips) chips
+abbrev pub called : List ℕ → List ℕ → PlainAfter
+called chips bytes = plainCall 160 4 (listIn (length chips / 171) chips) bytes
+
+sized : (chips bytes answer : List ℕ) → length chips % 171 ≡ 0 → length answer ≡ 5
+    → plainC chips bytes answer ≡ plainDone (called chips bytes .answer) (called chips bytes .chips) chips
 unfolding plainC
 sized chips bytes answer e five = rw (eq-eqb (length chips % 171) 0 e, eq-eqb (length answer) 5 five) refl
+
+-- by what is answered
+pub told : (chips bytes answer : List ℕ) (said : PlainAnswer) → length chips % 171 ≡ 0 → length answer ≡ 5 → called chips bytes .answer ≡ said
+    → plainC chips bytes answer ≡ plainDone said (called chips bytes .chips) chips
+told chips bytes answer said e five h = sized chips bytes answer e five ∙ ap (λ (k : PlainAnswer). plainDone k (called chips bytes .chips) chips) h
 
 -- more than eight chips are refused
 list-length : (n : ℕ) (l : List ℕ) → length (listIn n l) ≡ n

@@ -12,7 +12,7 @@ ghost use Prim.Native.Nat.{_+_, _≤_, _<_, _^_};
 ghost use lib.Dec.{ltb};
 ghost use lib.ListN.{length, getD, drop};
 ghost use Rattle.sheet.specs.Protocol.{undefinedIn};
-ghost use Rattle.sheet.specs.Plain.{passed, plainCall};
+ghost use Rattle.sheet.specs.Plain.{plainCall};
 ghost use Rattle.plain.specs.Asking.{takesPart, yes, taken, firstYes};
 ghost use Rattle.plain.specs.Turns.{turnAfter, followed, Ready};
 ghost use Rattle.plain.specs.Starts.{checkOf, turnAt, startOf, answerOf};

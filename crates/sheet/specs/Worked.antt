@@ -1,7 +1,6 @@
 -- The worked log of paper 01, "Bus logs", and its text, computed of the definitions.
 use Prim.Native.Nat.{ℕ}
-use mathlib.Core.Bool.{Bool}
-use mathlib.Core.List.{List, [], _∷_, _++_}
+use mathlib.Core.List.{List, [], _∷_}
 use lib.Dec.{T}
 use Rattle.sheet.specs.Commands.{within, commandOf, inRange, backplanes, bankRow}
 use Rattle.sheet.specs.Places.{position, atPosition}

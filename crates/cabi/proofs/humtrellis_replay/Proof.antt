@@ -1,7 +1,6 @@
 -- `cabi::humtrellis_replay` meets its contract: by what the replay answers.
 -- Assumes nothing.
-use mathlib.Core.Path.{_≡_, refl, ap, sym, _∙_}
-use Rattle.buslog.specs.declared.Replayed.{Replayed}
+use mathlib.Core.Path.{ap, sym, _∙_}
 use Rattle.cabi.specs.Calls.{replayNumber}
 use borrow.Author.Needs.{needs}
 use Rattle.cabi.proofs.humtrellis_replay.Statement.{statement}

@@ -1,18 +1,14 @@
 -- `cabi::plain_transfer` meets its contract: the bench's transfer between bytes and chips; refused, nothing is written.
 -- Assumes nothing.
-use mathlib.Core.Path.{_≡_, sym, ap, subst, _∙_}
-use mathlib.Core.List.{List}
+use mathlib.Core.Path.{sym, ap, _∙_}
 use Prim.Native.Nat.{ℕ, _*_, _/_}
 use native.Mathlib.Omega.{arith}
 use lib.ListN.{length}
 use denote.Ref.{now}
-use Rattle.sheet.specs.declared.Chip.{Chip}
 use Rattle.sheet.specs.declared.PlainAnswer.{PlainAnswer}
-use Rattle.plain.specs.declared.BenchTransferred.{BenchTransferred}
-use Rattle.sheet.specs.Plain.{plainCall}
 use Rattle.cabi.specs.Bytes.{listIn, listBytes}
-use Rattle.cabi.specs.Calls.{PlainCalled, plainDone, plainC}
-use Rattle.cabi.proofs.Benches.{Followed, followed, sized}
+use Rattle.cabi.specs.Calls.{PlainCalled}
+use Rattle.cabi.proofs.Benches.{Followed, followed, told}
 use borrow.Author.Needs.{needs}
 use Rattle.cabi.proofs.plain_transfer.Statement.{statement}
 use Rattle.cabi.proofs.plain_transfer.Tie as tie
@@ -57,13 +53,11 @@ same-length-2 c = search needs
 returns : tie.Need-returns
 returns c = let a = c .before .before .before .before .before .before .before .before .before .before .before .before .before .before .before .before .before .before .args in
     let f = bench (c .before .before .before .before .before .before .before .before .before .before .before .before) in
-    let s = plainCall 160 4 (listIn (length (now (a .chips)) / 171) (now (a .chips))) (now (a .bytes)) in
-    let told : plainC (now (a .chips)) (now (a .bytes)) (now (a .answer)) ≡ plainDone (PlainAnswer.Acknowledged (c .before .before .before .before .before .before .before .before .before .said .given .0 .0)) (s .chips) (now (a .chips)) =
-    sized (now (a .chips)) (now (a .bytes)) (now (a .answer)) (c .before .before .before .before .before .before .before .before .before .before .before .before .before .before .before .before .before .before .pre .0) (c .before .before .before .before .before .before .before .before .before .before .before .before .before .before .before .before .before .before .pre .2) ∙ ap (λ (k : PlainAnswer). plainDone k (s .chips) (now (a .chips))) (sym (f .answer) ∙ c .before .before .before .before .before .before .before .before .before .said .given .1) in (
-      c .before .before .put-numbers .ensures .0 ∙ sym (ap (λ (k : PlainCalled). k .number) told),
+    let after = told (now (a .chips)) (now (a .bytes)) (now (a .answer)) (PlainAnswer.Acknowledged (c .before .before .before .before .before .before .before .before .before .said .given .0 .0)) (c .before .before .before .before .before .before .before .before .before .before .before .before .before .before .before .before .before .before .pre .0) (c .before .before .before .before .before .before .before .before .before .before .before .before .before .before .before .before .before .before .pre .2) (sym (f .answer) ∙ c .before .before .before .before .before .before .before .before .before .said .given .1) in (
+      c .before .before .put-numbers .ensures .0 ∙ sym (ap (λ (k : PlainCalled). k .number) after),
       (
-        c .before .before .before .before .before .before .put-bench .ensures ∙ ap listBytes (f .chips) ∙ sym (ap (λ (k : PlainCalled). k .chips) told),
-        c .before .before .put-numbers .ensures .1 ∙ sym (ap (λ (k : PlainCalled). k .answer) told),
+        c .before .before .before .before .before .before .put-bench .ensures ∙ ap listBytes (f .chips) ∙ sym (ap (λ (k : PlainCalled). k .chips) after),
+        c .before .before .put-numbers .ensures .1 ∙ sym (ap (λ (k : PlainCalled). k .answer) after),
       ),
     )
 
@@ -76,14 +70,9 @@ same-length-4 c = search needs
 returns-2 : tie.Need-returns-2
 returns-2 c = let a = c .before .before .before .before .before .before .before .before .before .before .before .before .before .before .args in
     let f = bench (c .before .before .before .before .before .before .before .before) in
-    let s = plainCall 160 4 (listIn (length (now (a .chips)) / 171) (now (a .chips))) (now (a .bytes)) in
-    let told : plainC (now (a .chips)) (now (a .bytes)) (now (a .answer)) ≡ plainDone (PlainAnswer.Refused (c .before .before .before .before .before .said2 .given .0 .0)) (s .chips) (now (a .chips)) =
-    sized (now (a .chips)) (now (a .bytes)) (now (a .answer)) (c .before .before .before .before .before .before .before .before .before .before .before .before .before .before .pre .0) (c .before .before .before .before .before .before .before .before .before .before .before .before .before .before .pre .2) ∙ ap (λ (k : PlainAnswer). plainDone k (s .chips) (now (a .chips))) (sym (f .answer) ∙ c .before .before .before .before .before .said2 .given .1) in (
-      c .before .before .put-refusal .ensures .0 ∙ sym (ap (λ (k : PlainCalled). k .number) told),
-      (
-        sym (ap (λ (k : PlainCalled). k .chips) told),
-        c .before .before .put-refusal .ensures .1 ∙ sym (ap (λ (k : PlainCalled). k .answer) told),
-      ),
+    let after = told (now (a .chips)) (now (a .bytes)) (now (a .answer)) (PlainAnswer.Refused (c .before .before .before .before .before .said2 .given .0 .0)) (c .before .before .before .before .before .before .before .before .before .before .before .before .before .before .pre .0) (c .before .before .before .before .before .before .before .before .before .before .before .before .before .before .pre .2) (sym (f .answer) ∙ c .before .before .before .before .before .said2 .given .1) in (
+      c .before .before .put-refusal .ensures .0 ∙ sym (ap (λ (k : PlainCalled). k .number) after),
+      (sym (ap (λ (k : PlainCalled). k .chips) after), c .before .before .put-refusal .ensures .1 ∙ sym (ap (λ (k : PlainCalled). k .answer) after)),
     )
 
 pub plain-transfer-spec : {M : Type 1} → statement M

@@ -10,7 +10,6 @@ use lib.ListN.{length, take, drop, set, length-set, length-take, length-drop}
 use lib.Seq.{take-suc-set, drop-drop}
 use Rattle.sheet.specs.declared.Chip.{Chip}
 use Rattle.cabi.specs.Bytes.{chipIn, listIn}
-use borrow.Author.Needs.{needs}
 use Rattle.cabi.proofs.chips.bench_of.Statement.{statement}
 use Rattle.cabi.proofs.chips.bench_of.Tie as tie
 

@@ -3,7 +3,6 @@
 use mathlib.Core.Path.{ap}
 use lib.ListN.{replicate}
 use Rattle.sheet.specs.declared.Registers.{Registers}
-use Rattle.sheet.specs.declared.Chip.{Chip}
 use borrow.Author.Needs.{needs}
 use Rattle.cabi.proofs.chips.blank.Statement.{statement}
 use Rattle.cabi.proofs.chips.blank.Tie as tie

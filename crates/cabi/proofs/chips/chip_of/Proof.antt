@@ -2,7 +2,7 @@
 -- Assumes nothing.
 use mathlib.Core.Path.{ap, _∙_}
 use native.Mathlib.Omega.{arith}
-use lib.ListN.{getD, length-take, length-replicate}
+use lib.ListN.{getD, length-take}
 use denote.Ref.{now}
 use Rattle.lemmas.proofs.Lists.{part-rest}
 use Rattle.cabi.specs.Bytes.{registersIn}

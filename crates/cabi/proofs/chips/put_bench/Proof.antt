@@ -1,8 +1,8 @@
 -- `cabi::chips::put_bench` meets its contract: after i turns the first i chips are written.
 -- Assumes nothing.
-use mathlib.Core.Path.{_≡_, refl, ap, subst, sym, _∙_}
+use mathlib.Core.Path.{_≡_, refl, ap, sym, _∙_}
 use mathlib.Core.List.{List, [], _∷_, _++_, append-nil, append-assoc}
-use Prim.Native.Nat.{ℕ, zero, suc, _+_, _-_, _*_, _≤_, _<_}
+use Prim.Native.Nat.{ℕ, _+_, _-_, _*_, _≤_, _<_}
 use native.Mathlib.Nat.{add-sub-cancel-left}
 use native.Mathlib.Numerals.{add-one}
 use native.Mathlib.Omega.{arith}
@@ -10,7 +10,6 @@ use lib.ListN.{length, getD, take, drop, length-take, length-drop, length-append
 use lib.Seq.{take-suc, take-all, take-at, length-take-le}
 use Rattle.sheet.specs.declared.Chip.{Chip}
 use Rattle.cabi.specs.Bytes.{chipBytes, listBytes}
-use borrow.Author.Needs.{needs}
 use Rattle.cabi.proofs.chips.put_bench.Statement.{statement}
 use Rattle.cabi.proofs.chips.put_bench.Tie as tie
 
