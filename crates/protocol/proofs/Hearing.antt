@@ -3,6 +3,7 @@
 use mathlib.Core.Path.{_≡_, sym, ap, _∙_, subst}
 use mathlib.Core.List.{List, [], _∷_}
 use Prim.Native.Nat.{ℕ, suc, _+_, _*_, _/_, _≤_, _<_}
+use native.Mathlib.Nat.{le-of-suc-le-suc}
 use native.Mathlib.Omega.{arith}
 use lib.ListN.{length, getD, drop, drop-of-length-le, length-drop}
 use Rattle.lemmas.proofs.Lists.{next}
@@ -14,10 +15,11 @@ use Rattle.sheet.specs.Places.{position, atPosition}
 use Rattle.sheet.specs.Data.{counted}
 use Rattle.sheet.specs.Protocol as protocol
 use Rattle.sheet.specs.Long.{Group, command, byte, dataByte, heard}
-use Rattle.laws.proofs.Ranges.{InRange, kept, planes-pos}
+use Rattle.laws.proofs.Ranges.{InRange, kept, planes-pos, rows-fit}
 use Rattle.laws.proofs.Counts.{stored-closed, present-le}
 use Rattle.laws.proofs.Steps.{stays-in}
 use Rattle.laws.proofs.Runs.{length-bits}
+use Rattle.laws.proofs.Nibbles.{Nibbles, bits-nibbles}
 use Rattle.protocol.specs.declared.Listener.{Listener}
 use Rattle.protocol.specs.Listeners.{groupOf, begun}
 
@@ -28,6 +30,7 @@ pub record Sound (g : Group) (i size : ℕ) : Type 0 where
   pub acknowledged : g .counts .acknowledged ≤ i
   pub bits : g .counts .stored + g .counts .discarded ≤ 8 * i
   pub long : length (g .ram) ≡ size
+  pub nibbles : Nibbles (g .ram)
 
 data-sound : (x : ℕ) (g : Group) (i size : ℕ) → Sound g i size → Sound (dataByte 160 4 x g) (suc i) size
 unfolding dataByte counted atPosition
@@ -35,11 +38,13 @@ data-sound x g i size s =
     let r = g .registers in
     let m = backplanes r in
     let v = position 160 r in
+    let fit = rows-fit r (r .i) (s .range .m-in) (s .range .i-in) in
     record {
       range = stays-in 160 4 (v + (7 / m + 1)) r (s .range);
       acknowledged = omega (arith, s .acknowledged, present-le (length (g .ram)) (v + 7 / m));
       bits = omega (arith, s .bits, stored-closed 8 m v (length (g .ram)) (planes-pos r));
       long = length-bits 8 m (bankRow m (r .i)) v x (g .ram) ∙ s .long;
+      nibbles = bits-nibbles 8 m (bankRow m (r .i)) v x (g .ram) (fit .0) (le-of-suc-le-suc (fit .1)) (s .nibbles);
     }
 
 command-sound : (x : ℕ) (g : Group) (i size : ℕ) → Sound g i size → Sound (command x g) (suc i) size
@@ -48,11 +53,12 @@ command-sound x g i size s = record {
   acknowledged = omega (arith, s .acknowledged);
   bits = omega (arith, s .bits);
   long = s .long;
+  nibbles = s .nibbles;
 }
 
 -- a byte more, whatever it is
 byte-sound : (e : Expect) (x : ℕ) (g : Group) (i size : ℕ) → Sound g i size → Sound (byte 160 4 e x g) (suc i) size
-byte-sound Control x g i size s = record { range = s .range; acknowledged = omega (arith, s .acknowledged); bits = omega (arith, s .bits); long = s .long }
+byte-sound Control x g i size s = record { range = s .range; acknowledged = omega (arith, s .acknowledged); bits = omega (arith, s .bits); long = s .long; nibbles = s .nibbles }
 byte-sound OneCommand x g i size s = command-sound x g i size s
 byte-sound Commands x g i size s = command-sound x g i size s
 byte-sound OneData x g i size s = data-sound x g i size s

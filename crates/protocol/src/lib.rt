@@ -9,6 +9,7 @@ ghost use mathlib.Core.Bool.{true, _&&_, not};
 ghost use mathlib.Core.List.{[]};
 ghost use Prim.Native.Nat.{_+_, _≤_, _<_, _^_};
 ghost use lib.ListN.{length, drop};
+ghost use Rattle.sheet.specs.Checks.{overIn};
 ghost use Rattle.sheet.specs.Commands.{commandOf, defined, inRange};
 ghost use Rattle.sheet.specs.Places.{atPosition};
 ghost use Rattle.sheet.specs.Protocol.{controlOf, next, isCommand, undefinedIn};
@@ -141,7 +142,7 @@ impl Listener {
 
     // After a run of data bytes, with what follows it.
     fn data(self, then: Expect, ram: &mut [u8], run: &[u8]) -> Listener
-        requires { ⌜ (inRange 160 4 (self .registers) ≡ true) × (length (now ram) ≤ 640) × (length (now run) < 65536) × (self .counts .acknowledged < 2 ^ 32) × (self .counts .stored < 2 ^ 32) × (self .counts .discarded < 2 ^ 32) ⌝ }
+        requires { ⌜ (inRange 160 4 (self .registers) ≡ true) × (length (now ram) ≤ 640) × (length (now run) < 65536) × (self .counts .acknowledged < 2 ^ 32) × (self .counts .stored < 2 ^ 32) × (self .counts .discarded < 2 ^ 32) × (overIn 0 (now ram) ≡ Check.Passed) ⌝ }
         ensures { λ _. ⌜ now (ram .exit) ≡ heard 160 4 Expect.Run (now (run .entry)) (groupOf self (now (ram .entry))) .ram ⌝ }
         ensures { λ r. ⌜ r ≡ listenerOf then (heard 160 4 Expect.Run (now (run .entry)) (groupOf self (now (ram .entry)))) ⌝ }
     {
@@ -167,7 +168,7 @@ pub struct Heard {
 
 // What a group makes of a transfer that is for it. The data run is the part after the last control byte, handed on as it is.
 pub fn hear(ram: &mut [u8], registers: Registers, bytes: &[u8]) -> Heard
-    requires { ⌜ (inRange 160 4 registers ≡ true) × (length (now ram) ≤ 640) × (0 < length (now bytes)) × (length (now bytes) < 4097) ⌝ }
+    requires { ⌜ (inRange 160 4 registers ≡ true) × (length (now ram) ≤ 640) × (0 < length (now bytes)) × (length (now bytes) < 4097) × (overIn 0 (now ram) ≡ Check.Passed) ⌝ }
     ensures { λ _. ⌜ now (ram .exit) ≡ heard 160 4 Expect.Control (drop 1 (now (bytes .entry))) (begun registers (now (ram .entry))) .ram ⌝ }
     ensures { λ r. ⌜ r ≡ heardOf (heard 160 4 Expect.Control (drop 1 (now (bytes .entry))) (begun registers (now (ram .entry)))) ⌝ }
 {

@@ -11,10 +11,13 @@ use Rattle.lemmas.proofs.Lists.{part-one, part-rest}
 use mathlib.Core.Bool.{true}
 use Rattle.sheet.specs.declared.Expect.{Expect}
 use Rattle.sheet.specs.declared.Registers.{Registers}
+use Rattle.sheet.specs.declared.Check.the-variants.{Passed}
+use Rattle.sheet.specs.Checks.{overIn}
 use Rattle.sheet.specs.Commands.{inRange}
 use Rattle.sheet.specs.declared.Expect.the-variants.{Control, OneCommand, Commands, OneData, Run}
 use Rattle.sheet.specs.Long.{Group, byte, heard}
 use Rattle.laws.proofs.Ranges.{range-of, in-range}
+use Rattle.laws.proofs.Nibbles.{nibbles-of, check-nibbles}
 use Rattle.protocol.specs.declared.Listener.{Listener}
 use Rattle.protocol.specs.Listeners.{groupOf, heardOf, listenerOf}
 use Rattle.protocol.proofs.Hearing.{Hearing, byte-turn, run-turn, at-end}
@@ -33,9 +36,9 @@ one-data x g = refl
 
 -- what a run asks for
 fit-data : {ram₀ bytes ram : List ℕ} {r : Registers} {l : Listener} {i n : ℕ} → length ram₀ ≤ 640 → length bytes < 4097 → Hearing ram₀ bytes r ram l i → n < 65536
-    → (inRange 160 4 (l .registers) ≡ true) × (length ram ≤ 640) × (n < 65536) × (l .counts .acknowledged < 2 ^ 32) × (l .counts .stored < 2 ^ 32) × (l .counts .discarded < 2 ^ 32)
-fit-data {l = l} few short inv p =
-    (in-range 160 4 (l .registers) (inv .sound .range), omega (arith, inv .sound .long), p, omega (arith, inv .sound .acknowledged, inv .most), omega (arith, inv .sound .bits, inv .most), omega (arith, inv .sound .bits, inv .most))
+    → (inRange 160 4 (l .registers) ≡ true) × (length ram ≤ 640) × (n < 65536) × (l .counts .acknowledged < 2 ^ 32) × (l .counts .stored < 2 ^ 32) × (l .counts .discarded < 2 ^ 32) × (overIn 0 ram ≡ Passed)
+fit-data {ram = ram} {l = l} few short inv p =
+    (in-range 160 4 (l .registers) (inv .sound .range), omega (arith, inv .sound .long), p, omega (arith, inv .sound .acknowledged, inv .most), omega (arith, inv .sound .bits, inv .most), omega (arith, inv .sound .bits, inv .most), check-nibbles 0 ram (inv .sound .nibbles))
 
 abbrev Inv-loop : tie.InvT-loop
 Inv-loop ram₀ bytes n listener₀ i₀ ram listener i = Hearing ram₀ bytes (listener₀ .registers) ram listener i
@@ -47,7 +50,7 @@ loop-holds : tie.Need-loop-holds Inv-loop μ-loop
 loop-holds c = let s = c .before .before in
     record {
       rest = refl;
-      sound = record { range = range-of 160 4 (s .args .registers) (s .pre .0); acknowledged = omega arith; bits = omega arith; long = refl };
+      sound = record { range = range-of 160 4 (s .args .registers) (s .pre .0); acknowledged = omega arith; bits = omega arith; long = refl; nibbles = nibbles-of 0 (now (s .args .ram)) (s .pre .4) };
       most = s .pre .2;
     }
 
