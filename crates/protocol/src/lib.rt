@@ -13,8 +13,8 @@ ghost use Rattle.sheet.specs.Checks.{overIn};
 ghost use Rattle.sheet.specs.Commands.{commandOf, defined, inRange};
 ghost use Rattle.sheet.specs.Places.{atPosition};
 ghost use Rattle.sheet.specs.Protocol.{controlOf, next, isCommand, undefinedIn};
-ghost use Rattle.sheet.specs.Long.{control, command, heard};
-ghost use Rattle.protocol.specs.Listeners.{groupOf, listenerOf, begun, heardOf};
+ghost use Rattle.sheet.specs.Long.{heard};
+ghost use Rattle.protocol.specs.Listeners.{groupOf, listenerOf, dataEnd, toldRegisters, told, begun, heardOf};
 
 // What follows a control byte.
 fn after_control(byte: u8) -> Expect
@@ -111,31 +111,42 @@ fn acknowledged(mut counts: Counts) -> Counts
     counts
 }
 
-impl Listener {
-    // After a control byte.
-    fn control(self, byte: u8) -> Listener
-        requires { ⌜ self .counts .acknowledged < 2 ^ 32 ⌝ }
-        ensures { λ r. ⌜ r ≡ listenerOf (controlOf byte) (control (groupOf self [])) ⌝ }
-    {
-        let registers = self.registers;
-        let counts = self.counts;
-        Listener {
-            expect: after_control(byte),
-            registers,
-            counts: acknowledged(counts),
-        }
+// Where the data from byte i on ends: one data byte before the next byte, a run at the end, and at once if the byte is no data.
+fn data_end(expect: Expect, i: usize, next: usize, n: usize) -> usize
+    ensures { λ r. ⌜ r ≡ dataEnd expect i next n ⌝ }
+{
+    match expect {
+        Expect::Control => i,
+        Expect::OneCommand => i,
+        Expect::Commands => i,
+        Expect::OneData => next,
+        Expect::Run => n,
     }
+}
 
-    // After a command byte, with what follows it.
-    fn command(self, then: Expect, byte: u8) -> Listener
+// The registers after a control byte or a command.
+fn told_registers(expect: Expect, registers: Registers, byte: u8) -> Registers
+    ensures { λ r. ⌜ r ≡ toldRegisters expect byte registers ⌝ }
+{
+    if is_command(expect) {
+        command::obey(registers, byte)
+    } else {
+        registers
+    }
+}
+
+impl Listener {
+    // After a control byte or a command, with what follows it.
+    fn told(self, then: Expect, byte: u8) -> Listener
         requires { ⌜ self .counts .acknowledged < 2 ^ 32 ⌝ }
-        ensures { λ r. ⌜ r ≡ listenerOf then (command byte (groupOf self [])) ⌝ }
+        ensures { λ r. ⌜ r ≡ listenerOf then (told (self .expect) byte (groupOf self [])) ⌝ }
     {
+        let expect = self.expect;
         let registers = self.registers;
         let counts = self.counts;
         Listener {
             expect: then,
-            registers: command::obey(registers, byte),
+            registers: told_registers(expect, registers, byte),
             counts: acknowledged(counts),
         }
     }
@@ -166,7 +177,7 @@ pub struct Heard {
     pub counts: Counts,
 }
 
-// What a group makes of a transfer that is for it. The data run is the part after the last control byte, handed on as it is.
+// What a group makes of a transfer that is for it. Data is handed on as the part of the bytes that it is, from one place.
 pub fn hear(ram: &mut [u8], registers: Registers, bytes: &[u8]) -> Heard
     requires { ⌜ (inRange 160 4 registers ≡ true) × (length (now ram) ≤ 640) × (0 < length (now bytes)) × (length (now bytes) < 4097) × (overIn 0 (now ram) ≡ Check.Passed) ⌝ }
     ensures { λ _. ⌜ now (ram .exit) ≡ heard 160 4 Expect.Control (drop 1 (now (bytes .entry))) (begun registers (now (ram .entry))) .ram ⌝ }
@@ -185,27 +196,16 @@ pub fn hear(ram: &mut [u8], registers: Registers, bytes: &[u8]) -> Heard
     let mut i: usize = 1;
     while i < n {
         let expect = listener.expect;
-        match expect {
-            Expect::Control => {
-                listener = listener.control(bytes[i]);
-                i += 1;
-            }
-            Expect::OneCommand => {
-                listener = listener.command(Expect::Control, bytes[i]);
-                i += 1;
-            }
-            Expect::Commands => {
-                listener = listener.command(Expect::Commands, bytes[i]);
-                i += 1;
-            }
-            Expect::OneData => {
-                listener = listener.data(Expect::Control, ram, &bytes[i..i + 1]);
-                i += 1;
-            }
-            Expect::Run => {
-                listener = listener.data(Expect::Run, ram, &bytes[i..]);
-                i = n;
-            }
+        let byte = bytes[i];
+        let then = follow(expect, byte);
+        let next = i + 1;
+        let end = data_end(expect, i, next, n);
+        if i < end {
+            listener = listener.data(then, ram, &bytes[i..end]);
+            i = end;
+        } else {
+            listener = listener.told(then, byte);
+            i = next;
         }
     }
     let after = listener.registers;
