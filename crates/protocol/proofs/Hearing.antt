@@ -5,9 +5,12 @@ use mathlib.Core.List.{List, [], _∷_}
 use Prim.Native.Nat.{ℕ, suc, _+_, _-_, _*_, _/_, _≤_, _<_}
 use native.Mathlib.Nat.{le-of-suc-le-suc}
 use native.Mathlib.Omega.{arith}
+use denote.Enum.Declared.{tagOf}
+use types.Run.{OneOf, miss}
 use lib.ListN.{length, getD, take, drop, drop-of-length-le, length-drop}
 use Rattle.lemmas.proofs.Lists.{next, part-one, part-rest}
 use Rattle.sheet.specs.declared.Registers.{Registers}
+use Rattle.sheet.proofs.Expect.{the-type}
 use Rattle.sheet.specs.declared.Expect.{Expect}
 use Rattle.sheet.specs.declared.Expect.the-variants.{Control, OneCommand, Commands, OneData, Run}
 use Rattle.sheet.specs.Commands.{backplanes, bankRow}
@@ -21,7 +24,7 @@ use Rattle.laws.proofs.Steps.{stays-in}
 use Rattle.laws.proofs.Runs.{length-bits}
 use Rattle.laws.proofs.Nibbles.{Nibbles, bits-nibbles}
 use Rattle.protocol.specs.declared.Listener.{Listener}
-use Rattle.protocol.specs.Listeners.{groupOf, listenerOf, dataEnd, told, begun}
+use Rattle.protocol.specs.Listeners.{groupOf, listenerOf, dataEnd, begun}
 
 -- ---- after i bytes, with size columns
 
@@ -71,23 +74,19 @@ heard-sound e (x ∷ xs) g i size s =
     subst (λ (n : ℕ). Sound (heard 160 4 e (x ∷ xs) g) n size) {x = suc i + length xs} (omega arith)
     (heard-sound (protocol.next e x) xs (byte 160 4 e x g) (suc i) size (byte-sound e x g i size s))
 
--- ---- what the code tells apart
+-- ---- data
 
--- data ends no later than the bytes
-pub end-in : (e : Expect) (i n : ℕ) → i < n → dataEnd e i (i + 1) n ≤ n
-end-in Control i n h = omega arith
-end-in OneCommand i n h = omega arith
-end-in Commands i n h = omega arith
-end-in OneData i n h = omega arith
-end-in Run i n h = omega arith
+-- it ends after byte i and no later than the bytes
+pub ends-in : (e : Expect) (i n : ℕ) → i < n → (i < dataEnd e (i + 1) n) × (dataEnd e (i + 1) n ≤ n)
+ends-in Control i n h = (omega arith, omega arith)
+ends-in OneCommand i n h = (omega arith, omega arith)
+ends-in Commands i n h = (omega arith, omega arith)
+ends-in OneData i n h = (omega arith, omega arith)
+ends-in Run i n h = (omega arith, omega arith)
 
--- a byte that is no data
-told-byte : (e : Expect) (i n : ℕ) → i < n → dataEnd e i (i + 1) n ≤ i → (x : ℕ) (g : Group) → told e x g ≡ byte 160 4 e x g
-told-byte Control i n h past x g = refl
-told-byte OneCommand i n h past x g = refl
-told-byte Commands i n h past x g = refl
-told-byte OneData i n h past x g = absurd (omega arith)
-told-byte Run i n h past x g = absurd (omega arith)
+-- the last two kinds of byte are data
+abbrev Data : Expect → Type 0
+Data e = OneOf (3 ∷ 4 ∷ []) (tagOf the-type e)
 
 -- a run of one
 one-data : (x : ℕ) (g : Group) → heard 160 4 Run (x ∷ []) g ≡ byte 160 4 OneData x g
@@ -108,7 +107,7 @@ pub record Hearing (ram₀ bytes : List ℕ) (r : Registers) (ram : List ℕ) (l
 
 module _ (ram₀ bytes : List ℕ) (r : Registers) (ram : List ℕ) (l : Listener) (i : ℕ) (h : i < length bytes) (inv : Hearing ram₀ bytes r ram l i) where
   -- one byte, whatever it is
-  byte-turn : (e : Expect) → l .expect ≡ e → (after : List ℕ) (l′ : Listener) → l′ .expect ≡ protocol.next e (getD bytes i 0)
+  pub byte-turn : (e : Expect) → l .expect ≡ e → (after : List ℕ) (l′ : Listener) → l′ .expect ≡ protocol.next e (getD bytes i 0)
       → groupOf l′ after ≡ byte 160 4 e (getD bytes i 0) (groupOf l ram) → Hearing ram₀ bytes r after l′ (i + 1)
   unfolding heard
   byte-turn e told after l′ then g = record {
@@ -135,28 +134,22 @@ module _ (ram₀ bytes : List ℕ) (r : Registers) (ram : List ℕ) (l : Listene
   }
 
   -- data, one byte or all that are left
-  data-at : (e : Expect) → l .expect ≡ e → i < dataEnd e i (i + 1) (length bytes) → (after : List ℕ) (l′ : Listener) → l′ .expect ≡ protocol.next e (getD bytes i 0)
-      → groupOf l′ after ≡ heard 160 4 Run (take (dataEnd e i (i + 1) (length bytes) - i) (drop i bytes)) (groupOf l ram)
-      → Hearing ram₀ bytes r after l′ (dataEnd e i (i + 1) (length bytes))
-  data-at Control told some after l′ then g = absurd (omega arith)
-  data-at OneCommand told some after l′ then g = absurd (omega arith)
-  data-at Commands told some after l′ then g = absurd (omega arith)
-  data-at OneData told some after l′ then g =
+  data-at : (e : Expect) → l .expect ≡ e → Data e → (after : List ℕ) (l′ : Listener) → l′ .expect ≡ protocol.next e (getD bytes i 0)
+      → groupOf l′ after ≡ heard 160 4 Run (take (dataEnd e (i + 1) (length bytes) - i) (drop i bytes)) (groupOf l ram)
+      → Hearing ram₀ bytes r after l′ (dataEnd e (i + 1) (length bytes))
+  data-at Control told d after l′ then g = absurd (miss (3 ∷ 4 ∷ []) 0 tt d)
+  data-at OneCommand told d after l′ then g = absurd (miss (3 ∷ 4 ∷ []) 1 tt d)
+  data-at Commands told d after l′ then g = absurd (miss (3 ∷ 4 ∷ []) 2 tt d)
+  data-at OneData told d after l′ then g =
       byte-turn OneData told after l′ then
       (g ∙ ap (λ (xs : List ℕ). heard 160 4 Run xs (groupOf l ram)) (part-one bytes i h) ∙ one-data (getD bytes i 0) (groupOf l ram))
-  data-at Run told some after l′ then g = run-turn told after l′ (g ∙ ap (λ (xs : List ℕ). heard 160 4 Run xs (groupOf l ram)) (part-rest bytes i))
+  data-at Run told d after l′ then g = run-turn told after l′ (g ∙ ap (λ (xs : List ℕ). heard 160 4 Run xs (groupOf l ram)) (part-rest bytes i))
 
-  -- ---- a turn of the code
-
-  module _ (then : Expect) (follows : then ≡ protocol.next (l .expect) (getD bytes i 0)) (end : ℕ) (ends : end ≡ dataEnd (l .expect) i (i + 1) (length bytes)) where
-    pub told-turn : end ≤ i → (l′ : Listener) → l′ ≡ listenerOf then (told (l .expect) (getD bytes i 0) (groupOf l [])) → Hearing ram₀ bytes r ram l′ (i + 1)
-    told-turn none l′ e =
-        byte-turn (l .expect) refl ram l′ (ap (λ (k : Listener). k .expect) e ∙ follows)
-        (ap (λ (k : Listener). groupOf k ram) e ∙ told-byte (l .expect) i (length bytes) h (rw (sym ends) none) (getD bytes i 0) (groupOf l ram))
-
-    pub data-turn : i < end → (after : List ℕ) (l′ : Listener) → after ≡ heard 160 4 Run (take (end - i) (drop i bytes)) (groupOf l ram) .ram
-        → l′ ≡ listenerOf then (heard 160 4 Run (take (end - i) (drop i bytes)) (groupOf l ram)) → Hearing ram₀ bytes r after l′ end
-    data-turn some after l′ er el =
-        subst (λ (k : ℕ). Hearing ram₀ bytes r after l′ k) (sym ends)
-        (data-at (l .expect) refl (rw (sym ends) some) after l′ (ap (λ (k : Listener). k .expect) el ∙ follows)
-        ((λ j. record { registers = el j .registers; ram = er j; counts = el j .counts }) ∙ ap (λ (k : ℕ). heard 160 4 Run (take (k - i) (drop i bytes)) (groupOf l ram)) ends))
+  -- the same, as the code has it
+  pub data-turn : Data (l .expect) → (then : Expect) → then ≡ protocol.next (l .expect) (getD bytes i 0) → (end : ℕ) → end ≡ dataEnd (l .expect) (i + 1) (length bytes)
+      → (after : List ℕ) (l′ : Listener) → after ≡ heard 160 4 Run (take (end - i) (drop i bytes)) (groupOf l ram) .ram
+      → l′ ≡ listenerOf then (heard 160 4 Run (take (end - i) (drop i bytes)) (groupOf l ram)) → Hearing ram₀ bytes r after l′ end
+  data-turn d then follows end ends after l′ er el =
+      subst (λ (k : ℕ). Hearing ram₀ bytes r after l′ k) (sym ends)
+      (data-at (l .expect) refl d after l′ (ap (λ (k : Listener). k .expect) el ∙ follows)
+      ((λ j. record { registers = el j .registers; ram = er j; counts = el j .counts }) ∙ ap (λ (k : ℕ). heard 160 4 Run (take (k - i) (drop i bytes)) (groupOf l ram)) ends))

@@ -13,8 +13,8 @@ ghost use Rattle.sheet.specs.Checks.{overIn};
 ghost use Rattle.sheet.specs.Commands.{commandOf, defined, inRange};
 ghost use Rattle.sheet.specs.Places.{atPosition};
 ghost use Rattle.sheet.specs.Protocol.{controlOf, next, isCommand, undefinedIn};
-ghost use Rattle.sheet.specs.Long.{heard};
-ghost use Rattle.protocol.specs.Listeners.{groupOf, listenerOf, dataEnd, toldRegisters, told, begun, heardOf};
+ghost use Rattle.sheet.specs.Long.{control, command, heard};
+ghost use Rattle.protocol.specs.Listeners.{groupOf, listenerOf, dataEnd, begun, heardOf};
 
 // What follows a control byte.
 fn after_control(byte: u8) -> Expect
@@ -111,42 +111,59 @@ fn acknowledged(mut counts: Counts) -> Counts
     counts
 }
 
-// Where the data from byte i on ends: one data byte before the next byte, a run at the end, and at once if the byte is no data.
-fn data_end(expect: Expect, i: usize, next: usize, n: usize) -> usize
-    ensures { λ r. ⌜ r ≡ dataEnd expect i next n ⌝ }
+// After the address byte.
+fn begun(registers: Registers) -> Listener
+    ensures { λ r. ⌜ r ≡ listenerOf Expect.Control (begun registers []) ⌝ }
 {
-    match expect {
-        Expect::Control => i,
-        Expect::OneCommand => i,
-        Expect::Commands => i,
-        Expect::OneData => next,
-        Expect::Run => n,
+    Listener {
+        expect: Expect::Control,
+        registers,
+        counts: Counts {
+            acknowledged: 1,
+            stored: 0,
+            discarded: 0,
+        },
     }
 }
 
-// The registers after a control byte or a command.
-fn told_registers(expect: Expect, registers: Registers, byte: u8) -> Registers
-    ensures { λ r. ⌜ r ≡ toldRegisters expect byte registers ⌝ }
+// Where data of n bytes ends: a run at the end, one byte before the next.
+fn data_end(expect: Expect, next: usize, n: usize) -> usize
+    ensures { λ r. ⌜ r ≡ dataEnd expect next n ⌝ }
 {
-    if is_command(expect) {
-        command::obey(registers, byte)
-    } else {
-        registers
+    match expect {
+        Expect::Run => n,
+        Expect::OneData => next,
+        Expect::Control => next,
+        Expect::OneCommand => next,
+        Expect::Commands => next,
     }
 }
 
 impl Listener {
-    // After a control byte or a command, with what follows it.
-    fn told(self, then: Expect, byte: u8) -> Listener
+    // After a control byte.
+    fn control(self, byte: u8) -> Listener
         requires { ⌜ self .counts .acknowledged < 2 ^ 32 ⌝ }
-        ensures { λ r. ⌜ r ≡ listenerOf then (told (self .expect) byte (groupOf self [])) ⌝ }
+        ensures { λ r. ⌜ r ≡ listenerOf (controlOf byte) (control (groupOf self [])) ⌝ }
     {
-        let expect = self.expect;
+        let registers = self.registers;
+        let counts = self.counts;
+        Listener {
+            expect: after_control(byte),
+            registers,
+            counts: acknowledged(counts),
+        }
+    }
+
+    // After a command byte, with what follows it.
+    fn command(self, then: Expect, byte: u8) -> Listener
+        requires { ⌜ self .counts .acknowledged < 2 ^ 32 ⌝ }
+        ensures { λ r. ⌜ r ≡ listenerOf then (command byte (groupOf self [])) ⌝ }
+    {
         let registers = self.registers;
         let counts = self.counts;
         Listener {
             expect: then,
-            registers: told_registers(expect, registers, byte),
+            registers: command::obey(registers, byte),
             counts: acknowledged(counts),
         }
     }
@@ -177,35 +194,37 @@ pub struct Heard {
     pub counts: Counts,
 }
 
-// What a group makes of a transfer that is for it. Data is handed on as the part of the bytes that it is, from one place.
+// What a group makes of a transfer that is for it. Data is handed on as a part of the bytes, from one place, so that the call is inlined.
 pub fn hear(ram: &mut [u8], registers: Registers, bytes: &[u8]) -> Heard
     requires { ⌜ (inRange 160 4 registers ≡ true) × (length (now ram) ≤ 640) × (0 < length (now bytes)) × (length (now bytes) < 4097) × (overIn 0 (now ram) ≡ Check.Passed) ⌝ }
     ensures { λ _. ⌜ now (ram .exit) ≡ heard 160 4 Expect.Control (drop 1 (now (bytes .entry))) (begun registers (now (ram .entry))) .ram ⌝ }
     ensures { λ r. ⌜ r ≡ heardOf (heard 160 4 Expect.Control (drop 1 (now (bytes .entry))) (begun registers (now (ram .entry)))) ⌝ }
 {
     let n = bytes.len();
-    let mut listener = Listener {
-        expect: Expect::Control,
-        registers,
-        counts: Counts {
-            acknowledged: 1,
-            stored: 0,
-            discarded: 0,
-        },
-    };
+    let mut listener = begun(registers);
     let mut i: usize = 1;
     while i < n {
         let expect = listener.expect;
-        let byte = bytes[i];
-        let then = follow(expect, byte);
         let next = i + 1;
-        let end = data_end(expect, i, next, n);
-        if i < end {
-            listener = listener.data(then, ram, &bytes[i..end]);
-            i = end;
-        } else {
-            listener = listener.told(then, byte);
-            i = next;
+        match expect {
+            Expect::Control => {
+                listener = listener.control(bytes[i]);
+                i = next;
+            }
+            Expect::OneCommand => {
+                listener = listener.command(Expect::Control, bytes[i]);
+                i = next;
+            }
+            Expect::Commands => {
+                listener = listener.command(Expect::Commands, bytes[i]);
+                i = next;
+            }
+            _ => {
+                let then = follow(expect, bytes[i]);
+                let end = data_end(expect, next, n);
+                listener = listener.data(then, ram, &bytes[i..end]);
+                i = end;
+            }
         }
     }
     let after = listener.registers;
