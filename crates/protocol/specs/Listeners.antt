@@ -2,6 +2,7 @@
 use mathlib.Core.List.{List}
 use Prim.Native.Nat.{ℕ}
 use Rattle.sheet.specs.declared.Expect.{Expect}
+use Rattle.sheet.specs.declared.Expect.the-variants.{Control, OneCommand, Commands, OneData, Run}
 use Rattle.sheet.specs.declared.Registers.{Registers}
 use Rattle.sheet.specs.Long.{Group, acknowledged, nothing}
 use Rattle.protocol.specs.declared.Listener.{Listener}
@@ -19,3 +20,11 @@ begun r ram = record { registers = r; ram = ram; counts = acknowledged nothing }
 
 abbrev pub heardOf : Group → Heard
 heardOf g = record { registers = g .registers; counts = g .counts }
+
+-- where data of n bytes ends: a run at the end, one byte before the next byte j
+abbrev pub dataEnd : Expect → ℕ → ℕ → ℕ
+dataEnd Control j n = j
+dataEnd OneCommand j n = j
+dataEnd Commands j n = j
+dataEnd OneData j n = j
+dataEnd Run j n = n

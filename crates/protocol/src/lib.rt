@@ -9,11 +9,12 @@ ghost use mathlib.Core.Bool.{true, _&&_, not};
 ghost use mathlib.Core.List.{[]};
 ghost use Prim.Native.Nat.{_+_, _≤_, _<_, _^_};
 ghost use lib.ListN.{length, drop};
+ghost use Rattle.sheet.specs.Checks.{overIn};
 ghost use Rattle.sheet.specs.Commands.{commandOf, defined, inRange};
 ghost use Rattle.sheet.specs.Places.{atPosition};
 ghost use Rattle.sheet.specs.Protocol.{controlOf, next, isCommand, undefinedIn};
 ghost use Rattle.sheet.specs.Long.{control, command, heard};
-ghost use Rattle.protocol.specs.Listeners.{groupOf, listenerOf, begun, heardOf};
+ghost use Rattle.protocol.specs.Listeners.{groupOf, listenerOf, dataEnd, begun, heardOf};
 
 // What follows a control byte.
 fn after_control(byte: u8) -> Expect
@@ -110,6 +111,34 @@ fn acknowledged(mut counts: Counts) -> Counts
     counts
 }
 
+// After the address byte.
+fn begun(registers: Registers) -> Listener
+    ensures { λ r. ⌜ r ≡ listenerOf Expect.Control (begun registers []) ⌝ }
+{
+    Listener {
+        expect: Expect::Control,
+        registers,
+        counts: Counts {
+            acknowledged: 1,
+            stored: 0,
+            discarded: 0,
+        },
+    }
+}
+
+// Where data of n bytes ends: a run at the end, one byte before the next.
+fn data_end(expect: Expect, next: usize, n: usize) -> usize
+    ensures { λ r. ⌜ r ≡ dataEnd expect next n ⌝ }
+{
+    match expect {
+        Expect::Run => n,
+        Expect::OneData => next,
+        Expect::Control => next,
+        Expect::OneCommand => next,
+        Expect::Commands => next,
+    }
+}
+
 impl Listener {
     // After a control byte.
     fn control(self, byte: u8) -> Listener
@@ -141,7 +170,7 @@ impl Listener {
 
     // After a run of data bytes, with what follows it.
     fn data(self, then: Expect, ram: &mut [u8], run: &[u8]) -> Listener
-        requires { ⌜ (inRange 160 4 (self .registers) ≡ true) × (length (now ram) ≤ 640) × (length (now run) < 65536) × (self .counts .acknowledged < 2 ^ 32) × (self .counts .stored < 2 ^ 32) × (self .counts .discarded < 2 ^ 32) ⌝ }
+        requires { ⌜ (inRange 160 4 (self .registers) ≡ true) × (length (now ram) ≤ 640) × (length (now run) < 65536) × (self .counts .acknowledged < 2 ^ 32) × (self .counts .stored < 2 ^ 32) × (self .counts .discarded < 2 ^ 32) × (overIn 0 (now ram) ≡ Check.Passed) ⌝ }
         ensures { λ _. ⌜ now (ram .exit) ≡ heard 160 4 Expect.Run (now (run .entry)) (groupOf self (now (ram .entry))) .ram ⌝ }
         ensures { λ r. ⌜ r ≡ listenerOf then (heard 160 4 Expect.Run (now (run .entry)) (groupOf self (now (ram .entry)))) ⌝ }
     {
@@ -165,45 +194,36 @@ pub struct Heard {
     pub counts: Counts,
 }
 
-// What a group makes of a transfer that is for it. The data run is the part after the last control byte, handed on as it is.
+// What a group makes of a transfer that is for it. Data is handed on as a part of the bytes, from one place, so that the call is inlined.
 pub fn hear(ram: &mut [u8], registers: Registers, bytes: &[u8]) -> Heard
-    requires { ⌜ (inRange 160 4 registers ≡ true) × (length (now ram) ≤ 640) × (0 < length (now bytes)) × (length (now bytes) < 4097) ⌝ }
+    requires { ⌜ (inRange 160 4 registers ≡ true) × (length (now ram) ≤ 640) × (0 < length (now bytes)) × (length (now bytes) < 4097) × (overIn 0 (now ram) ≡ Check.Passed) ⌝ }
     ensures { λ _. ⌜ now (ram .exit) ≡ heard 160 4 Expect.Control (drop 1 (now (bytes .entry))) (begun registers (now (ram .entry))) .ram ⌝ }
     ensures { λ r. ⌜ r ≡ heardOf (heard 160 4 Expect.Control (drop 1 (now (bytes .entry))) (begun registers (now (ram .entry)))) ⌝ }
 {
     let n = bytes.len();
-    let mut listener = Listener {
-        expect: Expect::Control,
-        registers,
-        counts: Counts {
-            acknowledged: 1,
-            stored: 0,
-            discarded: 0,
-        },
-    };
+    let mut listener = begun(registers);
     let mut i: usize = 1;
     while i < n {
         let expect = listener.expect;
+        let next = i + 1;
         match expect {
             Expect::Control => {
                 listener = listener.control(bytes[i]);
-                i += 1;
+                i = next;
             }
             Expect::OneCommand => {
                 listener = listener.command(Expect::Control, bytes[i]);
-                i += 1;
+                i = next;
             }
             Expect::Commands => {
                 listener = listener.command(Expect::Commands, bytes[i]);
-                i += 1;
+                i = next;
             }
-            Expect::OneData => {
-                listener = listener.data(Expect::Control, ram, &bytes[i..i + 1]);
-                i += 1;
-            }
-            Expect::Run => {
-                listener = listener.data(Expect::Run, ram, &bytes[i..]);
-                i = n;
+            _ => {
+                let then = follow(expect, bytes[i]);
+                let end = data_end(expect, next, n);
+                listener = listener.data(then, ram, &bytes[i..end]);
+                i = end;
             }
         }
     }

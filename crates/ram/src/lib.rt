@@ -4,7 +4,9 @@ ghost use mathlib.Core.Path.{_≡_};
 ghost use Prim.Native.Nat.{_+_, _-_, _*_, _/_, _%_, _≤_, _<_, _^_};
 ghost use lib.ListN.{length};
 ghost use Rattle.sheet.specs.Commands.{bankRow};
+ghost use Rattle.sheet.specs.Checks.{overIn};
 ghost use Rattle.sheet.specs.Data.{changed, putBits, putRun, countedRun};
+ghost use Rattle.sheet.specs.declared.Check.the-variants.{Passed};
 ghost use Rattle.ram.specs.Fields.{withRows, field};
 
 // A nibble's bits in the other order.
@@ -145,7 +147,7 @@ fn counted(counts: Counts, v: usize, size: usize, m: usize, n: usize) -> Counts
 
 // Writes a run of data bytes from column v on, and counts it.
 pub fn run(ram: &mut [u8], v: usize, m: usize, bank: u8, bytes: &[u8], counts: Counts) -> Counts
-    requires { ⌜ (0 < m) × (m < 5) × (bank < 2) × (v < 65536) × (length (now bytes) < 65536) × (counts .acknowledged < 2 ^ 32) × (counts .stored < 2 ^ 32) × (counts .discarded < 2 ^ 32) ⌝ }
+    requires { ⌜ (0 < m) × (m < 5) × (bank < 2) × (v < 65536) × (length (now bytes) < 65536) × (counts .acknowledged < 2 ^ 32) × (counts .stored < 2 ^ 32) × (counts .discarded < 2 ^ 32) × (overIn 0 (now ram) ≡ Passed) ⌝ }
     ensures { λ _. ⌜ now (ram .exit) ≡ putRun m (bankRow m bank) v (now (bytes .entry)) (now (ram .entry)) ⌝ }
     ensures { λ r. ⌜ r ≡ countedRun (length (now (bytes .entry))) m v (length (now (ram .entry))) counts ⌝ }
 {

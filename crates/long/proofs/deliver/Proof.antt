@@ -7,11 +7,12 @@ use denote.Ref.{now}
 use Rattle.sheet.specs.declared.Registers.{Registers}
 use Rattle.sheet.specs.declared.Answer.{Answer}
 use Rattle.sheet.specs.declared.Expect.the-variants.{Control}
+use Rattle.sheet.specs.Checks.{overIn}
 use Rattle.sheet.specs.Long.{Group, acknowledged, nothing, heard, replaced}
 use Rattle.laws.proofs.Ranges.{in-range}
 use Rattle.laws.proofs.Fits.{fits-of}
 use Rattle.protocol.specs.Listeners.{heardOf}
-use Rattle.long.proofs.Parts.{part-in, part-ends, part-few, part-long, part-taken, put-back}
+use Rattle.long.proofs.Parts.{part-in, part-ends, part-few, part-long, part-passes, part-taken, put-back}
 use borrow.Author.Needs.{needs}
 use Rattle.long.proofs.deliver.Statement.{statement}
 use Rattle.long.proofs.deliver.Tie as tie
@@ -41,7 +42,7 @@ hear-requires c κs = let s = c .before .before .before .before .before .before 
     let a = s .args in
     let f = fits-of 160 4 (a .chips) (a .registers) (now (a .ram)) (s .pre .0) in
     let part = part-taken (a .chips) (a .registers) (now (a .ram)) (a .group) f (c .before .before .before .start-of .result) (c .before .before .end-of .result) (c .before .before .before .start-of .ensures) (c .before .before .end-of .ensures) in
-    (rw (c .before .registers-of .ensures) (in-range 160 4 _ (part-in (a .chips) (a .registers) (now (a .ram)) (a .group) f)), omega (arith, ap length part, part-long (a .chips) (a .registers) (now (a .ram)) (a .group) f, part-few (a .chips) (a .registers) (now (a .ram)) (a .group) f), s .pre .1, s .pre .2)
+    (rw (c .before .registers-of .ensures) (in-range 160 4 _ (part-in (a .chips) (a .registers) (now (a .ram)) (a .group) f)), omega (arith, ap length part, part-long (a .chips) (a .registers) (now (a .ram)) (a .group) f, part-few (a .chips) (a .registers) (now (a .ram)) (a .group) f), s .pre .1, s .pre .2, ap (overIn 0) part ∙ part-passes (a .chips) (a .registers) (now (a .ram)) (a .group) f)
 
 replaced-requires : tie.Need-replaced-requires
 replaced-requires c κs = search needs

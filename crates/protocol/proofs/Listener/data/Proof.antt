@@ -47,7 +47,7 @@ run-requires c κs = let s = c .before .before .before .before .before .before .
     let h = range-of 160 4 r (s .pre .0) in
     let fit = rows-fit r (r .i) (h .m-in) (h .i-in) in
     let em = c .before .before .before .backplanes .ensures in
-    (rw em (fit .0), omega (arith, em, fit .1), h .i-in, omega (arith, h .a-in, h .p-in), s .pre .2, s .pre .3, s .pre .4, s .pre .5)
+    (rw em (fit .0), omega (arith, em, fit .1), h .i-in, omega (arith, h .a-in, h .p-in), s .pre .2, s .pre .3, s .pre .4, s .pre .5, s .pre .6)
 
 moved-requires : tie.Need-moved-requires
 moved-requires c κs = search needs
