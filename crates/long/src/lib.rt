@@ -11,19 +11,13 @@ use sheet::Refusal;
 use sheet::Registers;
 use sheet::Transferred;
 ghost use mathlib.Core.Path.{_≡_};
-ghost use Prim.Native.Nat.{_*_, _<_, _≤_};
+ghost use Prim.Native.Nat.{_*_, _<_};
 ghost use lib.ListN.{length, getD};
 ghost use Rattle.sheet.specs.Protocol.{heardBy};
-ghost use Rattle.sheet.specs.Checks.{orElse, unless, chipsIn, checkChips, checkRegisters, checkRam, checkLength, checkCommands, checkState, checkTransfer, checkPicture};
+ghost use Rattle.sheet.specs.Checks.{unless, chipsIn, checkRegisters, checkRam, checkCommands, checkState, checkTransfer, checkPicture};
 ghost use Rattle.sheet.specs.Long.{nothing, registersOf, replaced, startOf, endOf, taken, powerOnCall, transferCall, pictureCall};
 
 // ---- the checks, in the order of their numbers in each call
-
-fn check_chips(chips: Chips) -> Check
-    ensures { λ r. ⌜ r ≡ checkChips 4 chips ⌝ }
-{
-    checks::unless((chips.zero <= 4) & (chips.one <= 4), Refusal::ChipCount)
-}
 
 fn check_registers(registers: Both) -> Check
     ensures { λ r. ⌜ r ≡ checkRegisters 160 4 registers ⌝ }
@@ -48,13 +42,13 @@ fn check_ram(chips: Chips, ram: &[u8]) -> Check
 fn check_state(chips: Chips, registers: Both, ram: &[u8]) -> Check
     ensures { λ r. ⌜ r ≡ checkState 160 4 chips registers (now (ram .entry)) ⌝ }
 {
-    let counts = check_chips(chips);
+    let counts = checks::check_chips(chips);
     let ranges = check_registers(registers);
     let columns = check_ram(chips, ram);
     checks::or_else(counts, checks::or_else(ranges, columns))
 }
 
-// The group that hears an address byte.
+// The group that hears an address byte. An empty transfer has none, and the 0 that stands for it is nobody's.
 fn heard_by(chips: Chips, address: u8) -> Addressed
     ensures { λ r. ⌜ r ≡ heardBy chips address ⌝ }
 {
@@ -67,17 +61,10 @@ fn heard_by(chips: Chips, address: u8) -> Addressed
     Addressed::Nobody
 }
 
-// Byte 0; an empty transfer has none, and 0 is nobody's address.
-fn address_of(bytes: &[u8]) -> u8
-    ensures { λ r. ⌜ r ≡ getD (now (bytes .entry)) 0 0 ⌝ }
-{
-    if 0 < bytes.len() { bytes[0] } else { 0 }
-}
-
 fn check_commands(chips: Chips, bytes: &[u8]) -> Check
     ensures { λ r. ⌜ r ≡ checkCommands (heardBy chips (getD (now (bytes .entry)) 0 0)) (now (bytes .entry)) ⌝ }
 {
-    match heard_by(chips, address_of(bytes)) {
+    match heard_by(chips, checks::byte_at(bytes, 0)) {
         Addressed::To(_) => protocol::first_undefined(bytes),
         Addressed::Nobody => Check::Passed,
     }
@@ -158,7 +145,7 @@ fn end_of(chips: Chips, group: u8) -> usize
 pub fn power_on(chips: Chips, ram: &[u8]) -> PowerOn
     ensures { λ r. ⌜ r ≡ powerOnCall 160 4 chips (now (ram .entry)) ⌝ }
 {
-    let counts = check_chips(chips);
+    let counts = checks::check_chips(chips);
     let columns = check_ram(chips, ram);
     let check = checks::or_else(counts, columns);
     let registers = Both {
@@ -209,7 +196,7 @@ pub fn transfer(chips: Chips, registers: Both, ram: &mut [u8], bytes: &[u8]) -> 
             answer: Answer::Refused(refusal),
             registers,
         },
-        Check::Passed => match heard_by(chips, address_of(bytes)) {
+        Check::Passed => match heard_by(chips, checks::byte_at(bytes, 0)) {
             Addressed::To(group) => deliver(chips, registers, ram, bytes, group),
             Addressed::Nobody => unheard(registers),
         },

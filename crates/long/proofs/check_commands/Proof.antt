@@ -9,8 +9,8 @@ use borrow.Author.Needs.{needs}
 use Rattle.long.proofs.check_commands.Statement.{statement}
 use Rattle.long.proofs.check_commands.Tie as tie
 
-address-of-requires : tie.Need-address-of-requires
-address-of-requires c κs = search needs
+byte-at-requires : tie.Need-byte-at-requires
+byte-at-requires c κs = search needs
 
 heard-by-requires : tie.Need-heard-by-requires
 heard-by-requires c κs = search needs
@@ -27,18 +27,18 @@ enum-told-2 c = search needs
 returns : tie.Need-returns
 returns c = let a = c .before .before .before .before .before .before .args in
     c .first-undefined .ensures
-    ∙ sym (ap (λ (k : Addressed). checkCommands k (now (a .bytes))) (sym (c .before .before .before .heard-by .ensures ∙ ap (heardBy (a .chips)) (c .before .before .before .before .address-of .ensures)) ∙ c .before .enum-told .given .1))
+    ∙ sym (ap (λ (k : Addressed). checkCommands k (now (a .bytes))) (sym (c .before .before .before .heard-by .ensures ∙ ap (heardBy (a .chips)) (c .before .before .before .before .byte-at .ensures)) ∙ c .before .enum-told .given .1))
 
 returns-2 : tie.Need-returns-2
 returns-2 c =
     let a = c .before .before .before .before .before .args in
-    sym (ap (λ (k : Addressed). checkCommands k (now (a .bytes))) (sym (c .before .before .heard-by .ensures ∙ ap (heardBy (a .chips)) (c .before .before .before .address-of .ensures)) ∙ c .enum-told2 .given .1))
+    sym (ap (λ (k : Addressed). checkCommands k (now (a .bytes))) (sym (c .before .before .heard-by .ensures ∙ ap (heardBy (a .chips)) (c .before .before .before .byte-at .ensures)) ∙ c .enum-told2 .given .1))
 
 pub check-commands-spec : {M : Type 1} → statement M
 check-commands-spec =
     tie.close
     (tie.spec
-    address-of-requires
+    byte-at-requires
     heard-by-requires
     enum-told
     first-undefined-requires

@@ -21,8 +21,8 @@ enum-known-refusal c = search needs
 enum-told : tie.Need-enum-told
 enum-told c = search needs
 
-address-of-requires : tie.Need-address-of-requires
-address-of-requires c κs = search needs
+byte-at-requires : tie.Need-byte-at-requires
+byte-at-requires c κs = search needs
 
 heard-by-requires : tie.Need-heard-by-requires
 heard-by-requires c κs = search needs
@@ -58,7 +58,7 @@ returns-2 : tie.Need-returns-2
 unfolding transferCall
 returns-2 c = let a = c .before .before .before .before .before .before .before .before .before .before .before .before .before .before .before .args in
     let told = sym (c .before .before .before .before .before .before .before .before .before .before .before .check-transfer .ensures) ∙ c .before .before .before .before .before .before .before .before .before .enum-told .given .1 in
-    let heard = sym (c .before .before .before .before .before .before .before .heard-by .ensures ∙ ap (heardBy (a .chips)) (c .before .before .before .before .before .before .before .before .address-of .ensures)) ∙ c .before .before .before .before .before .group .given .1 in
+    let heard = sym (c .before .before .before .before .before .before .before .heard-by .ensures ∙ ap (heardBy (a .chips)) (c .before .before .before .before .before .before .before .before .byte-at .ensures)) ∙ c .before .before .before .before .before .group .given .1 in
     let e = ap (λ (k : Check). answered k (a .registers) (now (a .ram)) (taken 160 4 (a .chips) (a .registers) (now (a .ram)) (now (a .bytes)) (heardBy (a .chips) (getD (now (a .bytes)) 0 0)))) told
     ∙ ap (λ (k : Addressed). taken 160 4 (a .chips) (a .registers) (now (a .ram)) (now (a .bytes)) k) heard in
     (c .before .before .deliver .ensures .0 ∙ sym (ap (λ (t : After). t .ram) e), c .before .before .deliver .ensures .1 ∙ sym (ap (λ (t : After). t .result) e))
@@ -70,7 +70,7 @@ returns-3 : tie.Need-returns-3
 unfolding transferCall
 returns-3 c = let a = c .before .before .before .before .before .before .before .before .before .before .before .args in
     let told = sym (c .before .before .before .before .before .before .before .check-transfer .ensures) ∙ c .before .before .before .before .before .enum-told .given .1 in
-    let heard = sym (c .before .before .before .heard-by .ensures ∙ ap (heardBy (a .chips)) (c .before .before .before .before .address-of .ensures)) ∙ c .before .enum-told2 .given .1 in
+    let heard = sym (c .before .before .before .heard-by .ensures ∙ ap (heardBy (a .chips)) (c .before .before .before .before .byte-at .ensures)) ∙ c .before .enum-told2 .given .1 in
     let e = ap (λ (k : Check). answered k (a .registers) (now (a .ram)) (taken 160 4 (a .chips) (a .registers) (now (a .ram)) (now (a .bytes)) (heardBy (a .chips) (getD (now (a .bytes)) 0 0)))) told
     ∙ ap (λ (k : Addressed). taken 160 4 (a .chips) (a .registers) (now (a .ram)) (now (a .bytes)) k) heard in
     (sym (ap (λ (t : After). t .ram) e), c .unheard .ensures ∙ sym (ap (λ (t : After). t .result) e))
@@ -82,7 +82,7 @@ transfer-spec =
     check-transfer-requires
     enum-known-refusal
     enum-told
-    address-of-requires
+    byte-at-requires
     heard-by-requires
     enum-known-group
     deliver-requires
