@@ -1,7 +1,10 @@
--- Several rows of a column and several bits of a byte at once: what the functions that write a whole column promise.
--- `proofs/Fields.antt` proves them equal to the single rows and bits of `sheet`.
-use Prim.Native.Nat.{ℕ, zero, suc, _+_, _*_, _/_, _%_, _^_}
-use Rattle.sheet.specs.Data.{bitOf}
+-- Several rows of a column, several bits of a byte and several columns at once: what the functions that write whole columns promise.
+-- `proofs/Fields.antt` and `proofs/Words.antt` prove them equal to the single rows and bits of `sheet`.
+use Prim.Native.Nat.{ℕ, zero, suc, _+_, _*_, _/_, _%_, _^_, _<_}
+use mathlib.Core.Path.{_≡_}
+use mathlib.Core.List.{List}
+use lib.Bits.{bitAnd, bitXor}
+use Rattle.sheet.specs.Data.{bitOf, changed}
 
 -- rows b to b + h - 1 of a column made the binary digits of f, the other rows kept
 unfoldable pub withRows : ℕ → ℕ → ℕ → ℕ → ℕ
@@ -11,3 +14,25 @@ withRows b h f q = q / 2 ^ (b + h) * 2 ^ (b + h) + (f * 2 ^ b + q % 2 ^ b)
 unfoldable pub field : ℕ → ℕ → ℕ → ℕ
 field x k zero = 0
 field x k (suc h) = field x k h + bitOf x (k + h) * 2 ^ h
+
+-- a word holds a column a byte, the first lowest: column j of it
+unfoldable pub columnOf : ℕ → ℕ → ℕ
+columnOf w j = w / 2 ^ (8 * j) % 256
+
+-- the word of the first n of the columns q
+unfoldable pub joined : ℕ → (ℕ → ℕ) → ℕ
+joined zero q = 0
+joined (suc n) q = joined n (λ j. q (suc j)) * 256 + q 0
+
+-- a column with the rows in r made those of t, the other rows kept
+unfoldable pub mixed : ℕ → ℕ → ℕ → ℕ
+mixed r t q = bitXor q (bitAnd (bitXor q t) r)
+
+-- n columns from v on, each with the rows in its column of the word r made those of t
+unfoldable pub merged : ℕ → ℕ → ℕ → ℕ → List ℕ → List ℕ
+merged zero r t v ram = ram
+merged (suc n) r t v ram = changed (mixed (columnOf r n) (columnOf t n)) (v + n) (merged n r t v ram)
+
+-- four columns of a byte in a word, from its column k on, each in both banks: 5 is row 0 and row 2
+abbrev pub Spread : ℕ → ℕ → ℕ → ℕ → Type 0
+Spread m x k w = (j : ℕ) → j < 4 → columnOf w j ≡ 5 * field x (m * (k + j)) m

@@ -1,39 +1,50 @@
--- `ram::four_byte` meets its contract: two columns of four rows.
+-- `ram::four_byte` meets its contract: two columns of four rows, all of them new.
 -- Assumes nothing.
-use mathlib.Core.Path.{refl}
+use mathlib.Core.Path.{_≡_, refl, sym, ap, _∙_, subst}
+use mathlib.Core.List.{List}
+use Prim.Native.Nat.{ℕ, _+_, _/_, _%_, _<_}
 use native.Mathlib.Omega.{arith}
+use lib.ListN.{set, getD, length-set}
 use denote.Ref.{now}
+use Rattle.sheet.specs.Data.{changed, putBits}
+use Rattle.laws.proofs.Nibbles.{Nibbles, nibbles-of, bits-nibbles}
 use Rattle.ram.specs.Fields.{withRows}
 use Rattle.ram.proofs.Bytes.{first, later}
 use borrow.Author.Needs.{needs}
 use Rattle.ram.proofs.four_byte.Statement.{statement}
 use Rattle.ram.proofs.four_byte.Tie as tie
 
+-- of a column below 16 nothing is left
+overwritten : (c f : ℕ) (ram : List ℕ) → Nibbles ram → set ram c f ≡ changed (withRows 0 4 f) c ram
+unfolding changed withRows
+overwritten c f ram w = ap (λ (q : ℕ). set ram c q) (omega (arith, w c))
+
 reversed-requires : tie.Need-reversed-requires
 reversed-requires c κs = search needs
 
-put-requires : tie.Need-put-requires
-put-requires c κs = search needs
+slice-write-ram : tie.Need-slice-write-ram
+slice-write-ram c = search needs
 
-add-put : tie.Need-add-put
-add-put c = search needs
+add-ram : tie.Need-add-ram
+add-ram c = search needs
 
-put-requires-2 : tie.Need-put-requires-2
-put-requires-2 c κs = search needs
+slice-write-ram-2 : tie.Need-slice-write-ram-2
+slice-write-ram-2 c = simp length-set (omega arith)
 
 same-length : tie.Need-same-length
 same-length c = search needs
 
 returns : tie.Need-returns
-unfolding withRows
-returns c = let s = c .before .before .before .before .before .before .before .before .before .before in
-    let a = s .args in
-    let y = c .before .before .before .before .before .before .before .before .reversed in
-    let column0 = c .before .before .before .before .before .before .put in
-    let column1 = c .before .before .put2 in
-    let e0 = first 4 0 (a .x) (a .at) (y .result) (now (a .ram)) (y .ensures) 4 4 _ (omega arith) refl (column0 .ensures) in
-    later 4 0 (a .x) (a .at) (y .result) (now (a .ram)) (y .ensures) 1 4 0 _ _ (omega arith) refl e0 (column1 .ensures)
+returns c = let a = c .before .before .args in
+    let ram = now (a .ram) in
+    let y = c .reversed .result in
+    let w : Nibbles ram = nibbles-of 0 ram (c .before .before .pre .1) in
+    let e0 : set ram (a .at) (y % 16) ≡ putBits 4 4 0 (a .at) (a .x) ram =
+    first 4 0 (a .x) (a .at) y ram (c .reversed .ensures) 4 4 _ (omega arith) refl (overwritten (a .at) (y % 16) ram w) in
+    let w1 : Nibbles (set ram (a .at) (y % 16)) = subst Nibbles (sym e0) (bits-nibbles 4 4 0 (a .at) (a .x) ram (omega arith) (omega arith) w) in
+    later 4 0 (a .x) (a .at) y ram (c .reversed .ensures) 1 4 0 _ _ (omega arith) refl e0 (overwritten (a .at + 1) (y / 16 % 16) (set ram (a .at) (y % 16)) w1)
 
 pub four-byte-spec : {M : Type 1} → statement M
 four-byte-spec =
-    tie.close (tie.spec reversed-requires put-requires add-put put-requires-2 same-length returns)
+    tie.close
+    (tie.spec reversed-requires slice-write-ram add-ram slice-write-ram-2 same-length returns)

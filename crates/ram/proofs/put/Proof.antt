@@ -1,19 +1,18 @@
 -- `ram::put` meets its contract: the new column is a byte, since high divides 256.
 -- Assumes nothing.
-use mathlib.Core.Path.{_≡_, sym}
+use mathlib.Core.Path.{_≡_}
 use Prim.Native.Nat.{ℕ, _+_, _*_, _/_, _%_, _≤_, _<_}
 use native.Mathlib.Omega.{arith}
 use native.Mathlib.Nat.{mod-lt, div-add-mod', div-lt-iff-lt-mul}
 use lib.Arith.{digits-lt}
 use lib.ListN.{getD}
 use denote.Ref.{now}
-use lib.Seq.{set-out}
 use Rattle.sheet.specs.Data.{changed}
+use Rattle.ram.proofs.put.Reads as reads
+use Rattle.ram.proofs.put.Lts as lts
 use borrow.Author.Needs.{needs}
 use Rattle.ram.proofs.put.Statement.{statement}
 use Rattle.ram.proofs.put.Tie as tie
-use Rattle.ram.proofs.put.Reads as reads
-use Rattle.ram.proofs.put.Lts as lts
 
 new-lt : (q low high f : ℕ) → q < 256 → 0 < low → f * low + low ≤ high → 256 % high ≡ 0 → q / high * high + (f * low + q % low) < 256
 new-lt q low high f hq hl hh hd =
@@ -23,12 +22,12 @@ new-lt q low high f hq hl hh hd =
     omega (arith, e, hd, digits-lt d l)
 
 whole : (c : lts.After-slice-known reads.Pre reads.Post) →
-    let a = c .before .before .args in
+    let a = c .before .args in
     let q = getD (now (a .ram)) (a .at) 0 in
     q / a .high * a .high + (a .f * a .low + q % a .low) < 256
 whole c =
-    let s = c .before .before in
-    new-lt (getD (now (s .args .ram)) (s .args .at) 0) (s .args .low) (s .args .high) (s .args .f) (c .slice-known .given (s .args .at) .fits) (s .pre .0) (s .pre .1) (s .pre .2)
+    let s = c .before in
+    new-lt (getD (now (s .args .ram)) (s .args .at) 0) (s .args .low) (s .args .high) (s .args .f) (c .slice-known .given (s .args .at) .fits) (s .pre .1) (s .pre .2) (s .pre .3)
 
 slice-read-q : tie.Need-slice-read-q
 slice-read-q c = search needs
@@ -61,10 +60,6 @@ returns : tie.Need-returns
 unfolding changed
 returns c = search needs
 
-returns-2 : tie.Need-returns-2
-unfolding changed
-returns-2 c = sym (set-out _ _ _ (c .if1 .left))
-
 pub put-spec : {M : Type 1} → statement M
 put-spec =
     tie.close
@@ -78,5 +73,4 @@ put-spec =
     add-ram-2
     slice-write-ram
     same-length
-    returns
-    returns-2)
+    returns)

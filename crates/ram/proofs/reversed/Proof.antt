@@ -1,10 +1,10 @@
 -- `ram::reversed` meets its contract: computed for each of the 256 bytes.
 -- Assumes nothing.
-use mathlib.Core.List.{List, [], _∷_}
+use mathlib.Core.Path.{_≡_}
 use mathlib.Core.Bool.{Bool, _&&_}
 use Prim.Native.Nat.{ℕ, _+_, _*_, _/_, _%_, _<_}
 use native.Mathlib.Omega.{arith}
-use lib.ListN.{getD}
+use lib.Bits.{bitAnd}
 use lib.Dec.{eqb, eqb→eq, ltb, ltb→lt}
 use Rattle.lemmas.proofs.Tests.{all-at, and-left, and-right}
 use Rattle.ram.specs.Fields.{field}
@@ -12,50 +12,54 @@ use borrow.Author.Needs.{needs}
 use Rattle.ram.proofs.reversed.Statement.{statement}
 use Rattle.ram.proofs.reversed.Tie as tie
 
-unfoldable turned : ℕ → ℕ
-turned x =
-    let table : List ℕ = 0 ∷ 8 ∷ 4 ∷ 12 ∷ 2 ∷ 10 ∷ 6 ∷ 14 ∷ 1 ∷ 9 ∷ 5 ∷ 13 ∷ 3 ∷ 11 ∷ 7 ∷ 15 ∷ [] in
-    16 * getD table (x % 16) 0 + getD table (x / 16) 0
+unfoldable pairs : ℕ → ℕ
+pairs x = bitAnd x 51 * 4 + bitAnd (x / 4) 51
+
+unfoldable nibbles : ℕ → ℕ
+nibbles x = bitAnd (pairs x) 85 * 2 + bitAnd (pairs x / 2) 85
 
 unfoldable right : ℕ → Bool
-right x = ltb (turned x) 256 && eqb (turned x) (field x 0 8)
+right x = ltb (pairs x) 256 && (ltb (nibbles x) 256 && eqb (nibbles x % 16 * 16 + nibbles x / 16) (field x 0 8))
 
-turned-lt : (x : ℕ) → x < 256 → turned x < 256
-unfolding right turned field
-turned-lt x h = ltb→lt (turned x) 256 (and-left (ltb (turned x) 256) _ (all-at 256 right tt x h))
+pairs-lt : (x : ℕ) → x < 256 → pairs x < 256
+unfolding right pairs nibbles field
+pairs-lt x h = ltb→lt (pairs x) 256 (and-left (ltb (pairs x) 256) (ltb (nibbles x) 256 && eqb (nibbles x % 16 * 16 + nibbles x / 16) (field x 0 8)) (all-at 256 right tt x h))
 
-cast-low : tie.Need-cast-low
-cast-low c = search needs
+others : (x : ℕ) → x < 256 → (nibbles x < 256) × (nibbles x % 16 * 16 + nibbles x / 16 ≡ field x 0 8)
+unfolding right pairs nibbles field
+others x h =
+    let e = and-right (ltb (pairs x) 256) (ltb (nibbles x) 256 && eqb (nibbles x % 16 * 16 + nibbles x / 16) (field x 0 8)) (all-at 256 right tt x h) in (
+      ltb→lt (nibbles x) 256 (and-left (ltb (nibbles x) 256) (eqb (nibbles x % 16 * 16 + nibbles x / 16) (field x 0 8)) e),
+      eqb→eq (nibbles x % 16 * 16 + nibbles x / 16) (field x 0 8) (and-right (ltb (nibbles x) 256) (eqb (nibbles x % 16 * 16 + nibbles x / 16) (field x 0 8)) e),
+    )
 
-cast-high : tie.Need-cast-high
-cast-high c = search needs
+mul-pairs : tie.Need-mul-pairs
+unfolding pairs
+mul-pairs c = omega (arith, pairs-lt (c .args .x) (c .fits .x .fits))
 
-array-read-result : tie.Need-array-read-result
-array-read-result c = search needs
+add-pairs : tie.Need-add-pairs
+unfolding pairs
+add-pairs c = omega (arith, pairs-lt (c .args .x) (c .fits .x .fits))
+
+mul-nibbles : tie.Need-mul-nibbles
+unfolding pairs nibbles
+mul-nibbles c = omega (arith, others (c .args .x) (c .fits .x .fits) .0)
+
+add-nibbles : tie.Need-add-nibbles
+unfolding pairs nibbles
+add-nibbles c = omega (arith, others (c .args .x) (c .fits .x .fits) .0)
 
 mul-result : tie.Need-mul-result
-unfolding turned
-mul-result c = omega (arith, turned-lt (c .args .x) (c .fits .x .fits))
-
-array-read-result-2 : tie.Need-array-read-result-2
-array-read-result-2 c = search needs
+mul-result c = search needs
 
 add-result : tie.Need-add-result
-unfolding turned
-add-result c = omega (arith, turned-lt (c .args .x) (c .fits .x .fits))
+unfolding pairs nibbles
+add-result c = omega (arith, others (c .args .x) (c .fits .x .fits) .0)
 
 returns : tie.Need-returns
-unfolding right turned field
-returns c = eqb→eq (turned (c .args .x)) (field (c .args .x) 0 8) (and-right (ltb (turned (c .args .x)) 256) _ (all-at 256 right tt (c .args .x) (c .fits .x .fits)))
+unfolding pairs nibbles
+returns c = others (c .args .x) (c .fits .x .fits) .1
 
 pub reversed-spec : {M : Type 1} → statement M
 reversed-spec =
-    tie.close
-    (tie.spec
-    cast-low
-    cast-high
-    array-read-result
-    mul-result
-    array-read-result-2
-    add-result
-    returns)
+    tie.close (tie.spec mul-pairs add-pairs mul-nibbles add-nibbles mul-result add-result returns)

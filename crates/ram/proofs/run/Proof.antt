@@ -1,104 +1,136 @@
--- `ram::run` meets its contract: what is left of the run, from here, gives the whole run's RAM.
+-- `ram::run` meets its contract: the bytes that fit, the cut byte, and nothing of the rest.
 -- Assumes nothing.
+use mathlib.Core.Path.{_≡_, sym, ap, _∙_}
 use mathlib.Core.List.{List}
-use mathlib.Core.Path.{_≡_, refl, sym, ap, _∙_}
-use Prim.Native.Nat.{ℕ, _+_, _-_, _*_, _/_, _≤_, _<_}
+use Prim.Native.Nat.{ℕ, _+_, _-_, _*_, _/_, _%_, _≤_, _<_, min}
 use native.Mathlib.Omega.{arith}
-use native.Mathlib.Nat.{div-le-self}
-use lib.ListN.{length, getD, drop, drop-of-length-le}
+use native.Mathlib.Nat.{div-le-self, div-mul-le-self, div-add-mod', mod-lt, mul-le-mul-left, mul-le-mul-right}
+use lib.ListN.{length, take, drop, length-take, length-drop, take-append-drop}
+use lib.Seq.{length-take-le}
 use denote.Ref.{now}
-use borrow.Author.Needs.{needs}
-use Rattle.lemmas.proofs.Lists.{next}
+use Rattle.lemmas.proofs.Lists.{part-rest}
 use Rattle.sheet.specs.Commands.{bankRow}
-use Rattle.sheet.specs.Data.{putBits, putRun, countedRun}
+use Rattle.sheet.specs.Data.{putRun, widthOf}
+use Rattle.ram.proofs.Runs.{run-append}
+use borrow.Author.Needs.{needs}
 use Rattle.ram.proofs.run.Statement.{statement}
 use Rattle.ram.proofs.run.Tie as tie
 
-record Running (ram₀ : List ℕ) (v m b : ℕ) (bytes ram : List ℕ) (i at : ℕ) : Type 0 where
-  rest : putRun m b at (drop i bytes) ram ≡ putRun m b v bytes ram₀
-  long : length ram ≡ length ram₀
-  near : at ≤ v + 8 * i
-  most : i ≤ length bytes
+-- a byte has at most eight columns
+near : (m whole : ℕ) → widthOf m * whole ≤ 8 * whole
+near m whole = mul-le-mul-right whole (omega (arith, div-le-self 7 m))
 
-turn : (ram₀ : List ℕ) (v m b : ℕ) (bytes ram after : List ℕ) (i at : ℕ)
-    → i < length bytes → after ≡ putBits 8 m b at (getD bytes i 0) ram → length after ≡ length ram
-    → Running ram₀ v m b bytes ram i at → Running ram₀ v m b bytes after (i + 1) (at + (7 / m + 1))
-unfolding putRun
-turn ram₀ v m b bytes ram after i at l e long r = record {
-  rest = rw e (sym (ap (λ (xs : List ℕ). putRun m b at xs ram) (next bytes i l)) ∙ r .rest);
-  long = long ∙ r .long;
-  near = omega (arith, r .near, div-le-self 7 m);
-  most = omega arith;
-}
+fit : (m n left whole : ℕ) → whole ≡ min n (left / widthOf m) → widthOf m * whole ≤ left
+fit m n left whole e = omega (arith, mul-le-mul-left {m = whole} {n = left / widthOf m} (widthOf m) (omega arith), div-mul-le-self left (widthOf m))
 
-done : (ram₀ : List ℕ) (v m b : ℕ) (bytes ram : List ℕ) (i at : ℕ) → length bytes ≤ i → Running ram₀ v m b bytes ram i at → ram ≡ putRun m b v bytes ram₀
-unfolding putRun
-done ram₀ v m b bytes ram i at l r = sym (ap (λ (xs : List ℕ). putRun m b at xs ram) (drop-of-length-le bytes l)) ∙ r .rest
+-- the first byte that does not fit reaches the end
+edge : (m n v size left whole : ℕ) → left ≡ size - v → whole ≡ min n (left / widthOf m) → whole < n → size ≤ v + widthOf m * whole + widthOf m
+edge m n v size left whole el ew h =
+    let e : whole ≡ left / widthOf m = omega arith in
+    omega (arith, ap (λ (k : ℕ). widthOf m * k) e, div-add-mod' left (widthOf m), mod-lt left {m = widthOf m} (omega arith))
 
-abbrev Inv-loop : tie.InvT-loop
-Inv-loop ram₀ v m bank bytes counts n w i₀ at₀ ram i at = Running ram₀ v m (bankRow m bank) bytes ram i at
+some-left : (n whole : ℕ) (bytes : List ℕ) → 0 < length (take n (drop whole bytes)) → whole < length bytes
+some-left n whole bytes h = omega (arith, simp (length-take, length-drop) at h)
 
-abbrev μ-loop : tie.MeasureT-loop
-μ-loop ram₀ v m bank bytes counts n w i₀ at₀ ram i at = length bytes - i
+joined : (m b v whole : ℕ) (bytes ram first : List ℕ) → whole ≤ length bytes → first ≡ putRun m b v (take whole bytes) ram
+    → putRun m b (v + widthOf m * whole) (drop whole bytes) first ≡ putRun m b v bytes ram
+joined m b v whole bytes ram first h e =
+    ap (putRun m b (v + widthOf m * whole) (drop whole bytes)) e
+    ∙ ap (λ (n : ℕ). putRun m b (v + widthOf m * n) (drop whole bytes) (putRun m b v (take whole bytes) ram)) (sym (length-take-le whole bytes h))
+    ∙ sym (run-append m b v (take whole bytes) (drop whole bytes) ram)
+    ∙ ap (λ (xs : List ℕ). putRun m b v xs ram) (take-append-drop whole bytes)
 
-div-w : tie.Need-div-w Inv-loop μ-loop
+div-w : tie.Need-div-w
 div-w c = search needs
 
-add-w : tie.Need-add-w Inv-loop μ-loop
+add-w : tie.Need-add-w
 add-w c = omega (arith, div-le-self 7 (c .before .before .args .m))
 
-loop-holds : tie.Need-loop-holds Inv-loop μ-loop
-loop-holds c = record { rest = refl; long = refl; near = omega arith; most = omega arith }
+columns-from-requires : tie.Need-columns-from-requires
+columns-from-requires c κs = search needs
 
-shared-slice-read-put-byte : tie.Need-shared-slice-read-put-byte Inv-loop μ-loop
-shared-slice-read-put-byte c = search needs
+div-least : tie.Need-div-least
+div-least c = search needs
 
-put-byte-requires : tie.Need-put-byte-requires Inv-loop μ-loop
-put-byte-requires c κs = search needs
+least-requires : tie.Need-least-requires
+least-requires c κs = search needs
 
-add-at : tie.Need-add-at Inv-loop μ-loop
-add-at c = omega (arith, div-le-self 7 (c .before .before .before .before .before .before .before .before .before .args .m), c .before .before .before .before .before .before .loop .inv .near, c .before .before .before .before .before .loop-test .taken)
+slice-aggregate-whole-bytes : tie.Need-slice-aggregate-whole-bytes
+slice-aggregate-whole-bytes c = sym (length-take-le (c .before .before .least .result) (now (c .before .before .before .before .before .before .args .bytes)) (omega arith))
 
-add-i : tie.Need-add-i Inv-loop μ-loop
-add-i c = search needs
+whole-bytes-requires : tie.Need-whole-bytes-requires
+whole-bytes-requires c κs = let s = c .before .before .before .before .before .before in
+    let a = s .args in
+    let whole = c .before .before .least .result in
+    let left = c .before .before .before .columns-from .result in
+    let e : length (take whole (now (a .bytes))) ≡ whole = length-take-le whole (now (a .bytes)) (omega (arith, c .before .before .least .ensures)) in
+    (s .pre .0, s .pre .1, s .pre .2, rw (e, ← (c .before .before .before .columns-from .ensures)) (fit (a .m) (length (now (a .bytes))) left whole (c .before .before .least .ensures)), s .pre .8)
 
-loop-less : tie.Need-loop-less Inv-loop μ-loop
-loop-less c = search needs
+mul-cut-byte : tie.Need-mul-cut-byte
+mul-cut-byte c = omega (arith, near (c .before .before .before .before .before .before .before .before .before .before .args .m) (c .before .before .before .before .before .before .least .result))
 
-loop-again : tie.Need-loop-again Inv-loop μ-loop
-loop-again c = let p = c .before .before .before .before .before .before in
-    let a = p .before .before .before .args in
-    turn (now (a .ram)) (a .v) (a .m) (bankRow (a .m) (a .bank)) (now (a .bytes)) (p .loop .ram) (c .before .before .put-byte .last .0) (p .loop .i) (p .loop .at)
-    (c .before .before .before .before .before .loop-test .taken) (c .before .before .put-byte .ensures) (c .before .before .put-byte .kept .0) (p .loop .inv)
+add-cut-byte : tie.Need-add-cut-byte
+add-cut-byte c = omega (arith, near (c .before .before .before .before .before .before .before .before .before .before .args .m) (c .before .before .before .before .before .before .least .result))
 
-counted-requires : tie.Need-counted-requires Inv-loop μ-loop
+sub-cut-byte : tie.Need-sub-cut-byte
+sub-cut-byte c = search needs
+
+part-cut-byte-start : tie.Need-part-cut-byte-start
+part-cut-byte-start c = search needs
+
+part-cut-byte-end : tie.Need-part-cut-byte-end
+part-cut-byte-end c = search needs
+
+cut-byte-requires : tie.Need-cut-byte-requires
+cut-byte-requires c κs = let s = c .before .before .before .before .before .before .before .before .before .before .before in
+    let a = s .args in
+    let least = c .before .before .before .before .before .before .before .least in
+    let from = c .before .before .before .before .before .before .before .before .columns-from in
+    let whole = least .result in (
+      s .pre .0,
+      s .pre .1,
+      s .pre .2,
+      omega (arith, near (a .m) whole, least .ensures, s .pre .3, s .pre .4),
+      λ h. rw (c .before .before .before .before .whole-bytes .kept .0) (edge (a .m) (length (now (a .bytes))) (a .v) (length (now (a .ram))) (from .result) whole (from .ensures) (least .ensures) (some-left (length (now (a .bytes)) - whole) whole (now (a .bytes)) h)),
+    )
+
+counted-requires : tie.Need-counted-requires
 counted-requires c κs = search needs
 
-same-length : tie.Need-same-length Inv-loop μ-loop
-same-length c = c .before .before .loop .inv .long
+same-length : tie.Need-same-length
+same-length c = c .before .before .before .cut-byte .kept .0 ∙ c .before .before .before .before .before .before .before .before .whole-bytes .kept .0
 
-returns : tie.Need-returns Inv-loop μ-loop
-returns c = let p = c .before .before in
-    let a = p .before .before .before .args in (
-      done (now (a .ram)) (a .v) (a .m) (bankRow (a .m) (a .bank)) (now (a .bytes)) (p .loop .ram) (p .loop .i) (p .loop .at) (c .before .loop-test .left) (p .loop .inv),
-      c .counted .ensures ∙ ap (λ (n : ℕ). countedRun (length (now (a .bytes))) (a .m) (a .v) n (a .counts)) (p .loop .inv .long),
+returns : tie.Need-returns
+returns c = let s = c .before .before .before .before .before .before .before .before .before .before .before .before .before .before .before in
+    let a = s .args in
+    let bytes = now (a .bytes) in
+    let ram = now (a .ram) in
+    let b = bankRow (a .m) (a .bank) in
+    let first = c .before .before .before .before .before .before .before .before .whole-bytes in
+    let least = c .before .before .before .before .before .before .before .before .before .before .before .least in
+    let whole = least .result in (
+      c .before .before .before .cut-byte .ensures ∙ ap (λ (xs : List ℕ). putRun (a .m) b (a .v + widthOf (a .m) * whole) xs (first .last .0)) (part-rest bytes whole)
+          ∙ joined (a .m) b (a .v) whole bytes ram (first .last .0) (omega (arith, least .ensures)) (first .ensures),
+      c .counted .ensures,
     )
 
 pub run-spec : {M : Type 1} → statement M
 run-spec =
     tie.close
     (tie.spec
-    Inv-loop
-    μ-loop
     div-w
     add-w
-    loop-holds
-    shared-slice-read-put-byte
-    put-byte-requires
-    add-at
-    add-i
-    loop-less
-    loop-again
+    columns-from-requires
+    div-least
+    least-requires
+    slice-aggregate-whole-bytes
+    whole-bytes-requires
+    mul-cut-byte
+    add-cut-byte
+    sub-cut-byte
+    part-cut-byte-start
+    part-cut-byte-end
+    cut-byte-requires
     counted-requires
     same-length
     returns)

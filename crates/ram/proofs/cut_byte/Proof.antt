@@ -1,0 +1,61 @@
+-- `ram::cut_byte` meets its contract: the bytes after the first have no column.
+-- Assumes nothing.
+use mathlib.Core.Path.{_≡_, refl, sym, ap, _∙_}
+use mathlib.Core.List.{List}
+use Prim.Native.Nat.{ℕ, _+_, _≤_, _<_}
+use native.Mathlib.Omega.{arith}
+use lib.Dec.{leb, leb→le}
+use lib.ListN.{getD, drop, drop-of-length-le}
+use denote.Ref.{now}
+use Rattle.lemmas.proofs.Lists.{next}
+use Rattle.lemmas.proofs.Tests.{all, all-at}
+use Rattle.sheet.specs.Commands.{bankRow}
+use Rattle.sheet.specs.Data.{putBits, putRun}
+use Rattle.ram.proofs.Runs.{run-cut}
+use borrow.Author.Needs.{needs}
+use Rattle.ram.proofs.cut_byte.Statement.{statement}
+use Rattle.ram.proofs.cut_byte.Tie as tie
+
+rows-fit : (m bank : ℕ) → m < 5 → bank < 2 → bankRow m bank + m ≤ 4
+unfolding bankRow
+rows-fit m bank hm hb =
+    leb→le (bankRow m bank + m) 4 (all-at 2 (λ i. leb (bankRow m i + m) 4) (all-at 5 (λ n. all 2 (λ i. leb (bankRow n i + n) 4)) tt m hm) bank hb)
+
+bank-row-requires : tie.Need-bank-row-requires
+bank-row-requires c κs = search needs
+
+shared-slice-read-put-bits : tie.Need-shared-slice-read-put-bits
+shared-slice-read-put-bits c = search needs
+
+put-bits-requires : tie.Need-put-bits-requires
+put-bits-requires c κs = let s = c .before .before .before .before .before .before in
+    (s .pre .0, rw (c .before .before .bank-row .ensures) (rows-fit (s .args .m) (s .args .bank) (s .pre .1) (s .pre .2)), s .pre .3)
+
+same-length : tie.Need-same-length
+same-length c = search needs
+
+returns : tie.Need-returns
+returns c = let s = c .before .before .before .before .before .before .before .before .before in
+    let a = s .args in
+    let b = bankRow (a .m) (a .bank) in
+    let there = c .before .before .before .before .before .before .if1 .taken in
+    c .before .before .put-bits .ensures
+    ∙ ap (λ (n : ℕ). putBits 8 (a .m) n (a .at) (getD (now (a .rest)) 0 0) (now (a .ram))) (c .before .before .before .before .before .bank-row .ensures)
+    ∙ sym (run-cut (a .m) b (a .at) (getD (now (a .rest)) 0 0) (drop (0 + 1) (now (a .rest))) (now (a .ram)) (s .pre .4 there))
+    ∙ sym (ap (λ (xs : List ℕ). putRun (a .m) b (a .at) xs (now (a .ram))) (next (now (a .rest)) 0 there))
+
+returns-2 : tie.Need-returns-2
+unfolding putRun
+returns-2 c = let a = c .before .before .before .args in
+    sym (ap (λ (xs : List ℕ). putRun (a .m) (bankRow (a .m) (a .bank)) (a .at) xs (now (a .ram))) (drop-of-length-le (now (a .rest)) {i = 0} (c .if1 .left)))
+
+pub cut-byte-spec : {M : Type 1} → statement M
+cut-byte-spec =
+    tie.close
+    (tie.spec
+    bank-row-requires
+    shared-slice-read-put-bits
+    put-bits-requires
+    same-length
+    returns
+    returns-2)

@@ -1,0 +1,108 @@
+-- `ram::put_bits` meets its contract: after k turns the first k bits are put.
+-- Assumes nothing.
+use mathlib.Core.Path.{_≡_, refl, sym, ap, _∙_}
+use mathlib.Core.List.{List}
+use Prim.Native.Nat.{ℕ, _+_, _-_, _*_, _/_, _%_, _^_, _≤_, _<_}
+use native.Mathlib.Nat.{mod-lt, div-le-self}
+use native.Mathlib.Numerals.{add-one}
+use native.Mathlib.Omega.{arith}
+use lib.ListN.{length}
+use lib.Pow.{pow-pos}
+use denote.Ref.{now}
+use Rattle.sheet.specs.Data.{changed, withRow, putBits}
+use borrow.Author.Needs.{needs}
+use Rattle.ram.proofs.put_bits.Statement.{statement}
+use Rattle.ram.proofs.put_bits.Tie as tie
+
+record Putting (ram₀ : List ℕ) (at m b x : ℕ) (ram : List ℕ) (k : ℕ) : Type 0 where
+  so-far : ram ≡ putBits k m b at x ram₀
+  long : length ram ≡ length ram₀
+  most : k ≤ 8
+
+turn : (ram₀ : List ℕ) (at m b x : ℕ) (ram after : List ℕ) (k p : ℕ) → k < 8 → p ≡ 2 ^ (7 - k)
+    → after ≡ changed (withRow (b + k % m) (x / p % 2)) (at + k / m) ram → length after ≡ length ram
+    → Putting ram₀ at m b x ram k → Putting ram₀ at m b x after (k + 1)
+unfolding putBits
+turn ram₀ at m b x ram after k p l ep e long r = record {
+  so-far =
+      rw (add-one k)
+      (e ∙ ap (λ (n : ℕ). changed (withRow (b + k % m) (x / n % 2)) (at + k / m) ram) ep
+      ∙ ap (changed (withRow (b + k % m) (x / 2 ^ (7 - k) % 2)) (at + k / m)) (r .so-far));
+  long = long ∙ r .long;
+  most = omega arith;
+}
+
+abbrev Inv-loop : tie.InvT-loop
+Inv-loop ram₀ at m b x k₀ ram k = Putting ram₀ at m b x ram k
+
+abbrev μ-loop : tie.MeasureT-loop
+μ-loop ram₀ at m b x k₀ ram k = 8 - k
+
+loop-holds : tie.Need-loop-holds Inv-loop μ-loop
+unfolding putBits
+loop-holds c = record { so-far = refl; long = refl; most = omega arith }
+
+sub-power : tie.Need-sub-power Inv-loop μ-loop
+sub-power c = search needs
+
+power-requires : tie.Need-power-requires Inv-loop μ-loop
+power-requires c κs = search needs
+
+div-bit : tie.Need-div-bit Inv-loop μ-loop
+div-bit c = rw (c .power .ensures) (pow-pos (7 - c .before .before .loop .k))
+
+div-put-row : tie.Need-div-put-row Inv-loop μ-loop
+div-put-row c = search needs
+
+add-put-row : tie.Need-add-put-row Inv-loop μ-loop
+add-put-row c = omega (arith, div-le-self (c .before .before .before .loop .k) (c .before .before .before .before .before .args .m))
+
+rem-put-row : tie.Need-rem-put-row Inv-loop μ-loop
+rem-put-row c = search needs
+
+add-put-row-2 : tie.Need-add-put-row-2 Inv-loop μ-loop
+add-put-row-2 c = omega (arith, mod-lt (c .before .before .before .loop .k) (c .before .before .before .before .before .pre .0))
+
+put-row-requires : tie.Need-put-row-requires Inv-loop μ-loop
+put-row-requires c κs = (omega (arith, mod-lt (c .before .before .before .loop .k) (c .before .before .before .before .before .pre .0)), omega arith)
+
+add-k : tie.Need-add-k Inv-loop μ-loop
+add-k c = search needs
+
+loop-less : tie.Need-loop-less Inv-loop μ-loop
+loop-less c = search needs
+
+loop-again : tie.Need-loop-again Inv-loop μ-loop
+loop-again c = let p = c .before .before .before .before .before .before in
+    let a = p .before .before .args in
+    turn (now (a .ram)) (a .at) (a .m) (a .b) (a .x) (p .loop .ram) (c .before .before .put-row .last .0) (p .loop .k) (c .before .before .before .before .power .result)
+    (c .before .before .before .before .before .loop-test .taken) (c .before .before .before .before .power .ensures) (c .before .before .put-row .ensures) (c .before .before .put-row .kept .0) (p .loop .inv)
+
+same-length : tie.Need-same-length Inv-loop μ-loop
+same-length c = c .before .loop .inv .long
+
+returns : tie.Need-returns Inv-loop μ-loop
+returns c = let p = c .before in
+    let a = p .before .before .args in
+    p .loop .inv .so-far ∙ ap (λ (k : ℕ). putBits k (a .m) (a .b) (a .at) (a .x) (now (a .ram))) (omega (arith, p .loop .inv .most, c .loop-test .left))
+
+pub put-bits-spec : {M : Type 1} → statement M
+put-bits-spec =
+    tie.close
+    (tie.spec
+    Inv-loop
+    μ-loop
+    loop-holds
+    sub-power
+    power-requires
+    div-bit
+    div-put-row
+    add-put-row
+    rem-put-row
+    add-put-row-2
+    put-row-requires
+    add-k
+    loop-less
+    loop-again
+    same-length
+    returns)

@@ -1,0 +1,154 @@
+-- `ram::static_run` meets its contract: after i turns the first i bytes are written, each as its two nibbles.
+-- Assumes nothing.
+use mathlib.Core.Path.{_≡_, ap, _∙_}
+use mathlib.Core.List.{List, [], _∷_}
+use Prim.Native.Nat.{ℕ, _+_, _-_, _*_, _/_, _%_, _<_}
+use native.Mathlib.Omega.{arith}
+use lib.ListN.{length, getD}
+use denote.Ref.{now}
+use lib.Dec.{T}
+use Rattle.lemmas.proofs.Tests.{all-at}
+use Rattle.ram.specs.Fields.{withRows, field, columnOf, mixed, merged, Spread}
+use Rattle.ram.proofs.Words.{first-four, four-columns, isSpread, tested}
+use Rattle.ram.proofs.Runs.{Running, begun, turn, done, small}
+use borrow.Author.Needs.{needs}
+use Rattle.ram.proofs.static_run.Statement.{statement}
+use Rattle.ram.proofs.static_run.Tie as tie
+
+unfoldable table : List ℕ
+table =
+    0x00000000 ∷ 0x05000000 ∷ 0x00050000 ∷ 0x05050000 ∷ 0x00000500 ∷ 0x05000500 ∷ 0x00050500 ∷ 0x05050500
+    ∷ 0x00000005 ∷ 0x05000005 ∷ 0x00050005 ∷ 0x05050005 ∷ 0x00000505 ∷ 0x05000505 ∷ 0x00050505 ∷ 0x05050505 ∷ []
+
+high-spread : (x : ℕ) → x < 256 → Spread 1 x 0 (getD table (x / 16) 0)
+unfolding table field columnOf
+high-spread x h = tested 1 x 0 (getD table (x / 16) 0) (all-at 256 (λ n. isSpread 1 n 0 (getD table (n / 16) 0)) tt x h)
+
+low-spread : (x : ℕ) → x < 256 → Spread 1 x 4 (getD table (x % 16) 0)
+unfolding table field columnOf
+low-spread x h = tested 1 x 4 (getD table (x % 16) 0) (all-at 256 (λ n. isSpread 1 n 4 (getD table (n % 16) 0)) tt x h)
+
+in-bank : (bank n : ℕ) → n ≡ bank → (t at : ℕ) (ram : List ℕ) → merged 4 (16843009 * (1 + 3 * n)) t at ram ≡ merged 4 (16843009 * (1 + 3 * bank)) t at ram
+in-bank bank n e t at ram = ap (λ (k : ℕ). merged 4 (16843009 * (1 + 3 * k)) t at ram) e
+
+abbrev Inv-loop : tie.InvT-loop
+Inv-loop ram₀ v bank bytes tbl rows i₀ ram i = Running 1 (2 * bank) v bytes ram₀ ram i
+
+abbrev μ-loop : tie.MeasureT-loop
+μ-loop ram₀ v bank bytes tbl rows i₀ ram i = length bytes - i
+
+wide-requires : tie.Need-wide-requires Inv-loop μ-loop
+wide-requires c κs = search needs
+
+mul-rows : tie.Need-mul-rows Inv-loop μ-loop
+mul-rows c = search needs
+
+add-rows : tie.Need-add-rows Inv-loop μ-loop
+add-rows c = search needs
+
+mul-rows-2 : tie.Need-mul-rows-2 Inv-loop μ-loop
+mul-rows-2 c = search needs
+
+loop-holds : tie.Need-loop-holds Inv-loop μ-loop
+loop-holds c = begun _ _ _ _ _
+
+mul-at : tie.Need-mul-at Inv-loop μ-loop
+mul-at c = search needs
+
+add-at : tie.Need-add-at Inv-loop μ-loop
+add-at c = search needs
+
+shared-slice-read-high : tie.Need-shared-slice-read-high Inv-loop μ-loop
+shared-slice-read-high c = search needs
+
+cast-high : tie.Need-cast-high Inv-loop μ-loop
+cast-high c = omega (arith, c .shared-slice-known2 .given (c .before .before .loop .i))
+
+shared-slice-read-low : tie.Need-shared-slice-read-low Inv-loop μ-loop
+shared-slice-read-low c = search needs
+
+cast-low : tie.Need-cast-low Inv-loop μ-loop
+cast-low c = omega (arith, c .shared-slice-known3 .given (c .before .before .before .loop .i))
+
+mul-put-four : tie.Need-mul-put-four Inv-loop μ-loop
+mul-put-four c = omega (arith, c .before .shared-slice-known3 .given (c .before .before .before .before .loop .i))
+
+array-read-put-four : tie.Need-array-read-put-four Inv-loop μ-loop
+array-read-put-four c = omega (arith, c .before .shared-slice-known3 .given (c .before .before .before .before .loop .i))
+
+put-four-requires : tie.Need-put-four-requires Inv-loop μ-loop
+put-four-requires c κs = search needs
+
+add-put-four : tie.Need-add-put-four Inv-loop μ-loop
+add-put-four c = search needs
+
+mul-put-four-2 : tie.Need-mul-put-four-2 Inv-loop μ-loop
+mul-put-four-2 c = search needs
+
+array-read-put-four-2 : tie.Need-array-read-put-four-2 Inv-loop μ-loop
+array-read-put-four-2 c = search needs
+
+put-four-requires-2 : tie.Need-put-four-requires-2 Inv-loop μ-loop
+put-four-requires-2 c κs = search needs
+
+add-i : tie.Need-add-i Inv-loop μ-loop
+add-i c = search needs
+
+loop-less : tie.Need-loop-less Inv-loop μ-loop
+loop-less c = search needs
+
+loop-again : tie.Need-loop-again Inv-loop μ-loop
+unfolding table withRows columnOf mixed
+loop-again c = let p = c .before .before .before .before .before .before .before .before .before .before .before in
+    let s = p .before .before .before .before in
+    let a = s .args in
+    let i = p .loop .i in
+    let x = getD (now (a .bytes)) i 0 in
+    let put1 = c .before .before .before .before .before .before .put-four in
+    let put2 = c .before .before .put-four2 in
+    let at = a .v + 8 * i in
+    let small-x : x < 256 = c .before .before .before .before .before .before .before .before .shared-slice-known3 .given i .fits in
+    let w = small 1 (2 * a .bank) (a .v) (now (a .bytes)) (now (a .ram)) (p .loop .ram) i (omega arith) (omega arith) (s .pre .2) (p .loop .inv) in
+    let e1 = first-four 1 16843009 (a .bank) x at (getD table (x / 16) 0) (p .loop .ram) (put1 .last .0) tt tt (omega arith) (omega arith) (s .pre .0) w
+    (high-spread x small-x) (put1 .ensures ∙ in-bank (a .bank) (p .before .wide .result) (p .before .wide .ensures .0) (getD table (x / 16) 0) at (p .loop .ram)) in
+    turn 1 (2 * a .bank) (a .v) (now (a .bytes)) (now (a .ram)) (p .loop .ram) (put2 .last .0) i (c .before .before .before .before .before .before .before .before .before .before .loop-test .taken)
+    (four-columns 1 16843009 (a .bank) x at 4 (getD table (x % 16) 0) (p .loop .ram) (put1 .last .0) tt tt (omega arith) (omega arith) (s .pre .0) w
+    (low-spread x small-x) e1 (put2 .last .0) (put2 .ensures ∙ in-bank (a .bank) (p .before .wide .result) (p .before .wide .ensures .0) (getD table (x % 16) 0) (at + 4) (put1 .last .0)))
+    (p .loop .inv)
+
+same-length : tie.Need-same-length Inv-loop μ-loop
+same-length c = c .before .loop .inv .long
+
+returns : tie.Need-returns Inv-loop μ-loop
+returns c = let a = c .before .before .before .before .before .args in
+    done 1 (2 * a .bank) (a .v) (now (a .bytes)) (now (a .ram)) (c .before .loop .ram) (c .before .loop .i) (c .loop-test .left) (c .before .loop .inv)
+
+pub static-run-spec : {M : Type 1} → statement M
+static-run-spec =
+    tie.close
+    (tie.spec
+    Inv-loop
+    μ-loop
+    wide-requires
+    mul-rows
+    add-rows
+    mul-rows-2
+    loop-holds
+    mul-at
+    add-at
+    shared-slice-read-high
+    cast-high
+    shared-slice-read-low
+    cast-low
+    mul-put-four
+    array-read-put-four
+    put-four-requires
+    add-put-four
+    mul-put-four-2
+    array-read-put-four-2
+    put-four-requires-2
+    add-i
+    loop-less
+    loop-again
+    same-length
+    returns)

@@ -1,0 +1,100 @@
+-- `ram::two_run` meets its contract: after i turns the first i bytes are written.
+-- Assumes nothing.
+use mathlib.Core.Path.{_≡_, ap, _∙_}
+use Prim.Native.Nat.{ℕ, _+_, _-_, _*_, _/_, _%_, _<_}
+use native.Mathlib.Omega.{arith}
+use lib.ListN.{length, getD}
+use denote.Ref.{now}
+use Rattle.ram.specs.Fields.{withRows, field, columnOf, mixed, merged}
+use Rattle.ram.proofs.Words.{first-four}
+use Rattle.ram.proofs.Runs.{Running, begun, turn, done, small}
+use borrow.Author.Needs.{needs}
+use Rattle.ram.proofs.two_run.Statement.{statement}
+use Rattle.ram.proofs.two_run.Tie as tie
+
+abbrev Inv-loop : tie.InvT-loop
+Inv-loop ram₀ v bank bytes rows i₀ ram i = Running 2 (2 * bank) v bytes ram₀ ram i
+
+abbrev μ-loop : tie.MeasureT-loop
+μ-loop ram₀ v bank bytes rows i₀ ram i = length bytes - i
+
+wide-requires : tie.Need-wide-requires Inv-loop μ-loop
+wide-requires c κs = search needs
+
+mul-rows : tie.Need-mul-rows Inv-loop μ-loop
+mul-rows c = search needs
+
+add-rows : tie.Need-add-rows Inv-loop μ-loop
+add-rows c = search needs
+
+mul-rows-2 : tie.Need-mul-rows-2 Inv-loop μ-loop
+mul-rows-2 c = search needs
+
+loop-holds : tie.Need-loop-holds Inv-loop μ-loop
+loop-holds c = begun _ _ _ _ _
+
+mul-put-four : tie.Need-mul-put-four Inv-loop μ-loop
+mul-put-four c = search needs
+
+add-put-four : tie.Need-add-put-four Inv-loop μ-loop
+add-put-four c = search needs
+
+shared-slice-read-spread : tie.Need-shared-slice-read-spread Inv-loop μ-loop
+shared-slice-read-spread c = search needs
+
+spread-requires : tie.Need-spread-requires Inv-loop μ-loop
+spread-requires c κs = search needs
+
+put-four-requires : tie.Need-put-four-requires Inv-loop μ-loop
+put-four-requires c κs = search needs
+
+add-i : tie.Need-add-i Inv-loop μ-loop
+add-i c = search needs
+
+loop-less : tie.Need-loop-less Inv-loop μ-loop
+loop-less c = search needs
+
+loop-again : tie.Need-loop-again Inv-loop μ-loop
+unfolding withRows columnOf mixed
+loop-again c = let p = c .before .before .before .before .before .before .before in
+    let s = p .before .before .before .before in
+    let a = s .args in
+    let i = p .loop .i in
+    let put = c .before .before .put-four in
+    let t = c .before .before .before .spread in
+    let at = a .v + 4 * i in
+    let e : put .last .0 ≡ merged 4 (50529027 * (1 + 3 * a .bank)) (t .result) at (p .loop .ram) =
+    put .ensures ∙ ap (λ (n : ℕ). merged 4 (50529027 * (1 + 3 * n)) (t .result) at (p .loop .ram)) (p .before .wide .ensures .0) in
+    let w = small 2 (2 * a .bank) (a .v) (now (a .bytes)) (now (a .ram)) (p .loop .ram) i (omega arith) (omega arith) (s .pre .2) (p .loop .inv) in
+    turn 2 (2 * a .bank) (a .v) (now (a .bytes)) (now (a .ram)) (p .loop .ram) (put .last .0) i (c .before .before .before .before .before .before .loop-test .taken)
+    (first-four 2 50529027 (a .bank) (getD (now (a .bytes)) i 0) at (t .result) (p .loop .ram) (put .last .0) tt tt (omega arith) (omega arith) (s .pre .0) w (t .ensures) e)
+    (p .loop .inv)
+
+same-length : tie.Need-same-length Inv-loop μ-loop
+same-length c = c .before .loop .inv .long
+
+returns : tie.Need-returns Inv-loop μ-loop
+returns c = let a = c .before .before .before .before .before .args in
+    done 2 (2 * a .bank) (a .v) (now (a .bytes)) (now (a .ram)) (c .before .loop .ram) (c .before .loop .i) (c .loop-test .left) (c .before .loop .inv)
+
+pub two-run-spec : {M : Type 1} → statement M
+two-run-spec =
+    tie.close
+    (tie.spec
+    Inv-loop
+    μ-loop
+    wide-requires
+    mul-rows
+    add-rows
+    mul-rows-2
+    loop-holds
+    mul-put-four
+    add-put-four
+    shared-slice-read-spread
+    spread-requires
+    put-four-requires
+    add-i
+    loop-less
+    loop-again
+    same-length
+    returns)
