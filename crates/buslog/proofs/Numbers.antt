@@ -27,10 +27,11 @@ use Rattle.sheet.specs.Logs.{lengthOf, cutIn, checkLog}
 use Rattle.sheet.specs.Agree.{Valid}
 use Rattle.laws.proofs.Ranges.{InRange}
 use Rattle.laws.proofs.Fits.{fits-of}
+use Rattle.laws.proofs.Nibbles.{Nibbles, nibbles-of}
 use Rattle.protocol.specs.declared.Listener.{Listener}
 use Rattle.protocol.specs.Listeners.{groupOf, listenerOf, begun}
 use Rattle.protocol.proofs.Hearing.{Sound, Hearing, byte-turn, at-end}
-use Rattle.long.proofs.Parts.{part-in, transfer-passed}
+use Rattle.long.proofs.Parts.{part-in, part-passes, transfer-passed}
 use borrow.Author.Tests.{leb-true}
 use Rattle.buslog.proofs.Widths.{Small}
 
@@ -93,10 +94,10 @@ counted-few (suc k) ram₀ bytes r ram l i e h =
     (byte-turn ram₀ bytes r ram l i (omega arith) h (l .expect) refl (g .ram) (listenerOf (next (l .expect) x) g) refl refl)
 
 -- a group that hears a transfer of 4,096 bytes at most
-heard-few : (ram bytes : List ℕ) (r : Registers) → InRange 160 4 r → 0 < length bytes → length bytes < 4097
+heard-few : (ram bytes : List ℕ) (r : Registers) → InRange 160 4 r → Nibbles ram → 0 < length bytes → length bytes < 4097
     → Small (numbers (Answer.Taken (heard 160 4 Control (drop 1 bytes) (begun r ram) .counts)))
-heard-few ram bytes r range some few =
-    let h : Hearing ram bytes r ram (listenerOf Control (begun r ram)) 1 = record { rest = refl; sound = record { range = range; acknowledged = omega arith; bits = omega arith; long = refl }; most = omega arith } in
+heard-few ram bytes r range columns some few =
+    let h : Hearing ram bytes r ram (listenerOf Control (begun r ram)) 1 = record { rest = refl; sound = record { range = range; acknowledged = omega arith; bits = omega arith; long = refl; nibbles = columns }; most = omega arith } in
     let s = counted-few (length bytes - 1) ram bytes r ram (listenerOf Control (begun r ram)) 1 (omega arith) h in
     omega arith
 
@@ -120,7 +121,8 @@ module _ (n : Chips) (s : State) (bytes : List ℕ) (v : Valid 160 4 n s) (short
   transfer-taken : checkTransfer 160 4 n (s .registers) (s .ram) bytes ≡ Passed → (to : Addressed) → Small (numbers (taken 160 4 n (s .registers) (s .ram) bytes to .result .answer))
   transfer-taken e (To g) =
       let p = transfer-passed n (s .registers) (s .ram) bytes e in
-      heard-few (partOf 160 n g (s .ram)) bytes (registersOf g (s .registers)) (part-in n (s .registers) (s .ram) g (fits-of 160 4 n (s .registers) (s .ram) v)) (p .1 .0) (p .1 .1)
+      let f = fits-of 160 4 n (s .registers) (s .ram) v in
+      heard-few (partOf 160 n g (s .ram)) bytes (registersOf g (s .registers)) (part-in n (s .registers) (s .ram) g f) (nibbles-of 0 _ (part-passes n (s .registers) (s .ram) g f)) (p .1 .0) (p .1 .1)
   transfer-taken e Nobody = omega arith
 
   -- an answer's numbers
