@@ -48,12 +48,12 @@ pub fn follow(expect: Expect, byte: u8) -> Expect
     }
 }
 
-fn is_command(expect: Expect) -> bool
-    ensures { λ r. ⌜ r ≡ isCommand expect ⌝ }
+fn is_undefined(expect: Expect, byte: u8) -> bool
+    ensures { λ r. ⌜ r ≡ (isCommand expect && not (defined (commandOf byte))) ⌝ }
 {
     match expect {
-        Expect::OneCommand => true,
-        Expect::Commands => true,
+        Expect::OneCommand => !command::is_defined(byte),
+        Expect::Commands => !command::is_defined(byte),
         Expect::Control => false,
         Expect::OneData => false,
         Expect::Run => false,
@@ -67,14 +67,14 @@ pub fn first_undefined(bytes: &[u8]) -> Check
     let mut expect = Expect::Control;
     let mut i: usize = 1;
     while i < bytes.len() {
-        if let Expect::Run = expect {
-            return Check::Passed;
-        }
         let byte = bytes[i];
-        if is_command(expect) & !command::is_defined(byte) {
+        if is_undefined(expect, byte) {
             return Check::Refused(Refusal::UndefinedCommand(i));
         }
         expect = follow(expect, byte);
+        if let Expect::Run = expect {
+            return Check::Passed;
+        }
         i += 1;
     }
     Check::Passed

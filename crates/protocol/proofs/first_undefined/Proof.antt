@@ -1,7 +1,6 @@
 -- `protocol::first_undefined` meets its contract: the search from here on gives the whole search's answer.
 -- Assumes nothing.
-use mathlib.Core.Path.{_≡_, refl, sym, ap, ap₂, _∙_}
-use mathlib.Core.Bool.{Bool, _&&_, not}
+use mathlib.Core.Path.{_≡_, refl, sym, ap, _∙_}
 use Prim.Native.Nat.{_+_, _-_}
 use lib.ListN.{length, drop}
 use denote.Ref.{now}
@@ -21,30 +20,35 @@ abbrev μ-loop : tie.MeasureT-loop
 loop-holds : tie.Need-loop-holds Inv-loop μ-loop
 loop-holds c = refl
 
-enum-told : tie.Need-enum-told Inv-loop μ-loop
-enum-told c = search needs
-
-returns : tie.Need-returns Inv-loop μ-loop
-returns c = let p = c .before .before .before in
-    let bytes = now (p .before .before .args .bytes) in
-    sym (ap (λ (e : Expect). undefinedIn e (p .loop .i) (drop (p .loop .i) bytes)) (c .enum-told .given .1) ∙ in-run (p .loop .i) (drop (p .loop .i) bytes)) ∙ p .loop .inv
-
 shared-slice-read-byte : tie.Need-shared-slice-read-byte Inv-loop μ-loop
 shared-slice-read-byte c = search needs
 
-is-command-requires : tie.Need-is-command-requires Inv-loop μ-loop
-is-command-requires c κs = search needs
+is-undefined-requires : tie.Need-is-undefined-requires Inv-loop μ-loop
+is-undefined-requires c κs = search needs
 
-is-defined-requires : tie.Need-is-defined-requires Inv-loop μ-loop
-is-defined-requires c κs = search needs
-
-returns-2 : tie.Need-returns-2 Inv-loop μ-loop
-returns-2 c = let p = c .before .before .before .before .before .before in
-    let bytes = now (p .before .before .args .bytes) in
-    sym (found (p .loop .expect) bytes (p .loop .i) (c .before .before .before .before .before .loop-test .taken) (sym (ap₂ (λ (s t : Bool). s && not t) (c .before .before .is-command .ensures) (c .before .is-defined .ensures)) ∙ c .if1 .taken)) ∙ p .loop .inv
+returns : tie.Need-returns Inv-loop μ-loop
+returns c = let p = c .before .before .before .before in
+    sym (found (p .loop .expect) (now (p .before .before .args .bytes)) (p .loop .i) (c .before .before .before .loop-test .taken) (sym (c .before .is-undefined .ensures) ∙ c .if1 .taken)) ∙ p .loop .inv
 
 follow-requires : tie.Need-follow-requires Inv-loop μ-loop
 follow-requires c κs = search needs
+
+-- from a byte that passes to the next
+goes-on : (c : tie.After-follow Inv-loop μ-loop) → let p = c .before .before .before .before .before in
+    let bytes = now (p .before .before .args .bytes) in undefinedIn (c .follow .result) (p .loop .i + 1) (drop (p .loop .i + 1) bytes) ≡ undefinedIn Expect.Control 1 (drop 1 bytes)
+goes-on c = let p = c .before .before .before .before .before in
+    let bytes = now (p .before .before .args .bytes) in
+    ap (λ (e : Expect). undefinedIn e (p .loop .i + 1) (drop (p .loop .i + 1) bytes)) (c .follow .ensures)
+    ∙ sym (go-on (p .loop .expect) bytes (p .loop .i) (c .before .before .before .before .loop-test .taken) (sym (c .before .before .is-undefined .ensures) ∙ c .before .if1 .left))
+    ∙ p .loop .inv
+
+enum-told : tie.Need-enum-told Inv-loop μ-loop
+enum-told c = search needs
+
+returns-2 : tie.Need-returns-2 Inv-loop μ-loop
+returns-2 c = let p = c .before .before .before .before .before .before .before in
+    let bytes = now (p .before .before .args .bytes) in
+    sym (ap (λ (e : Expect). undefinedIn e (p .loop .i + 1) (drop (p .loop .i + 1) bytes)) (c .enum-told .given .1) ∙ in-run (p .loop .i + 1) (drop (p .loop .i + 1) bytes)) ∙ goes-on (c .before .before)
 
 add-i : tie.Need-add-i Inv-loop μ-loop
 add-i c = search needs
@@ -53,11 +57,7 @@ loop-less : tie.Need-loop-less Inv-loop μ-loop
 loop-less c = search needs
 
 loop-again : tie.Need-loop-again Inv-loop μ-loop
-loop-again c = let p = c .before .before .before .before .before .before .before in
-    let bytes = now (p .before .before .args .bytes) in
-    ap (λ (e : Expect). undefinedIn e (p .loop .i + 1) (drop (p .loop .i + 1) bytes)) (c .follow .ensures)
-    ∙ sym (go-on (p .loop .expect) bytes (p .loop .i) (c .before .before .before .before .before .before .loop-test .taken) (sym (ap₂ (λ (s t : Bool). s && not t) (c .before .before .before .is-command .ensures) (c .before .before .is-defined .ensures)) ∙ c .before .if1 .left))
-    ∙ p .loop .inv
+loop-again c = goes-on (c .before)
 
 returns-3 : tie.Need-returns-3 Inv-loop μ-loop
 returns-3 c = let p = c .before in
@@ -70,13 +70,12 @@ first-undefined-spec =
     Inv-loop
     μ-loop
     loop-holds
-    enum-told
-    returns
     shared-slice-read-byte
-    is-command-requires
-    is-defined-requires
-    returns-2
+    is-undefined-requires
+    returns
     follow-requires
+    enum-told
+    returns-2
     add-i
     loop-less
     loop-again
