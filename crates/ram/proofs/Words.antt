@@ -7,7 +7,7 @@ use Prim.Native.Nat.{ℕ, zero, suc, _+_, _-_, _*_, _/_, _%_, _^_, _≤_, _<_}
 use native.Mathlib.Nat.{add-zero, add-suc, add-assoc, mul-zero, mul-suc, add-comm, div-one, le-refl, not-suc-le-zero, le-of-suc-le-suc}
 use native.Mathlib.Omega.{arith}
 use lib.Arith.{digits-div, digits-mod}
-use lib.Bits.{bitAnd, bitXor, and-shr, and-mod, xor-shr, xor-mod}
+use lib.Bits.{bitAnd, bitOr, bitXor, and-shr, and-mod, or-shr, or-mod, xor-shr, xor-mod}
 use lib.Dec.{T, eqb, eqb→eq}
 use lib.ListN.{getD, set}
 use lib.Pow.{shr-shr}
@@ -20,19 +20,19 @@ use Rattle.ram.proofs.Fields.{field-lt, column}
 
 -- ---- column by column
 
-column-and : (a b j : ℕ) → columnOf (bitAnd a b) j ≡ bitAnd (columnOf a j) (columnOf b j)
+-- what shifts and masks pass through acts on each column apart
+column-op : (op : ℕ → ℕ → ℕ) → ((a b k : ℕ) → op a b / 2 ^ k ≡ op (a / 2 ^ k) (b / 2 ^ k)) → ((a b k : ℕ) → op a b % 2 ^ k ≡ op (a % 2 ^ k) (b % 2 ^ k))
+    → (a b j : ℕ) → columnOf (op a b) j ≡ op (columnOf a j) (columnOf b j)
 unfolding columnOf
-column-and a b j = ap (λ (n : ℕ). n % 256) (and-shr a b (8 * j)) ∙ and-mod (a / 2 ^ (8 * j)) (b / 2 ^ (8 * j)) 8
-
-column-xor : (a b j : ℕ) → columnOf (bitXor a b) j ≡ bitXor (columnOf a j) (columnOf b j)
-unfolding columnOf
-column-xor a b j = ap (λ (n : ℕ). n % 256) (xor-shr a b (8 * j)) ∙ xor-mod (a / 2 ^ (8 * j)) (b / 2 ^ (8 * j)) 8
+column-op op shr low a b j = ap (λ (n : ℕ). n % 256) (shr a b (8 * j)) ∙ low (a / 2 ^ (8 * j)) (b / 2 ^ (8 * j)) 8
 
 column-mixed : (r t w j : ℕ) → columnOf (mixed r t w) j ≡ mixed (columnOf r j) (columnOf t j) (columnOf w j)
 unfolding mixed
 column-mixed r t w j =
-    column-xor w (bitAnd (bitXor w t) r) j
-    ∙ ap (λ (n : ℕ). bitXor (columnOf w j) n) (column-and (bitXor w t) r j ∙ ap (λ (n : ℕ). bitAnd n (columnOf r j)) (column-xor w t j))
+    column-op bitOr or-shr or-mod (bitXor (bitOr w r) r) (bitAnd t r) j
+    ∙ ap₂ bitOr
+    (column-op bitXor xor-shr xor-mod (bitOr w r) r j ∙ ap (λ (n : ℕ). bitXor n (columnOf r j)) (column-op bitOr or-shr or-mod w r j))
+    (column-op bitAnd and-shr and-mod t r j)
 
 column-joined : (n : ℕ) (q : ℕ → ℕ) → ((j : ℕ) → q j < 256) → (j : ℕ) → j < n → columnOf (joined n q) j ≡ q j
 unfolding columnOf joined

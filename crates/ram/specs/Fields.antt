@@ -3,7 +3,7 @@
 use Prim.Native.Nat.{ℕ, zero, suc, _+_, _*_, _/_, _%_, _^_, _<_}
 use mathlib.Core.Path.{_≡_}
 use mathlib.Core.List.{List}
-use lib.Bits.{bitAnd, bitXor}
+use lib.Bits.{bitAnd, bitOr, bitXor}
 use Rattle.sheet.specs.Data.{bitOf, changed}
 
 -- rows b to b + h - 1 of a column made the binary digits of f, the other rows kept
@@ -26,7 +26,7 @@ joined (suc n) q = joined n (λ j. q (suc j)) * 256 + q 0
 
 -- a column with the rows in r made those of t, the other rows kept
 unfoldable pub mixed : ℕ → ℕ → ℕ → ℕ
-mixed r t q = bitXor q (bitAnd (bitXor q t) r)
+mixed r t q = bitOr (bitXor (bitOr q r) r) (bitAnd t r)
 
 -- n columns from v on, each with the rows in its column of the word r made those of t
 unfoldable pub merged : ℕ → ℕ → ℕ → ℕ → List ℕ → List ℕ

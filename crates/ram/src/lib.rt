@@ -99,7 +99,8 @@ fn put_four(ram: &mut [u8], at: usize, rows: u32, t: u32)
     ensures { λ _. ⌜ now (ram .exit) ≡ merged 4 rows t at (now (ram .entry)) ⌝ }
 {
     let old = four_columns(ram, at);
-    let w = old ^ ((old ^ t) & rows);
+    let kept = (old | rows) ^ rows;
+    let w = kept | (t & rows);
     ram[at] = (w % 256) as u8;
     ram[at + 1] = (w / 256 % 256) as u8;
     ram[at + 2] = (w / 65536 % 256) as u8;
