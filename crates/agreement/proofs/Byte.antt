@@ -2,18 +2,17 @@
 -- Assumes nothing.
 use mathlib.Core.Path.{_≡_, refl, sym, ap, _∙_}
 use mathlib.Core.Logic.{⊎-elim}
-use mathlib.Core.List.{List, [], _∷_}
+use mathlib.Core.List.{List}
 use Prim.Native.Nat.{ℕ, zero, suc, _+_, _-_, _*_, _/_, _%_, _≤_, _<_, min}
 use native.Mathlib.Nat.{add-zero, add-suc, mul-comm, mul-zero, mul-suc, le-refl, le-of-lt, min-eq-left, min-eq-right, mod-lt, div-add-mod}
 use native.Mathlib.Omega.{arith}
-use lib.ListN.{length, getD, set}
-use lib.Seq.{set-getD}
+use lib.ListN.{length, getD}
 use lib.Arith.{digits-div, digits-mod}
 use borrow.Author.Tests.{lt-ltb, le-ltb}
 use Rattle.lemmas.proofs.Order.{lt-or-le}
 use Rattle.sheet.specs.Data.{bitOf, withRow, changed, putBits, widthOf}
 use Rattle.sheet.specs.Plain.{putRows}
-use Rattle.laws.proofs.Runs.{length-changed}
+use Rattle.laws.proofs.Runs.{changed-twice, changed-alike, unchanged, length-changed}
 
 -- the first k columns of a byte
 unfoldable pub putColumns : ℕ → ℕ → ℕ → ℕ → ℕ → List ℕ → List ℕ
@@ -24,22 +23,6 @@ pub length-columns : (k m b v x : ℕ) (ram : List ℕ) → length (putColumns k
 unfolding putColumns
 length-columns zero m b v x ram = refl
 length-columns (suc k) m b v x ram = length-changed _ (v + k) (putColumns k m b v x ram) ∙ length-columns k m b v x ram
-
--- ---- changes of one column
-
-changed-twice : (f g : ℕ → ℕ) (c : ℕ) (ram : List ℕ) → changed g c (changed f c ram) ≡ changed (λ q. g (f q)) c ram
-unfolding changed
-changed-twice f g c [] = refl
-changed-twice f g zero (q ∷ qs) = refl
-changed-twice f g (suc c) (q ∷ qs) = ap (λ (r : List ℕ). q ∷ r) (changed-twice f g c qs)
-
-changed-by : (f g : ℕ → ℕ) → ((q : ℕ) → f q ≡ g q) → (c : ℕ) (ram : List ℕ) → changed f c ram ≡ changed g c ram
-unfolding changed
-changed-by f g e c ram = ap (λ (q : ℕ). set ram c q) (e (getD ram c 0))
-
-unchanged : (c : ℕ) (ram : List ℕ) → changed (λ q. q) c ram ≡ ram
-unfolding changed
-unchanged c ram = set-getD ram c 0
 
 -- ---- the bits of one column
 
@@ -69,7 +52,9 @@ module _ (m b v x : ℕ) (ram : List ℕ) where
       (λ (f : 8 ≤ m * k + m).
       let g : m ≡ 8 - m * k + (m * k + m - 8) = omega arith in
       let t : m * k + (8 - m * k) ≡ 8 = omega arith in
-      changed-by _ _ (λ q. ap (λ (i : ℕ). putRows i b (m * k) x q) g ∙ short (8 - m * k) (m * k + m - 8) b (m * k) x q (omega arith)) (v + k) (putBits (m * k) m b v x ram)
+      let ram′ = putBits (m * k) m b v x ram in
+      let q = getD ram′ (v + k) 0 in
+      changed-alike _ _ (v + k) ram′ (ap (λ (i : ℕ). putRows i b (m * k) x q) g ∙ short (8 - m * k) (m * k + m - 8) b (m * k) x q (omega arith))
       ∙ sym (rows k (8 - m * k) (omega arith) (omega arith))
       ∙ ap (λ (i : ℕ). putBits i m b v x ram) (t ∙ sym (min-eq-left f)))
       (lt-or-le (m * k + m) 8)

@@ -94,8 +94,5 @@ run-nibbles m b v (x ∷ xs) ram pm h w = run-nibbles m b (v + widthOf m) xs (pu
 
 -- ---- the same of the check
 
-pub bits-pass : (m b v x : ℕ) (ram : List ℕ) → 0 < m → b + m ≤ 4 → overIn 0 ram ≡ Passed → overIn 0 (putBits 8 m b v x ram) ≡ Passed
-bits-pass m b v x ram pm h e = check-nibbles 0 (putBits 8 m b v x ram) (bits-nibbles 8 m b v x ram pm h (nibbles-of 0 ram e))
-
 pub run-passes : (m b v : ℕ) (xs ram : List ℕ) → 0 < m → b + m ≤ 4 → overIn 0 ram ≡ Passed → overIn 0 (putRun m b v xs ram) ≡ Passed
 run-passes m b v xs ram pm h e = check-nibbles 0 (putRun m b v xs ram) (run-nibbles m b v xs ram pm h (nibbles-of 0 ram e))

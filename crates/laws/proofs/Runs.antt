@@ -6,8 +6,8 @@ use mathlib.Core.List.{List, [], _∷_}
 use Prim.Native.Nat.{ℕ, zero, suc, _+_, _*_, _/_, _≤_, _<_}
 use native.Mathlib.Nat.{add-zero, mul-zero, mul-suc, le-trans}
 use native.Mathlib.Omega.{arith}
-use lib.ListN.{length, getD, length-set}
-use lib.Seq.{set-out}
+use lib.ListN.{length, getD, set, length-set}
+use lib.Seq.{set-getD, set-out}
 use borrow.Author.Tests.{le-ltb}
 use Rattle.sheet.specs.declared.Registers.{Registers}
 use Rattle.sheet.specs.declared.Counts.{Counts}
@@ -17,6 +17,23 @@ use Rattle.sheet.specs.Places.{position, atPosition}
 use Rattle.sheet.specs.Data.{changed, putBits, putRun, widthOf, storedBits, counted, countedRun}
 use Rattle.sheet.specs.Long.{Group, heard, dataByte}
 use Rattle.laws.proofs.Steps.{home, on, many, p-at, a-at, settled}
+
+-- ---- one column changed
+
+pub changed-twice : (f g : ℕ → ℕ) (c : ℕ) (ram : List ℕ) → changed g c (changed f c ram) ≡ changed (λ q. g (f q)) c ram
+unfolding changed
+changed-twice f g c [] = refl
+changed-twice f g zero (q ∷ qs) = refl
+changed-twice f g (suc c) (q ∷ qs) = ap (λ (r : List ℕ). q ∷ r) (changed-twice f g c qs)
+
+-- what is the same of the column is the same of the RAM
+pub changed-alike : (f g : ℕ → ℕ) (c : ℕ) (ram : List ℕ) → f (getD ram c 0) ≡ g (getD ram c 0) → changed f c ram ≡ changed g c ram
+unfolding changed
+changed-alike f g c ram e = ap (λ (q : ℕ). set ram c q) e
+
+pub unchanged : (c : ℕ) (ram : List ℕ) → changed (λ q. q) c ram ≡ ram
+unfolding changed
+unchanged c ram = set-getD ram c 0
 
 -- ---- lengths
 
