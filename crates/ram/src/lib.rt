@@ -28,6 +28,7 @@ fn put(ram: &mut [u8], at: usize, low: u8, high: u8, f: u8)
     ram[at] = q / high * high + (f * low + q % low);
 }
 
+// What row or bit k is worth.
 fn power(k: usize) -> u8
     requires { ⌜ k < 8 ⌝ }
     ensures { λ r. ⌜ r ≡ 2 ^ k ⌝ }
@@ -46,6 +47,7 @@ fn put_row(ram: &mut [u8], at: usize, row: usize, bit: u8)
     }
 }
 
+// The first row of a bank; 1:3 and 1:4 have one bank.
 fn bank_row(m: usize, bank: u8) -> usize
     requires { ⌜ bank < 2 ⌝ }
     ensures { λ r. ⌜ r ≡ bankRow m bank ⌝ }
@@ -77,13 +79,14 @@ fn cut_byte(ram: &mut [u8], at: usize, m: usize, bank: u8, rest: &[u8])
     }
 }
 
+// Widened with its bound kept, so that callers need not look it up.
 fn wide(q: u8) -> u32
     ensures { λ r. ⌜ (r ≡ q) × (r < 256) ⌝ }
 {
     q as u32
 }
 
-// Four columns as a word.
+// Four columns as a word, the first lowest: the compiler makes one load of it.
 fn four_columns(ram: &[u8], at: usize) -> u32
     requires { ⌜ at + 4 ≤ length (now ram) ⌝ }
     ensures { λ r. ⌜ r ≡ joined 4 (λ j. getD (now (ram .entry)) (at + j) 0) ⌝ }
@@ -93,7 +96,7 @@ fn four_columns(ram: &[u8], at: usize) -> u32
     low + 65536 * high
 }
 
-// Four columns at once: the rows in `rows` become those of t.
+// Four columns at once: the rows in `rows` become those of t. The four stores become one.
 fn put_four(ram: &mut [u8], at: usize, rows: u32, t: u32)
     requires { ⌜ at + 4 ≤ length (now ram) ⌝ }
     ensures { λ _. ⌜ now (ram .exit) ≡ merged 4 rows t at (now (ram .entry)) ⌝ }
@@ -107,7 +110,7 @@ fn put_four(ram: &mut [u8], at: usize, rows: u32, t: u32)
     ram[at + 3] = (w / 16777216 % 256) as u8;
 }
 
-// A byte's four columns of two rows as a word: the product has bit k of the byte at bit k + 10 j, for j from 0 to 3.
+// A byte's four columns of two rows as a word, in both banks. The product has bit k of the byte at bit k + 10 j, for j from 0 to 3.
 fn spread(x: u8) -> u32
     ensures { λ r. ⌜ Spread 2 x 0 r ⌝ }
 {
@@ -141,6 +144,7 @@ fn static_run(ram: &mut [u8], v: usize, bank: u8, bytes: &[u8])
     requires { ⌜ (bank < 2) × (8 * length (now bytes) ≤ length (now ram) - v) × (overIn 0 (now ram) ≡ Passed) ⌝ }
     ensures { λ _. ⌜ now (ram .exit) ≡ putRun 1 (2 * bank) v (now (bytes .entry)) (now (ram .entry)) ⌝ }
 {
+    // copied once, and not at each index
     let table = SPREAD;
     let rows = 0x01010101 * (1 + 3 * wide(bank));
     let mut i: usize = 0;
@@ -225,6 +229,7 @@ fn whole_bytes(ram: &mut [u8], v: usize, m: usize, bank: u8, bytes: &[u8])
     }
 }
 
+// How many of a bytes fit where b do.
 fn least(a: usize, b: usize) -> usize
     ensures { λ r. ⌜ r ≡ min a b ⌝ }
 {

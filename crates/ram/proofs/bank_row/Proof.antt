@@ -1,6 +1,5 @@
 -- `ram::bank_row` meets its contract.
 -- Assumes nothing.
-use mathlib.Core.Path.{_≡_, refl}
 use borrow.Author.Tests.{lt-ltb, le-ltb}
 use Rattle.sheet.specs.Commands.{bankRow}
 use borrow.Author.Needs.{needs}

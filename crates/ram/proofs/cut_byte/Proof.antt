@@ -1,11 +1,11 @@
 -- `ram::cut_byte` meets its contract: the bytes after the first have no column.
 -- Assumes nothing.
-use mathlib.Core.Path.{_≡_, refl, sym, ap, _∙_}
+use mathlib.Core.Path.{sym, ap, _∙_}
 use mathlib.Core.List.{List}
 use Prim.Native.Nat.{ℕ, _+_, _≤_, _<_}
 use native.Mathlib.Omega.{arith}
 use lib.Dec.{leb, leb→le}
-use lib.ListN.{getD, drop, drop-of-length-le}
+use lib.ListN.{length, getD, drop, drop-of-length-le}
 use denote.Ref.{now}
 use Rattle.lemmas.proofs.Lists.{next}
 use Rattle.lemmas.proofs.Tests.{all, all-at}
@@ -38,7 +38,7 @@ returns : tie.Need-returns
 returns c = let s = c .before .before .before .before .before .before .before .before .before in
     let a = s .args in
     let b = bankRow (a .m) (a .bank) in
-    let there = c .before .before .before .before .before .before .if1 .taken in
+    let there : 0 < length (now (a .rest)) = omega (arith, c .before .before .before .before .before .before .if1 .taken) in
     c .before .before .put-bits .ensures
     ∙ ap (λ (n : ℕ). putBits 8 (a .m) n (a .at) (getD (now (a .rest)) 0 0) (now (a .ram))) (c .before .before .before .before .before .bank-row .ensures)
     ∙ sym (run-cut (a .m) b (a .at) (getD (now (a .rest)) 0 0) (drop (0 + 1) (now (a .rest))) (now (a .ram)) (s .pre .4 there))

@@ -1,10 +1,10 @@
 -- `ram::four_byte` meets its contract: two columns of four rows, all of them new.
 -- Assumes nothing.
-use mathlib.Core.Path.{_≡_, refl, sym, ap, _∙_, subst}
+use mathlib.Core.Path.{_≡_, refl, sym, ap, subst}
 use mathlib.Core.List.{List}
-use Prim.Native.Nat.{ℕ, _+_, _/_, _%_, _<_}
+use Prim.Native.Nat.{ℕ, _+_, _/_, _%_}
 use native.Mathlib.Omega.{arith}
-use lib.ListN.{set, getD, length-set}
+use lib.ListN.{set, length-set}
 use denote.Ref.{now}
 use Rattle.sheet.specs.Data.{changed, putBits}
 use Rattle.laws.proofs.Nibbles.{Nibbles, nibbles-of, bits-nibbles}

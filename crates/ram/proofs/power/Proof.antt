@@ -1,7 +1,7 @@
 -- `ram::power` meets its contract: computed for each of the eight.
 -- Assumes nothing.
 use Prim.Native.Nat.{_*_, _%_, _^_}
-use lib.Dec.{leb, leb→le, eqb, eqb→eq}
+use lib.Dec.{eqb, eqb→eq}
 use Rattle.lemmas.proofs.Tests.{all-at}
 use borrow.Author.Needs.{needs}
 use Rattle.ram.proofs.power.Statement.{statement}

@@ -5,9 +5,9 @@ use mathlib.Core.List.{List}
 use Prim.Native.Nat.{ℕ, _+_, _/_, _%_}
 use native.Mathlib.Nat.{add-zero, div-one}
 use native.Mathlib.Omega.{arith}
-use lib.ListN.{set, getD, length-set}
+use lib.ListN.{set, length-set}
 use denote.Ref.{now}
-use Rattle.ram.specs.Fields.{columnOf, joined, mixed}
+use Rattle.ram.specs.Fields.{columnOf, mixed}
 use Rattle.ram.proofs.Words.{laid, word-merged}
 use borrow.Author.Needs.{needs}
 use Rattle.ram.proofs.put_four.Statement.{statement}

@@ -1,16 +1,14 @@
 -- `ram::put_row` meets its contract: a row is worth a power of two, and twice that divides 256.
 -- Assumes nothing.
-use mathlib.Core.Path.{_≡_, refl, sym, ap, _∙_}
-use mathlib.Core.Bool.{_&&_}
+use mathlib.Core.Path.{_≡_, sym, ap, _∙_}
 use Prim.Native.Nat.{ℕ, suc, _+_, _*_, _/_, _%_, _^_, _≤_, _<_}
 use native.Mathlib.Nat.{mul-comm, pow-suc, add-assoc, mul-le-mul-right, le-of-suc-le-suc}
 use native.Mathlib.Omega.{arith}
 use lib.Dec.{leb, leb→le, eqb, eqb→eq}
 use lib.Pow.{pow-pos}
-use lib.Seq.{set-out}
 use denote.Ref.{now}
 use Rattle.lemmas.proofs.Tests.{all-at}
-use Rattle.sheet.specs.Data.{changed, withRow}
+use Rattle.sheet.specs.Data.{withRow}
 use Rattle.laws.proofs.Runs.{changed-past}
 use Rattle.ram.proofs.Fields.{changed-alike}
 use borrow.Author.Needs.{needs}

@@ -6,7 +6,6 @@ use Prim.Native.Nat.{ℕ, _+_, _-_, _*_, _/_, _%_, _<_}
 use native.Mathlib.Omega.{arith}
 use lib.ListN.{length, getD}
 use denote.Ref.{now}
-use lib.Dec.{T}
 use Rattle.lemmas.proofs.Tests.{all-at}
 use Rattle.ram.specs.Fields.{withRows, field, columnOf, mixed, merged, Spread}
 use Rattle.ram.proofs.Words.{first-four, four-columns, isSpread, tested}

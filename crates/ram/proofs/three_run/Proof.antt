@@ -1,6 +1,5 @@
 -- `ram::three_run` meets its contract: after i turns the first i bytes are written.
 -- Assumes nothing.
-use native.Mathlib.Omega.{arith}
 use Prim.Native.Nat.{_-_}
 use lib.ListN.{length}
 use denote.Ref.{now}

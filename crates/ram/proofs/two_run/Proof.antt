@@ -1,11 +1,11 @@
 -- `ram::two_run` meets its contract: after i turns the first i bytes are written.
 -- Assumes nothing.
 use mathlib.Core.Path.{_≡_, ap, _∙_}
-use Prim.Native.Nat.{ℕ, _+_, _-_, _*_, _/_, _%_, _<_}
+use Prim.Native.Nat.{ℕ, _+_, _-_, _*_}
 use native.Mathlib.Omega.{arith}
 use lib.ListN.{length, getD}
 use denote.Ref.{now}
-use Rattle.ram.specs.Fields.{withRows, field, columnOf, mixed, merged}
+use Rattle.ram.specs.Fields.{withRows, columnOf, mixed, merged}
 use Rattle.ram.proofs.Words.{first-four}
 use Rattle.ram.proofs.Runs.{Running, begun, turn, done, small}
 use borrow.Author.Needs.{needs}
