@@ -1,33 +1,17 @@
 -- Several rows and several bits at once, for any number of backplanes, any bank and any column: a column of a byte is one change.
 -- Assumes nothing.
-use mathlib.Core.Path.{_≡_, refl, sym, ap, _∙_}
-use mathlib.Core.List.{List, [], _∷_}
+use mathlib.Core.Path.{_≡_, sym, ap, _∙_}
+use mathlib.Core.List.{List}
 use Prim.Native.Nat.{ℕ, zero, suc, _+_, _-_, _*_, _/_, _%_, _^_, _≤_, _<_}
 use native.Mathlib.Nat.{add-zero, zero-add, add-suc, add-assoc, mul-comm, zero-mul, mod-lt, mul-le-mul-right, add-comm, div-add-mod', le-of-lt, le-of-suc-le-suc}
 use native.Mathlib.Numerals.{add-one}
 use native.Mathlib.Omega.{arith}
-use lib.ListN.{getD, set}
-use lib.Seq.{set-getD}
+use lib.ListN.{getD}
 use lib.Arith.{digits-div, digits-mod, digits-lt}
 use lib.Pow.{pow-pos, pow-add, shr-shr}
 use Rattle.sheet.specs.Data.{changed, withRow, bitOf, putBits}
+use Rattle.laws.proofs.Runs.{changed-twice, changed-alike, unchanged}
 use Rattle.ram.specs.Fields.{withRows, field}
-
--- ---- one column changed
-
-changed-twice : (f g : ℕ → ℕ) (c : ℕ) (ram : List ℕ) → changed g c (changed f c ram) ≡ changed (λ q. g (f q)) c ram
-unfolding changed
-changed-twice f g c [] = refl
-changed-twice f g zero (x ∷ xs) = refl
-changed-twice f g (suc c) (x ∷ xs) = ap (λ (r : List ℕ). x ∷ r) (changed-twice f g c xs)
-
-changed-same : (f : ℕ → ℕ) → ((q : ℕ) → f q ≡ q) → (c : ℕ) (ram : List ℕ) → changed f c ram ≡ ram
-unfolding changed
-changed-same f e c ram = ap (λ (y : ℕ). set ram c y) (e (getD ram c 0)) ∙ set-getD ram c 0
-
-pub changed-alike : (f g : ℕ → ℕ) → ((q : ℕ) → f q ≡ g q) → (c : ℕ) (ram : List ℕ) → changed f c ram ≡ changed g c ram
-unfolding changed
-changed-alike f g e c ram = ap (λ (y : ℕ). set ram c y) (e (getD ram c 0))
 
 -- ---- several rows
 
@@ -71,10 +55,13 @@ field-part x k h d =
 pub column : (m b x v j : ℕ) (ram : List ℕ) (h : ℕ) → h ≤ m
     → putBits (m * j + h) m b v x ram ≡ changed (withRows b h (field x (m * j) h)) (v + j) (putBits (m * j) m b v x ram)
 unfolding putBits field
-column m b x v j ram zero p = rw (add-zero (m * j)) (sym (changed-same _ (λ q. no-rows b q) _ _))
+column m b x v j ram zero p =
+    let before = putBits (m * j) m b v x ram in
+    rw (add-zero (m * j)) (sym (changed-alike (withRows b 0 0) (λ q. q) (v + j) before (no-rows b (getD before (v + j) 0)) ∙ unchanged (v + j) before))
 column m b x v j ram (suc h) p =
+    let before = putBits (m * j) m b v x ram in
     let d : (m * j + h) / m ≡ j = rw (mul-comm m j) (digits-div j p) in
     let e : (m * j + h) % m ≡ h = rw (mul-comm m j) (digits-mod j p) in
     rw (add-suc (m * j) h, column m b x v j ram h (le-of-lt p), d, e)
-    (changed-twice (withRows b h (field x (m * j) h)) (withRow (b + h) (bitOf x (m * j + h))) (v + j) (putBits (m * j) m b v x ram)
-    ∙ changed-alike _ _ (λ q. one-row-more b h (field x (m * j) h) (bitOf x (m * j + h)) q (field-lt x (m * j) h)) (v + j) (putBits (m * j) m b v x ram))
+    (changed-twice (withRows b h (field x (m * j) h)) (withRow (b + h) (bitOf x (m * j + h))) (v + j) before
+    ∙ changed-alike _ _ (v + j) before (one-row-more b h (field x (m * j) h) (bitOf x (m * j + h)) (getD before (v + j) 0) (field-lt x (m * j) h)))

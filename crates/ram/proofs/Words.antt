@@ -14,6 +14,7 @@ use lib.Pow.{shr-shr}
 use Rattle.lemmas.proofs.Tests.{all, all-at}
 use Rattle.sheet.specs.Data.{changed, putBits}
 use Rattle.laws.proofs.Rows.{changed-other}
+use Rattle.laws.proofs.Runs.{changed-alike}
 use Rattle.laws.proofs.Nibbles.{Nibbles, bits-nibbles}
 use Rattle.ram.specs.Fields.{withRows, field, columnOf, joined, mixed, merged, Spread}
 use Rattle.ram.proofs.Fields.{field-lt, column}
@@ -85,10 +86,6 @@ rowsThere m r bank = all 4 (λ j. eqb (columnOf (r * (1 + 3 * bank)) j) ((2 ^ m 
 abbrev pub rowsPut : ℕ → ℕ → Bool
 rowsPut m bank = all (2 ^ m) (λ f. all 16 (λ q. eqb (mixed ((2 ^ m - 1) * (1 + 3 * bank)) (5 * f) q) (withRows (2 * bank) m f q)))
 
-changed-alike-at : (f g : ℕ → ℕ) (c : ℕ) (ram : List ℕ) → f (getD ram c 0) ≡ g (getD ram c 0) → changed f c ram ≡ changed g c ram
-unfolding changed
-changed-alike-at f g c ram e = ap (λ (y : ℕ). set ram c y) e
-
 module _ (m r bank x v k t : ℕ) (ram before : List ℕ) (there : T (all 2 (rowsThere m r))) (puts : T (all 2 (rowsPut m))) (pm : 0 < m) (few : m ≤ 2) (pb : bank < 2) (w : Nibbles ram) (told : Spread m x k t)
     (eb : before ≡ putBits (m * k) m (2 * bank) v x ram) where
   one-column : (j q : ℕ) → j < 4 → q < 16
@@ -111,7 +108,7 @@ module _ (m r bank x v k t : ℕ) (ram before : List ℕ) (there : T (all 2 (row
       let f = mixed (columnOf (r * (1 + 3 * bank)) n) (columnOf t n) in
       let g = withRows (2 * bank) m (field x (m * (k + n)) m) in
       ap (changed f (v + k + n)) (columns n (omega arith))
-      ∙ changed-alike-at f g (v + k + n) so-far
+      ∙ changed-alike f g (v + k + n) so-far
       (one-column n (getD so-far (v + k + n) 0) h (bits-nibbles (m * (k + n)) m (2 * bank) v x ram pm (omega arith) w (v + k + n)))
       ∙ ap (λ (c : ℕ). changed g c so-far) (add-assoc v k n)
       ∙ sym (column m (2 * bank) x v (k + n) ram m (le-refl m))

@@ -48,13 +48,6 @@ fn put_row(ram: &mut [u8], at: usize, row: usize, bit: u8)
 }
 
 // The first row of a bank; 1:3 and 1:4 have one bank.
-fn bank_row(m: usize, bank: u8) -> usize
-    requires { ⌜ bank < 2 ⌝ }
-    ensures { λ r. ⌜ r ≡ bankRow m bank ⌝ }
-{
-    if m < 3 { 2 * (bank as usize) } else { 0 }
-}
-
 // A data byte bit by bit, with a test for each: for the one byte of a run that is cut.
 fn put_bits(ram: &mut [u8], at: usize, m: usize, b: usize, x: u8)
     requires { ⌜ (0 < m) × (b + m ≤ 4) × (at < 2 ^ 32) ⌝ }
@@ -74,7 +67,7 @@ fn cut_byte(ram: &mut [u8], at: usize, m: usize, bank: u8, rest: &[u8])
     ensures { λ _. ⌜ now (ram .exit) ≡ putRun m (bankRow m bank) at (now (rest .entry)) (now (ram .entry)) ⌝ }
 {
     if 0 < rest.len() {
-        let b = bank_row(m, bank);
+        let b = command::bank_row(m, bank);
         put_bits(ram, at, m, b, rest[0]);
     }
 }

@@ -4,13 +4,13 @@ use mathlib.Core.Path.{_≡_, sym, ap, _∙_}
 use Prim.Native.Nat.{ℕ, suc, _+_, _*_, _/_, _%_, _^_, _≤_, _<_}
 use native.Mathlib.Nat.{mul-comm, pow-suc, add-assoc, mul-le-mul-right, le-of-suc-le-suc}
 use native.Mathlib.Omega.{arith}
+use lib.ListN.{getD}
 use lib.Dec.{leb, leb→le, eqb, eqb→eq}
 use lib.Pow.{pow-pos}
 use denote.Ref.{now}
 use Rattle.lemmas.proofs.Tests.{all-at}
 use Rattle.sheet.specs.Data.{withRow}
-use Rattle.laws.proofs.Runs.{changed-past}
-use Rattle.ram.proofs.Fields.{changed-alike}
+use Rattle.laws.proofs.Runs.{changed-alike, changed-past}
 use borrow.Author.Needs.{needs}
 use Rattle.ram.proofs.put_row.Statement.{statement}
 use Rattle.ram.proofs.put_row.Tie as tie
@@ -48,8 +48,8 @@ returns : tie.Need-returns
 returns c = let s = c .before .before .before .before .before .before .before in
     let low = c .before .before .before .before .power .result in
     c .before .before .put .ensures
-    ∙ changed-alike (λ q. q / (2 * low) * (2 * low) + (s .args .bit * low + q % low)) (withRow (s .args .row) (s .args .bit))
-    (λ q. as-row (s .args .row) (s .args .bit) low q (c .before .before .before .before .power .ensures)) (s .args .at) (now (s .args .ram))
+    ∙ changed-alike (λ q. q / (2 * low) * (2 * low) + (s .args .bit * low + q % low)) (withRow (s .args .row) (s .args .bit)) (s .args .at) (now (s .args .ram))
+    (as-row (s .args .row) (s .args .bit) low (getD (now (s .args .ram)) (s .args .at) 0) (c .before .before .before .before .power .ensures))
 
 returns-2 : tie.Need-returns-2
 returns-2 c = sym (changed-past (withRow (c .before .before .args .row) (c .before .before .args .bit)) (c .before .before .args .at) (now (c .before .before .args .ram)) (c .if1 .left))
