@@ -8,31 +8,13 @@ use sheet::Refusal;
 use sheet::Registers;
 ghost use mathlib.Core.Path.{_≡_};
 ghost use mathlib.Core.Bool.{cond, true};
-ghost use Prim.Native.Nat.{_+_, _*_, _≤_, _<_, min};
+ghost use Prim.Native.Nat.{_+_, _*_, _≤_, _<_};
 ghost use lib.Dec.{ltb};
 ghost use Rattle.sheet.specs.Commands.{commandOf, obeyed, inRange, backplanes};
 ghost use Rattle.sheet.specs.Places.{advanced};
 ghost use Rattle.sheet.specs.Data.{bitOf, withRow};
 ghost use Rattle.sheet.specs.Checks.{overIn};
 ghost use Rattle.sheet.specs.Plain.{withRegisters, putRows, column, chipData, chipAcknowledges, chipByte, chipAcknowledged, hears, passed, chipFits, chipPowerOn, checkChipPicture, chipPictureCall};
-
-// Bit k of a byte, numbered from the most significant.
-fn bit_of(byte: u8, k: usize) -> u8
-    requires { ⌜ k < 8 ⌝ }
-    ensures { λ r. ⌜ r ≡ bitOf byte k ⌝ }
-{
-    (byte >> (7 - k)) % 2
-}
-
-// A column with one row made a bit, the other rows kept.
-fn with_row(row: usize, bit: u8, column: u8) -> u8
-    requires { ⌜ (row < 4) × (bit < 2) ⌝ }
-    ensures { λ r. ⌜ r ≡ withRow row bit column ⌝ }
-{
-    let low = 1u8 << row;
-    let high = 2 * low;
-    column / high * high + bit * low + column % low
-}
 
 // A column with one row made bit k of a byte. A byte has no bit past 7: then the row stays.
 fn put_row(row: usize, k: usize, byte: u8, column: u8) -> u8
@@ -42,7 +24,7 @@ fn put_row(row: usize, k: usize, byte: u8, column: u8) -> u8
     if 8 <= k {
         return column;
     }
-    with_row(row, bit_of(byte, k), column)
+    ram::with_row(row, ram::bit_of(byte, k), column)
 }
 
 // A column with m rows from row b on made the bits of a byte from bit k on.
@@ -59,13 +41,6 @@ fn put_rows(m: usize, b: usize, k: usize, byte: u8, column: u8) -> u8
     put
 }
 
-// The lesser of two numbers.
-fn least(a: usize, b: usize) -> usize
-    ensures { λ r. ⌜ r ≡ min a b ⌝ }
-{
-    if a < b { a } else { b }
-}
-
 // A column on: P rises by 1; at 160 it becomes 0 and A rises by 1, stopping at 4.
 fn advance(mut registers: Registers) -> Registers
     requires { ⌜ (registers .p < 160) × (registers .a ≤ 4) ⌝ }
@@ -73,7 +48,7 @@ fn advance(mut registers: Registers) -> Registers
 {
     if registers.p + 1 == 160 {
         registers.p = 0;
-        registers.a = least(4, registers.a + 1);
+        registers.a = ram::least(4, registers.a + 1);
         registers
     } else {
         registers.p = registers.p + 1;
@@ -166,7 +141,7 @@ fn acknowledges_data(chip: Chip, byte: u8) -> bool
 {
     let registers = chip.registers;
     let last = 160 * registers.a + registers.p + 7 / command::backplanes(registers);
-    least(4, last / 160) == chip.subaddress as usize
+    ram::least(4, last / 160) == chip.subaddress as usize
 }
 
 // Whether the chip acknowledges a byte.

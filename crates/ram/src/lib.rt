@@ -7,8 +7,26 @@ ghost use lib.ListN.{length, getD};
 ghost use Rattle.sheet.specs.declared.Check.the-variants.{Passed};
 ghost use Rattle.sheet.specs.Checks.{overIn};
 ghost use Rattle.sheet.specs.Commands.{bankRow};
-ghost use Rattle.sheet.specs.Data.{changed, withRow, putBits, putRun, widthOf, countedRun};
+ghost use Rattle.sheet.specs.Data.{changed, withRow, bitOf, putBits, putRun, widthOf, countedRun};
 ghost use Rattle.ram.specs.Fields.{field, joined, merged, Spread};
+
+// Bit k of a byte, numbered from the most significant.
+pub fn bit_of(byte: u8, k: usize) -> u8
+    requires { ⌜ k < 8 ⌝ }
+    ensures { λ r. ⌜ r ≡ bitOf byte k ⌝ }
+{
+    (byte >> (7 - k)) % 2
+}
+
+// A column with one row made a bit, the other rows kept.
+pub fn with_row(row: usize, bit: u8, column: u8) -> u8
+    requires { ⌜ (row < 4) × (bit < 2) ⌝ }
+    ensures { λ r. ⌜ r ≡ withRow row bit column ⌝ }
+{
+    let low = 1u8 << row;
+    let high = 2 * low;
+    column / high * high + bit * low + column % low
+}
 
 // A byte's bits in the other order, so that the bit for the lowest row comes lowest.
 fn reversed(x: u8) -> u8
@@ -29,21 +47,13 @@ fn put(ram: &mut [u8], at: usize, low: u8, high: u8, f: u8)
 }
 
 // What row or bit k is worth.
-fn power(k: usize) -> u8
-    requires { ⌜ k < 8 ⌝ }
-    ensures { λ r. ⌜ r ≡ 2 ^ k ⌝ }
-{
-    1 << k
-}
-
 // One row of a column. A column past the end is nobody's.
 fn put_row(ram: &mut [u8], at: usize, row: usize, bit: u8)
     requires { ⌜ (row < 4) × (bit < 2) ⌝ }
     ensures { λ _. ⌜ now (ram .exit) ≡ changed (withRow row bit) at (now (ram .entry)) ⌝ }
 {
     if at < ram.len() {
-        let low = power(row);
-        put(ram, at, low, 2 * low, bit);
+        ram[at] = with_row(row, bit, ram[at]);
     }
 }
 
@@ -55,7 +65,7 @@ fn put_bits(ram: &mut [u8], at: usize, m: usize, b: usize, x: u8)
 {
     let mut k: usize = 0;
     while k < 8 {
-        let bit = x / power(7 - k) % 2;
+        let bit = bit_of(x, k);
         put_row(ram, at + k / m, b + k % m, bit);
         k += 1;
     }
@@ -223,7 +233,8 @@ fn whole_bytes(ram: &mut [u8], v: usize, m: usize, bank: u8, bytes: &[u8])
 }
 
 // How many of a bytes fit where b do.
-fn least(a: usize, b: usize) -> usize
+// The lesser of two numbers.
+pub fn least(a: usize, b: usize) -> usize
     ensures { λ r. ⌜ r ≡ min a b ⌝ }
 {
     if a < b { a } else { b }

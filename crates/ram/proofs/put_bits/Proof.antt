@@ -2,14 +2,13 @@
 -- Assumes nothing.
 use mathlib.Core.Path.{_≡_, refl, ap, _∙_}
 use mathlib.Core.List.{List}
-use Prim.Native.Nat.{ℕ, _+_, _-_, _/_, _%_, _^_, _≤_, _<_}
+use Prim.Native.Nat.{ℕ, _+_, _-_, _/_, _%_, _≤_, _<_}
 use native.Mathlib.Nat.{mod-lt, div-le-self}
 use native.Mathlib.Numerals.{add-one}
 use native.Mathlib.Omega.{arith}
 use lib.ListN.{length}
-use lib.Pow.{pow-pos}
 use denote.Ref.{now}
-use Rattle.sheet.specs.Data.{changed, withRow, putBits}
+use Rattle.sheet.specs.Data.{changed, withRow, bitOf, putBits}
 use borrow.Author.Needs.{needs}
 use Rattle.ram.proofs.put_bits.Statement.{statement}
 use Rattle.ram.proofs.put_bits.Tie as tie
@@ -19,15 +18,15 @@ record Putting (ram₀ : List ℕ) (at m b x : ℕ) (ram : List ℕ) (k : ℕ) :
   long : length ram ≡ length ram₀
   most : k ≤ 8
 
-turn : (ram₀ : List ℕ) (at m b x : ℕ) (ram after : List ℕ) (k p : ℕ) → k < 8 → p ≡ 2 ^ (7 - k)
-    → after ≡ changed (withRow (b + k % m) (x / p % 2)) (at + k / m) ram → length after ≡ length ram
+turn : (ram₀ : List ℕ) (at m b x : ℕ) (ram after : List ℕ) (k bit : ℕ) → k < 8 → bit ≡ bitOf x k
+    → after ≡ changed (withRow (b + k % m) bit) (at + k / m) ram → length after ≡ length ram
     → Putting ram₀ at m b x ram k → Putting ram₀ at m b x after (k + 1)
 unfolding putBits
-turn ram₀ at m b x ram after k p l ep e long r = record {
+turn ram₀ at m b x ram after k bit l eb e long r = record {
   so-far =
       rw (add-one k)
-      (e ∙ ap (λ (n : ℕ). changed (withRow (b + k % m) (x / n % 2)) (at + k / m) ram) ep
-      ∙ ap (changed (withRow (b + k % m) (x / 2 ^ (7 - k) % 2)) (at + k / m)) (r .so-far));
+      (e ∙ ap (λ (n : ℕ). changed (withRow (b + k % m) n) (at + k / m) ram) eb
+      ∙ ap (changed (withRow (b + k % m) (bitOf x k)) (at + k / m)) (r .so-far));
   long = long ∙ r .long;
   most = omega arith;
 }
@@ -42,14 +41,8 @@ loop-holds : tie.Need-loop-holds Inv-loop μ-loop
 unfolding putBits
 loop-holds c = record { so-far = refl; long = refl; most = omega arith }
 
-sub-power : tie.Need-sub-power Inv-loop μ-loop
-sub-power c = search needs
-
-power-requires : tie.Need-power-requires Inv-loop μ-loop
-power-requires c κs = search needs
-
-div-bit : tie.Need-div-bit Inv-loop μ-loop
-div-bit c = rw (c .power .ensures) (pow-pos (7 - c .before .before .loop .k))
+bit-of-requires : tie.Need-bit-of-requires Inv-loop μ-loop
+bit-of-requires c κs = search needs
 
 div-put-row : tie.Need-div-put-row Inv-loop μ-loop
 div-put-row c = search needs
@@ -75,8 +68,8 @@ loop-less c = search needs
 loop-again : tie.Need-loop-again Inv-loop μ-loop
 loop-again c = let p = c .before .before .before .before .before .before in
     let a = p .before .before .args in
-    turn (now (a .ram)) (a .at) (a .m) (a .b) (a .x) (p .loop .ram) (c .before .before .put-row .last .0) (p .loop .k) (c .before .before .before .before .power .result)
-    (c .before .before .before .before .before .loop-test .taken) (c .before .before .before .before .power .ensures) (c .before .before .put-row .ensures) (c .before .before .put-row .kept .0) (p .loop .inv)
+    turn (now (a .ram)) (a .at) (a .m) (a .b) (a .x) (p .loop .ram) (c .before .before .put-row .last .0) (p .loop .k) (c .before .before .before .before .bit-of .result)
+    (c .before .before .before .before .before .loop-test .taken) (c .before .before .before .before .bit-of .ensures) (c .before .before .put-row .ensures) (c .before .before .put-row .kept .0) (p .loop .inv)
 
 same-length : tie.Need-same-length Inv-loop μ-loop
 same-length c = c .before .loop .inv .long
@@ -93,9 +86,7 @@ put-bits-spec =
     Inv-loop
     μ-loop
     loop-holds
-    sub-power
-    power-requires
-    div-bit
+    bit-of-requires
     div-put-row
     add-put-row
     rem-put-row

@@ -1,12 +1,12 @@
--- with_row: at each of the four rows nothing overflows, and it is the definition.
+-- `ram::with_row` meets its contract: at each of the four rows nothing overflows, and it is the definition.
 -- Assumes nothing.
 use mathlib.Core.Path.{_≡_, refl}
 use Prim.Native.Nat.{ℕ, zero, suc, _+_, _*_, _/_, _%_, _^_, _<_}
 use native.Mathlib.Omega.{arith}
 use borrow.Author.Needs.{needs}
 use Rattle.sheet.specs.Data.{withRow}
-use Rattle.chip.proofs.with_row.Statement.{statement}
-use Rattle.chip.proofs.with_row.Tie as tie
+use Rattle.ram.proofs.with_row.Statement.{statement}
+use Rattle.ram.proofs.with_row.Tie as tie
 
 -- what the code makes of a row that is worth low
 record Made (row bit q low : ℕ) : Type 0 where
