@@ -14,7 +14,7 @@ use Rattle.sheet.specs.declared.Chip.{Chip}
 use Rattle.sheet.specs.declared.Chips.{Chips}
 use Rattle.sheet.specs.declared.Transferred.{Transferred}
 use Rattle.sheet.specs.declared.PlainAnswer.{PlainAnswer}
-use Rattle.sheet.specs.Long.{State, transferCall, stateAfter}
+use Rattle.sheet.specs.Long.{State, stateOf, transferCall, stateAfter}
 use Rattle.sheet.specs.Plain.{plainCall}
 use Rattle.sheet.specs.Agree.{chipsOf, Valid, plainly}
 use Rattle.agreement.proofs.Checks.{length-chips}
@@ -41,7 +41,7 @@ pub sides-agree : (n : Chips) (r : Both) (ram : List ℕ) (b : Bench) (bytes aft
     → after ≡ transferCall 160 4 n r ram bytes .ram → long ≡ transferCall 160 4 n r ram bytes .result → plain ≡ benchTransferred b bytes
     → Agreed n after (record { long = long; plain = plain })
 sides-agree n r ram b bytes after long plain like er el ep =
-    let s : State = record { registers = r; ram = ram } in
+    let s = stateOf r ram in
     let agreed = pcf8532 .transfer n s bytes (like .valid) in
     let held : plainCall 160 4 (take (b .count) (b .chips)) bytes .chips ≡ chipsOf 160 n (stateAfter 160 4 n s bytes) =
     ap (λ (cs : List Chip). plainCall 160 4 cs bytes .chips) (like .chips) ∙ agreed .hold in
@@ -58,7 +58,7 @@ pub lists-agree : (n : Chips) (s : State) (bytes after : List ℕ) (long : Trans
     → Valid 160 4 n s → before ≡ chipsOf 160 n s
     → after ≡ transferCall 160 4 n (s .registers) (s .ram) bytes .ram → long ≡ transferCall 160 4 n (s .registers) (s .ram) bytes .result
     → answer ≡ plainCall 160 4 before bytes .answer → chips ≡ plainCall 160 4 before bytes .chips
-    → (chips ≡ chipsOf 160 n (record { registers = long .registers; ram = after })) × (answer ≡ plainly (long .answer))
+    → (chips ≡ chipsOf 160 n (stateOf (long .registers) after)) × (answer ≡ plainly (long .answer))
 lists-agree n s bytes after long before chips answer v eb er el ea ec =
     let agreed = pcf8532 .transfer n s bytes v in
     rw (er, el, ea, ec, eb) (agreed .hold, agreed .acknowledge)

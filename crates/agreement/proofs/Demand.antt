@@ -1,8 +1,7 @@
 -- Demand 3, for any column count and limit, and for the PCF8532.
 -- Assumes nothing.
 use native.Mathlib.Omega.{arith}
-use Rattle.sheet.specs.Commands.{powerOn}
-use Rattle.sheet.specs.Long.{powerOnCall}
+use Rattle.sheet.specs.Long.{stateOf, bothOn, powerOnCall}
 use Rattle.sheet.specs.Agree.{Demand3, Claim}
 use Rattle.laws.proofs.Kept.{pcf8532-keeps}
 use Rattle.laws.proofs.Fits.{powered-passes}
@@ -17,7 +16,7 @@ demand3 C L pc keeps = record {
   transfer = λ n s bytes v. transfers.transfer C L keeps n s bytes v;
   sequence = λ n s ts v. sequences.sequence C L keeps n s ts v;
   power-on = λ n r ram. powers.power-on C L n r ram;
-  powered-on = λ n ram ts e. sequences.sequence C L keeps n (record { registers = record { zero = powerOn; one = powerOn }; ram = ram }) ts (powered-passes C L n ram pc e);
+  powered-on = λ n ram ts e. sequences.sequence C L keeps n (stateOf bothOn ram) ts (powered-passes C L n ram pc e);
   show = λ n s g phase out v pg pp e. pictures.show C L n s g phase out v pg pp e;
 }
 

@@ -9,7 +9,7 @@ use lib.ListN.{length, take, drop, length-append, length-drop, take-append-drop}
 use lib.Seq.{length-take-le, take-all, drop-at}
 use Rattle.sheet.specs.declared.Chips.{Chips}
 use Rattle.sheet.specs.declared.Chip.{Chip}
-use Rattle.sheet.specs.Long.{Group, acknowledged, nothing, registersOf, partOf, State}
+use Rattle.sheet.specs.Long.{Group, begun, registersOf, partOf, State}
 use Rattle.sheet.specs.Agree.{groupChips, chipsOf, Valid}
 use Rattle.laws.proofs.Nibbles.{take-nibbles, drop-nibbles, join-nibbles}
 use Rattle.laws.proofs.Kept.{Kept}
@@ -22,8 +22,8 @@ abbrev pub together : Group → Group → State
 together a b = record { registers = record { zero = a .registers; one = b .registers }; ram = a .ram ++ b .ram }
 
 -- group g of a state, whose address has been acknowledged
-abbrev pub groupOf : ℕ → Chips → ℕ → State → Group
-groupOf C n g s = record { registers = registersOf g (s .registers); ram = partOf C n g (s .ram); counts = acknowledged nothing }
+abbrev pub begunIn : ℕ → Chips → ℕ → State → Group
+begunIn C n g s = begun (registersOf g (s .registers)) (partOf C n g (s .ram))
 
 module _ (C L : ℕ) (n : Chips) where
   pub chips-together : (a b : Group) → Kept C L (n .zero) a → chipsOf C n (together a b) ≡ chipsOfGroup C (n .zero) 0 a ++ chipsOfGroup C (n .one) 1 b
@@ -52,21 +52,21 @@ module _ (C L : ℕ) (n : Chips) where
     pub rest-one : partOf C n 1 (s .ram) ≡ drop (C * n .zero) (s .ram)
     rest-one = take-all (C * n .one) (drop (C * n .zero) (s .ram)) (rw rest (le-refl (C * n .one)))
 
-    pub kept-zero : Kept C L (n .zero) (groupOf C n 0 s)
+    pub kept-zero : Kept C L (n .zero) (begunIn C n 0 s)
     kept-zero = record {
       range = f .zero-in;
       size = length-take-le (C * n .zero) (s .ram) (omega (arith, f .columns));
       nibbles = take-nibbles (C * n .zero) (s .ram) (f .nibbles);
     }
 
-    pub kept-one : Kept C L (n .one) (groupOf C n 1 s)
+    pub kept-one : Kept C L (n .one) (begunIn C n 1 s)
     kept-one = record {
       range = f .one-in;
       size = ap length rest-one ∙ rest;
       nibbles = take-nibbles (C * n .one) (drop (C * n .zero) (s .ram)) (drop-nibbles (C * n .zero) (s .ram) (f .nibbles));
     }
 
-    pub apart : s ≡ together (groupOf C n 0 s) (groupOf C n 1 s)
+    pub apart : s ≡ together (begunIn C n 0 s) (begunIn C n 1 s)
     apart i = record {
       registers = s .registers;
       ram = (sym (take-append-drop (C * n .zero) (s .ram)) ∙ ap (λ (c : List ℕ). take (C * n .zero) (s .ram) ++ c) (sym rest-one)) i;

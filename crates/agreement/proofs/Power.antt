@@ -8,17 +8,17 @@ use Rattle.sheet.specs.declared.Both.{Both}
 use Rattle.sheet.specs.declared.Chip.{Chip}
 use Rattle.sheet.specs.declared.Chips.{Chips}
 use Rattle.sheet.specs.Commands.{powerOn}
-use Rattle.sheet.specs.Long.{State, powerOnCall}
+use Rattle.sheet.specs.Long.{stateOf, powerOnCall}
 use Rattle.sheet.specs.Plain.{chipPowerOn}
 use Rattle.sheet.specs.Agree.{groupOf, chipsOf}
 use Rattle.agreement.proofs.Chips.{set-alike}
 
 pub power-on : (C L : ℕ) (n : Chips) (r : Both) (ram : List ℕ)
-    → map (λ c. chipPowerOn C L c .chip) (chipsOf C n (record { registers = r; ram = ram })) ≡ chipsOf C n (record { registers = powerOnCall C L n ram .registers; ram = ram })
+    → map (λ c. chipPowerOn C L c .chip) (chipsOf C n (stateOf r ram)) ≡ chipsOf C n (stateOf (powerOnCall C L n ram .registers) ram)
 unfolding chipPowerOn powerOnCall
 power-on C L n r ram =
     let f : Chip → Chip = λ c. chipPowerOn C L c .chip in
-    let s : State = record { registers = r; ram = ram } in
+    let s = stateOf r ram in
     map-append f (groupOf C 0 n s) (groupOf C 1 n s)
     ∙ ap₂ (λ (a b : List Chip). a ++ b)
     (set-alike f 0 (r .zero) powerOn (λ i columns. refl) C (n .zero) 0 ram)

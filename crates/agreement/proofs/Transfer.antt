@@ -19,33 +19,33 @@ use Rattle.sheet.specs.declared.Expect.the-variants.{Control}
 use Rattle.sheet.specs.declared.PlainAnswer.{PlainAnswer}
 use Rattle.sheet.specs.Protocol.{addressOf, heardBy}
 use Rattle.sheet.specs.Checks.{checkTransfer}
-use Rattle.sheet.specs.Long.{Group, After, heard, taken, answered, transferCall, State}
+use Rattle.sheet.specs.Long.{Group, After, heard, taken, answered, transferCall, State, stateOf}
 use Rattle.sheet.specs.Plain.{Plain, PlainAfter, plainHeard, plainSaid, plainTaken, plainAnswered, plainCall}
 use Rattle.sheet.specs.Agree.{chipsOf, plainly, Keeps, Valid, Agrees}
 use Rattle.laws.proofs.Kept.{Kept, heard-keeps}
 use Rattle.laws.proofs.Fits.{Fits, fits-of}
 use Rattle.agreement.proofs.Group.{chipsOfGroup, plainOf, heard-agrees}
 use Rattle.agreement.proofs.Checks.{group-hears, chips-hear, same-checks}
-use Rattle.agreement.proofs.Parts.{together, groupOf, chips-together, valid-together, rest-one, kept-zero, kept-one, apart}
+use Rattle.agreement.proofs.Parts.{together, begunIn, chips-together, valid-together, rest-one, kept-zero, kept-one, apart}
 
-abbrev stateOf : After → State
-stateOf a = record { registers = a .result .registers; ram = a .ram }
+abbrev left : After → State
+left a = stateOf (a .result .registers) (a .ram)
 
 -- what the two accounts leave and answer is the same
 record Same (C L : ℕ) (n : Chips) (p : PlainAfter) (a : After) : Type 0 where
-  hold : p .chips ≡ chipsOf C n (stateOf a)
+  hold : p .chips ≡ chipsOf C n (left a)
   acknowledge : p .answer ≡ plainly (a .result .answer)
-  valid : Valid C L n (stateOf a)
+  valid : Valid C L n (left a)
 
 module _ (C L : ℕ) (keeps : Keeps C L) (n : Chips) (s : State) (bytes : List ℕ) (v : Valid C L n s) where
   fits : Fits C L n (s .registers) (s .ram)
   fits = fits-of C L n (s .registers) (s .ram) v
 
   abbrev groupZero : Group
-  groupZero = groupOf C n 0 s
+  groupZero = begunIn C n 0 s
 
   abbrev groupOne : Group
-  groupOne = groupOf C n 1 s
+  groupOne = begunIn C n 1 s
 
   -- a group after the bytes
   abbrev after : Group → Group
@@ -57,7 +57,7 @@ module _ (C L : ℕ) (keeps : Keeps C L) (n : Chips) (s : State) (bytes : List �
 
   -- groups a and b after the transfer
   conclude : (a b : Group) (p : Plain) (t : After) → Kept C L (n .zero) a → Kept C L (n .one) b
-      → p .chips ≡ chipsOfGroup C (n .zero) 0 a ++ chipsOfGroup C (n .one) 1 b → stateOf t ≡ together a b
+      → p .chips ≡ chipsOfGroup C (n .zero) 0 a ++ chipsOfGroup C (n .one) 1 b → left t ≡ together a b
       → PlainAnswer.Acknowledged (p .acknowledged) ≡ plainly (t .result .answer) → Same C L n (plainSaid p) t
   conclude a b p t ka kb ep et ea = record {
     hold = ep ∙ sym (ap (λ (q : State). chipsOf C n q) et ∙ chips-together C L n a b ka);

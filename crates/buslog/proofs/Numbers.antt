@@ -22,14 +22,14 @@ use Rattle.sheet.specs.Refusals.{numberOf, placeOf, numbers}
 use Rattle.sheet.specs.Commands.{commandOf, defined}
 use Rattle.sheet.specs.Protocol.{heardBy, next, isCommand, undefinedIn}
 use Rattle.sheet.specs.Checks.{unless, orElse, checkChips, checkLength, checkCommands, checkTransfer}
-use Rattle.sheet.specs.Long.{State, Group, byte, heard, acknowledged, taken, answered, transferCall, registersOf, partOf}
+use Rattle.sheet.specs.Long.{begun, State, Group, byte, heard, acknowledged, taken, answered, transferCall, registersOf, partOf}
 use Rattle.sheet.specs.Logs.{lengthOf, cutIn, checkLog}
 use Rattle.sheet.specs.Agree.{Valid}
 use Rattle.laws.proofs.Ranges.{InRange}
 use Rattle.laws.proofs.Fits.{fits-of}
 use Rattle.laws.proofs.Nibbles.{Nibbles, nibbles-of}
 use Rattle.protocol.specs.declared.Listener.{Listener}
-use Rattle.protocol.specs.Listeners.{groupOf, listenerOf, begun}
+use Rattle.protocol.specs.Listeners.{groupOf, listenerOf}
 use Rattle.protocol.proofs.Hearing.{Sound, Hearing, byte-turn, at-end}
 use Rattle.long.proofs.Parts.{part-in, part-passes, transfer-passed}
 use borrow.Author.Tests.{leb-true}

@@ -12,11 +12,10 @@ use Rattle.sheet.specs.declared.Chips.{Chips}
 use Rattle.sheet.specs.declared.Transferred.{Transferred}
 use Rattle.sheet.specs.declared.Check.the-variants.{Passed}
 use Rattle.sheet.specs.Refusals.{numbers}
-use Rattle.sheet.specs.Long.{transferCall, stateAfterAll}
+use Rattle.sheet.specs.Long.{stateOf, transferCall, stateAfterAll}
 use Rattle.sheet.specs.Logs.{cutIn, line, transferLines}
 use Rattle.buslog.specs.Texts.{Puts}
 use Rattle.buslog.specs.Records.{recordsFrom}
-use Rattle.buslog.specs.Replays.{stateOf}
 use Rattle.buslog.proofs.Writing.{Writing, rest-is, turn}
 use Rattle.buslog.proofs.Records.{Next}
 

@@ -5,15 +5,9 @@ use mathlib.Core.List.{List, _++_}
 use Prim.Native.Nat.{ℕ}
 use lib.Dec.{ltb}
 use lib.ListN.{length, drop}
-use Rattle.sheet.specs.declared.Both.{Both}
-use Rattle.sheet.specs.Long.{State}
 use Rattle.sheet.specs.Logs.{textOf}
 use Rattle.buslog.specs.declared.Replayed.{Replayed}
 use Rattle.buslog.specs.declared.Replayed.the-variants.{Written, SmallBuffer}
-
--- the state that registers and a RAM make
-abbrev pub stateOf : Both → List ℕ → State
-stateOf registers ram = record { registers = registers; ram = ram }
 
 -- room for the text of any log
 abbrev pub room : ℕ

@@ -14,11 +14,11 @@ ghost use lib.ListN.{length, drop, replicate};
 ghost use Rattle.sheet.specs.Refusals.{numberOf, placeOf, numbers};
 ghost use Rattle.sheet.specs.Checks.{chipsIn, checkChips};
 ghost use Rattle.sheet.specs.Logs.{lengthOf, logChips, cutIn, checkLog, decimal, spaced, line, transferLines, columnLines, shownAt, endLines, logStart, logLines, textOf};
-ghost use Rattle.sheet.specs.Long.{stateAfterAll};
+ghost use Rattle.sheet.specs.Long.{stateOf, stateAfterAll};
 ghost use Rattle.sheet.specs.Agree.{Valid};
 ghost use Rattle.sheet.specs.Pictures.{litIn};
 ghost use Rattle.buslog.specs.Texts.{Puts};
-ghost use Rattle.buslog.specs.Replays.{stateOf, replayCall};
+ghost use Rattle.buslog.specs.Replays.{replayCall};
 ghost use Rattle.buslog.specs.Records.{recordIn, recordsFrom};
 
 // ---- writers: each writes at a place and returns the place after what it wrote

@@ -17,6 +17,7 @@ use Rattle.sheet.specs.declared.Check.{Check}
 use Rattle.sheet.specs.declared.Check.the-variants.{Passed, Refused}
 use Rattle.sheet.specs.Commands.{inRange, powerOn}
 use Rattle.sheet.specs.Checks.{unless, orElse, overIn, checkChips, checkRegisters, checkRam, checkState, checkPowerOn}
+use Rattle.sheet.specs.Long.{bothOn}
 use Rattle.sheet.specs.Plain.{passed}
 use Rattle.laws.proofs.Ranges.{InRange, range-of, in-range}
 use Rattle.laws.proofs.Nibbles.{Nibbles, nibbles-of, check-nibbles}
@@ -82,6 +83,6 @@ power-on-in C L pc =
     record { e-in = two; b-in = two; m-in = four; p-in = pc; a-in = zero-le; i-in = two; o-in = two; ab-in = two; bf-in = four }
 
 pub powered-passes : (C L : ℕ) (n : Chips) (ram : List ℕ) → 0 < C → checkPowerOn C L n ram ≡ Passed
-    → checkState C L n (record { zero = powerOn; one = powerOn }) ram ≡ Passed
+    → checkState C L n bothOn ram ≡ Passed
 unfolding checkState checkPowerOn checkRegisters
 powered-passes C L n ram pc e = rw (in-range C L powerOn (power-on-in C L pc)) e

@@ -19,7 +19,7 @@ use Rattle.sheet.specs.declared.Expect.{Expect}
 use Rattle.sheet.specs.declared.Expect.the-variants.{Control, OneCommand, Commands, OneData, Run}
 use Rattle.sheet.specs.Protocol.{addressOf, heardBy, next}
 use Rattle.sheet.specs.Checks.{checkState, checkTransfer}
-use Rattle.sheet.specs.Long.{Group, After, acknowledged, nothing, byte, dataByte, heard, registersOf, partOf, taken, answered, transferCall}
+use Rattle.sheet.specs.Long.{Group, After, begun, byte, dataByte, heard, registersOf, partOf, taken, answered, transferCall}
 use Rattle.laws.proofs.Runs.{length-bits}
 use Rattle.laws.proofs.Fits.{Fits, both-pass, fits-of}
 
@@ -55,7 +55,7 @@ module _ (C L : ℕ) (n : Chips) (r : Both) (ram bytes : List ℕ) (f : Fits C L
 
   one-kept : (t : Bool) → Stays C n 1 r ram (taken C L n r ram bytes (cond t (To 0) Nobody))
   one-kept true =
-      let before : Group = record { registers = r .zero; ram = take (C * n .zero) ram; counts = acknowledged nothing } in
+      let before = begun (r .zero) (take (C * n .zero) ram) in
       record {
         registers = refl;
         columns =

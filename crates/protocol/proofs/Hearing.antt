@@ -17,14 +17,14 @@ use Rattle.sheet.specs.Commands.{backplanes, bankRow}
 use Rattle.sheet.specs.Places.{position, atPosition}
 use Rattle.sheet.specs.Data.{counted}
 use Rattle.sheet.specs.Protocol as protocol
-use Rattle.sheet.specs.Long.{Group, command, byte, dataByte, heard}
+use Rattle.sheet.specs.Long.{begun, Group, command, byte, dataByte, heard}
 use Rattle.laws.proofs.Ranges.{InRange, kept, planes-pos, rows-fit}
 use Rattle.laws.proofs.Counts.{stored-closed, present-le}
 use Rattle.laws.proofs.Steps.{stays-in}
 use Rattle.laws.proofs.Runs.{length-bits}
 use Rattle.laws.proofs.Nibbles.{Nibbles, bits-nibbles}
 use Rattle.protocol.specs.declared.Listener.{Listener}
-use Rattle.protocol.specs.Listeners.{groupOf, listenerOf, dataEnd, begun}
+use Rattle.protocol.specs.Listeners.{groupOf, listenerOf, dataEnd}
 
 -- ---- after i bytes, with size columns
 

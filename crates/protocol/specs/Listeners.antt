@@ -3,8 +3,7 @@ use mathlib.Core.List.{List}
 use Prim.Native.Nat.{ℕ}
 use Rattle.sheet.specs.declared.Expect.{Expect}
 use Rattle.sheet.specs.declared.Expect.the-variants.{Control, OneCommand, Commands, OneData, Run}
-use Rattle.sheet.specs.declared.Registers.{Registers}
-use Rattle.sheet.specs.Long.{Group, acknowledged, nothing}
+use Rattle.sheet.specs.Long.{Group}
 use Rattle.protocol.specs.declared.Listener.{Listener}
 use Rattle.protocol.specs.declared.Heard.{Heard}
 
@@ -13,10 +12,6 @@ groupOf l ram = record { registers = l .registers; ram = ram; counts = l .counts
 
 abbrev pub listenerOf : Expect → Group → Listener
 listenerOf e g = record { expect = e; registers = g .registers; counts = g .counts }
-
--- a group whose address was acknowledged
-abbrev pub begun : Registers → List ℕ → Group
-begun r ram = record { registers = r; ram = ram; counts = acknowledged nothing }
 
 abbrev pub heardOf : Group → Heard
 heardOf g = record { registers = g .registers; counts = g .counts }

@@ -13,8 +13,8 @@ ghost use Rattle.sheet.specs.Checks.{overIn};
 ghost use Rattle.sheet.specs.Commands.{commandOf, defined, inRange};
 ghost use Rattle.sheet.specs.Places.{atPosition};
 ghost use Rattle.sheet.specs.Protocol.{controlOf, next, isCommand, undefinedIn};
-ghost use Rattle.sheet.specs.Long.{control, command, heard};
-ghost use Rattle.protocol.specs.Listeners.{groupOf, listenerOf, dataEnd, begun, heardOf};
+ghost use Rattle.sheet.specs.Long.{begun, control, command, heard};
+ghost use Rattle.protocol.specs.Listeners.{groupOf, listenerOf, dataEnd, heardOf};
 
 // What follows a control byte.
 fn after_control(byte: u8) -> Expect

@@ -32,8 +32,8 @@ pub fn with_row(row: usize, bit: u8, column: u8) -> u8
 fn reversed(x: u8) -> u8
     ensures { λ r. ⌜ r ≡ field x 0 8 ⌝ }
 {
-    let pairs = (x & 51) * 4 + (x / 4 & 51);
-    let nibbles = (pairs & 85) * 2 + (pairs / 2 & 85);
+    let pairs = (x & 0x33) * 4 + (x / 4 & 0x33);
+    let nibbles = (pairs & 0x55) * 2 + (pairs / 2 & 0x55);
     nibbles % 16 * 16 + nibbles / 16
 }
 
@@ -46,7 +46,6 @@ fn put(ram: &mut [u8], at: usize, low: u8, high: u8, f: u8)
     ram[at] = q / high * high + (f * low + q % low);
 }
 
-// What row or bit k is worth.
 // One row of a column. A column past the end is nobody's.
 fn put_row(ram: &mut [u8], at: usize, row: usize, bit: u8)
     requires { ⌜ (row < 4) × (bit < 2) ⌝ }
@@ -57,7 +56,6 @@ fn put_row(ram: &mut [u8], at: usize, row: usize, bit: u8)
     }
 }
 
-// The first row of a bank; 1:3 and 1:4 have one bank.
 // A data byte bit by bit, with a test for each: for the one byte of a run that is cut.
 fn put_bits(ram: &mut [u8], at: usize, m: usize, b: usize, x: u8)
     requires { ⌜ (0 < m) × (b + m ≤ 4) × (at < 2 ^ 32) ⌝ }

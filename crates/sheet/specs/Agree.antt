@@ -15,7 +15,7 @@ use Rattle.sheet.specs.declared.PlainAnswer.{PlainAnswer}
 use Rattle.sheet.specs.declared.Pictured.{Pictured}
 use Rattle.sheet.specs.Commands.{commandOf, obeyed, inRange}
 use Rattle.sheet.specs.Checks.{chipsIn, checkState}
-use Rattle.sheet.specs.Long.{State, Seen, registersOf, startOf, powerOnCall, transferCall, pictureCall, stateAfter, stateAfterAll}
+use Rattle.sheet.specs.Long.{State, stateOf, Seen, registersOf, startOf, powerOnCall, transferCall, pictureCall, stateAfter, stateAfterAll}
 use Rattle.sheet.specs.Plain.{chipPowerOn, chipPictureCall, plainCall}
 
 -- ---- the chips of a long state
@@ -106,10 +106,10 @@ pub record Shows (C L : ℕ) (n : Chips) (s : State) (g phase : ℕ) (out : List
 pub record Demand3 (C L : ℕ) : Type 1 where
   pub transfer : (n : Chips) (s : State) (bytes : List ℕ) → Valid C L n s → Agrees C L n s bytes
   pub sequence : (n : Chips) (s : State) (ts : List (List ℕ)) → Valid C L n s → AgreesAll C L n s ts
-  pub power-on : (n : Chips) (r : Both) (ram : List ℕ) → map (λ c. chipPowerOn C L c .chip) (chipsOf C n (record { registers = r; ram = ram }))
-      ≡ chipsOf C n (record { registers = powerOnCall C L n ram .registers; ram = ram })
+  pub power-on : (n : Chips) (r : Both) (ram : List ℕ) → map (λ c. chipPowerOn C L c .chip) (chipsOf C n (stateOf r ram))
+      ≡ chipsOf C n (stateOf (powerOnCall C L n ram .registers) ram)
   pub powered-on : (n : Chips) (ram : List ℕ) (ts : List (List ℕ)) → powerOnCall C L n ram .check ≡ Passed
-      → AgreesAll C L n (record { registers = powerOnCall C L n ram .registers; ram = ram }) ts
+      → AgreesAll C L n (stateOf (powerOnCall C L n ram .registers) ram) ts
   pub show : (n : Chips) (s : State) (g phase : ℕ) (out : List ℕ) → Valid C L n s → g < 2 → phase < 2 → length out ≡ C * chipsIn g n → Shows C L n s g phase out
 
 -- for any part whose commands keep the ranges

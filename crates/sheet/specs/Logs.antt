@@ -10,9 +10,8 @@ use Rattle.sheet.specs.declared.Check.the-variants.{Passed, Refused}
 use Rattle.sheet.specs.declared.Refusal.the-variants.{LogHead, CutRecord, LongLog}
 use Rattle.sheet.specs.Refusals.{numberOf, placeOf, numbers}
 use Rattle.sheet.specs.Checks.{unless, orElse, checkChips}
-use Rattle.sheet.specs.Commands.{powerOn}
 use Rattle.sheet.specs.Pictures.{pictureOf, litIn}
-use Rattle.sheet.specs.Long.{State, transferCall, stateAfter, stateAfterAll, registersOf, partOf}
+use Rattle.sheet.specs.Long.{State, stateOf, bothOn, transferCall, stateAfter, stateAfterAll, registersOf, partOf}
 
 -- ---- the log
 
@@ -91,7 +90,7 @@ endLines n s =
 
 -- power-on, with RAM all 0
 abbrev pub logStart : Chips → State
-logStart n = record { registers = record { zero = powerOn; one = powerOn }; ram = replicate (160 * (n .zero + n .one)) 0 }
+logStart n = stateOf bothOn (replicate (160 * (n .zero + n .one)) 0)
 
 abbrev pub logLines : Chips → List (List ℕ) → List ℕ
 logLines n ts = transferLines n 0 (logStart n) ts ++ endLines n (stateAfterAll 160 4 n (logStart n) ts)

@@ -35,6 +35,13 @@ pub record Group : Type 0 where
 abbrev pub acknowledged : Counts → Counts
 acknowledged t = record { acknowledged = t .acknowledged + 1; stored = t .stored; discarded = t .discarded }
 
+abbrev pub nothing : Counts
+nothing = record { acknowledged = 0; stored = 0; discarded = 0 }
+
+-- after the address, which is acknowledged
+abbrev pub begun : Registers → List ℕ → Group
+begun r ram = record { registers = r; ram = ram; counts = acknowledged nothing }
+
 -- a control byte, a command, a data byte
 abbrev pub control : Group → Group
 control g = record { registers = g .registers; ram = g .ram; counts = acknowledged (g .counts) }
@@ -86,16 +93,16 @@ partOf C n g ram = take (C * chipsIn g n) (drop (startOf C n g) ram)
 
 -- ---- the calls. Each gives its result and what a lent buffer holds after it
 
+abbrev pub bothOn : Both
+bothOn = record { zero = powerOn; one = powerOn }
+
 -- power-on: RAM keeps what it held
 unfoldable pub powerOnCall : ℕ → ℕ → Chips → List ℕ → PowerOn
-powerOnCall C L n ram = record { check = checkPowerOn C L n ram; registers = record { zero = powerOn; one = powerOn } }
+powerOnCall C L n ram = record { check = checkPowerOn C L n ram; registers = bothOn }
 
 pub record After : Type 0 where
   pub result : Transferred
   pub ram : List ℕ
-
-abbrev pub nothing : Counts
-nothing = record { acknowledged = 0; stored = 0; discarded = 0 }
 
 -- a group hears the bytes after the address, which is acknowledged; the rest of the RAM and the other registers stay
 abbrev pub heardIn : ℕ → Chips → ℕ → Both → List ℕ → Group → After
@@ -106,8 +113,7 @@ heardIn C n g r ram h = record {
 
 abbrev pub taken : ℕ → ℕ → Chips → Both → List ℕ → List ℕ → Addressed → After
 taken C L n r ram bytes (To g) =
-    heardIn C n g r ram
-    (heard C L Control (drop 1 bytes) (record { registers = registersOf g r; ram = partOf C n g ram; counts = acknowledged nothing }))
+    heardIn C n g r ram (heard C L Control (drop 1 bytes) (begun (registersOf g r) (partOf C n g ram)))
 taken C L n r ram bytes Nobody = record { result = record { answer = Answer.Taken nothing; registers = r }; ram = ram }
 
 abbrev pub answered : Check → Both → List ℕ → After → After
@@ -123,10 +129,13 @@ pub record State : Type 0 where
   pub registers : Both
   pub ram : List ℕ
 
+abbrev pub stateOf : Both → List ℕ → State
+stateOf r ram = record { registers = r; ram = ram }
+
 abbrev pub stateAfter : ℕ → ℕ → Chips → State → List ℕ → State
 stateAfter C L n s bytes =
     let a = transferCall C L n (s .registers) (s .ram) bytes in
-    record { registers = a .result .registers; ram = a .ram }
+    stateOf (a .result .registers) (a .ram)
 
 -- after a sequence of transfers; a refused one changes nothing
 unfoldable pub stateAfterAll : ℕ → ℕ → Chips → State → List (List ℕ) → State

@@ -14,7 +14,7 @@ use Rattle.sheet.specs.Data.{putBits, changed, withRow, storedBits, coun
 use Rattle.sheet.specs.Protocol.{heardBy, controlOf, undefinedIn}
 use Rattle.sheet.specs.Checks.{checkChips, checkRegisters, overIn, checkRam, checkLength, checkState, checkTransfer}
 use Rattle.sheet.specs.Pictures.{shown, pictureOf}
-use Rattle.sheet.specs.Long.{heard, dataByte, transferCall}
+use Rattle.sheet.specs.Long.{heard, dataByte, bothOn, transferCall}
 
 -- a column and what it holds or shows
 pub record Column : Type 0 where
@@ -46,7 +46,7 @@ holds ram (c ∷ cs) = eqb (getD ram (c .at) 99) (c .value) && holds ram cs
 
 abbrev pub passes : Row → Bool
 passes row =
-    let s = transferCall 160 4 (record { zero = row .chips; one = 0 }) (record { zero = powerOn; one = powerOn }) (replicate (160 * row .chips) (row .fill)) (row .bytes) in
+    let s = transferCall 160 4 (record { zero = row .chips; one = 0 }) bothOn (replicate (160 * row .chips) (row .fill)) (row .bytes) in
     let r = s .result .registers .zero in
     same (numbers (s .result .answer)) (row .answer) && (eqb (r .a) (row .a) && (eqb (r .p) (row .p)
     && (holds (s .ram) (row .columns) && holds (pictureOf r (row .phase) (s .ram)) (row .picture))))

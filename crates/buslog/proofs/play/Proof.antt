@@ -5,11 +5,10 @@ use mathlib.Core.List.{List, _++_}
 use Prim.Native.Nat.{ℕ, _+_, _≤_}
 use native.Mathlib.Omega.{arith}
 use lib.ListN.{length}
-use Rattle.sheet.specs.Long.{State, stateAfterAll}
+use Rattle.sheet.specs.Long.{stateOf, State, stateAfterAll}
 use Rattle.sheet.specs.Logs.{transferLines, endLines, logStart, logLines}
 use Rattle.sheet.specs.Agree.{Valid}
 use Rattle.buslog.specs.Records.{recordsFrom}
-use Rattle.buslog.specs.Replays.{stateOf}
 use Rattle.buslog.proofs.Writing.{Writing, begin, rest-is, turn, last, room, room-left}
 use Rattle.agreement.proofs.Demand.{pcf8532}
 use Rattle.buslog.proofs.States.{start-valid}

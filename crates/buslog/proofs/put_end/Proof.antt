@@ -5,8 +5,8 @@ use mathlib.Core.List.{List, [], _∷_, _++_}
 use Prim.Native.Nat.{ℕ}
 use native.Mathlib.Omega.{arith}
 use Rattle.sheet.specs.Pictures.{litIn}
+use Rattle.sheet.specs.Long.{stateOf}
 use Rattle.sheet.specs.Logs.{line, columnLines, shownAt, endLines}
-use Rattle.buslog.specs.Replays.{stateOf}
 use Rattle.buslog.proofs.Writing.{Writing, begin, rest-is, turn, last, room, room-left}
 use borrow.Author.Needs.{needs}
 use Rattle.buslog.proofs.put_end.Statement.{statement}

@@ -8,11 +8,10 @@ use lib.ListN.{length, take, drop, length-append}
 use lib.Seq.{length-take-le, take-at}
 use Rattle.sheet.specs.declared.Pictured.{Pictured}
 use Rattle.sheet.specs.Pictures.{litIn}
-use Rattle.sheet.specs.Long.{Seen, State, pictureCall}
+use Rattle.sheet.specs.Long.{stateOf, Seen, State, pictureCall}
 use Rattle.sheet.specs.Logs.{shownAt, columnLines}
 use Rattle.laws.proofs.Fits.{fits-of}
 use Rattle.long.proofs.Parts.{part-few}
-use Rattle.buslog.specs.Replays.{stateOf}
 use Rattle.buslog.proofs.States.{seenAt, shown-valid}
 use borrow.Author.Needs.{needs}
 use Rattle.buslog.proofs.put_group.Statement.{statement}

@@ -13,12 +13,11 @@ use Rattle.sheet.specs.declared.Check.{Check}
 use Rattle.sheet.specs.declared.Check.the-variants.{Passed}
 use Rattle.sheet.specs.Plain.{passed}
 use Rattle.sheet.specs.Logs.{cutIn, recordsIn, transferLines, line}
-use Rattle.sheet.specs.Long.{stateAfterAll}
+use Rattle.sheet.specs.Long.{stateOf, stateAfterAll}
 use Rattle.sheet.specs.Refusals.{numbers}
 use Rattle.buslog.specs.declared.Record.{Record}
 use Rattle.buslog.specs.declared.Record.the-variants.{Body, End, Cut}
 use Rattle.buslog.specs.Records.{recordIn, recordsFrom}
-use Rattle.buslog.specs.Replays.{stateOf}
 use Rattle.buslog.specs.Texts.{Puts}
 use Rattle.buslog.proofs.Record.{the-type}
 use Rattle.buslog.proofs.Writing.{begin, rest-is, done, room, puts-length}

@@ -13,11 +13,11 @@ use Rattle.sheet.specs.declared.Registers.{Registers}
 use Rattle.sheet.specs.declared.Check.the-variants.{Passed}
 use Rattle.sheet.specs.Checks.{overIn}
 use Rattle.sheet.specs.Commands.{inRange}
-use Rattle.sheet.specs.Long.{Group, heard}
+use Rattle.sheet.specs.Long.{begun, Group, heard}
 use Rattle.laws.proofs.Ranges.{range-of, in-range}
 use Rattle.laws.proofs.Nibbles.{nibbles-of, check-nibbles}
 use Rattle.protocol.specs.declared.Listener.{Listener}
-use Rattle.protocol.specs.Listeners.{groupOf, begun, heardOf}
+use Rattle.protocol.specs.Listeners.{groupOf, heardOf}
 use Rattle.protocol.proofs.Hearing.{Hearing, ends-in, byte-turn, data-turn, at-end}
 use Rattle.protocol.proofs.hear.Statement.{statement}
 use Rattle.protocol.proofs.hear.Tie as tie
