@@ -33,7 +33,7 @@ fn by_model(chips: &mut [u8], sent: &[u8], answer: &mut [usize]) -> u8 {
 }
 
 /// Makes the call both ways on `chips` and holds all results together.
-fn compare(chips: &mut [u8], sent: &[u8], answer_length: usize) {
+fn compare(chips: &mut [u8], sent: &[u8], answer_length: usize) -> u8 {
     let given = chips.to_vec();
     let mut others = chips.to_vec();
     let mut answer = vec![77; answer_length];
@@ -46,6 +46,7 @@ fn compare(chips: &mut [u8], sent: &[u8], answer_length: usize) {
         same,
         "plain differs\n chips {given:?}\n sent {sent:?}\n library {number} {answer:?} {chips:?}\n model {expected_number} {expected:?} {others:?}"
     );
+    number
 }
 
 fn chip(random: &mut Random, set: &[u8]) -> Vec<u8> {
@@ -96,6 +97,31 @@ fn plain_damaged() {
         let length = random.pick(&[5, 5, 5, 5, 5, 5, 5, 4, 6, 0]);
         compare(&mut chips, &sent, length);
     });
+}
+
+/// Every set of faults at once: 10, 11, 1, 2, 7.
+#[test]
+fn plain_orders() {
+    let undefined = [0x70, 0x80, 0x01, 0x00, 0xE4, 0xFC];
+    let too_long = [&undefined[..], &[0xFF; 4091]].concat();
+    let transfers: [(&[u8], u8); 6] = [
+        (&[0x70], 0),
+        (&[], 1),
+        (&too_long, 2),
+        (&[0x71; 4097], 2),
+        (&undefined, 7),
+        (&[0x71, 0x00, 0xFF], 0),
+    ];
+    for (count, many) in [(1, 0), (8, 0), (9, 10), (10, 10)] {
+        for (value, misfit) in [(0, 0), (9, 11)] {
+            for (sent, number) in transfers {
+                let mut chips = vec![0; count * CHIP];
+                chips[count * CHIP - 1] = value;
+                let expected = [many, misfit, number].into_iter().find(|&n| n != 0);
+                assert_eq!(compare(&mut chips, sent, 5), expected.unwrap_or(0));
+            }
+        }
+    }
 }
 
 /// Lists that end inside a chip, and too many chips, whole or not.
