@@ -18,7 +18,7 @@ ghost use Rattle.sheet.specs.Long.{stateOf, stateAfterAll};
 ghost use Rattle.sheet.specs.Agree.{Valid};
 ghost use Rattle.sheet.specs.Pictures.{litIn};
 ghost use Rattle.buslog.specs.Texts.{Puts};
-ghost use Rattle.buslog.specs.Replays.{room, replayCall};
+ghost use Rattle.buslog.specs.Replays.{replayCall};
 ghost use Rattle.buslog.specs.Records.{recordIn, recordsFrom};
 
 // ---- writers: each writes at a place and returns the place after what it wrote
@@ -353,13 +353,6 @@ pub const TEXT: usize = 1300000;
 pub enum Replayed {
     Written(usize),
     SmallBuffer,
-}
-
-// A buffer that has room for any text.
-pub fn text_buffer() -> [u8; TEXT]
-    ensures { λ r. ⌜ r ≡ replicate room 0 ⌝ }
-{
-    [0; TEXT]
 }
 
 // Writes a log's text to the start of a buffer that has room for any.

@@ -12,6 +12,12 @@ fn input_buffer() -> [u8; 700000]
     [0; 700000]
 }
 
+fn text_buffer() -> [u8; 1300000]
+    ensures { λ r. ⌜ 1300000 ≡ length r ⌝ }
+{
+    [0; 1300000]
+}
+
 fn wide(byte: u8) -> usize
     ensures { λ r. ⌜ r < 256 ⌝ }
 {
@@ -64,6 +70,6 @@ fn write_all(input: &[u8], out: &mut [u8]) {
 fn main() {
     let mut input = input_buffer();
     let size = io::read_full(STDIN_FILENO, &mut input);
-    let mut out = buslog::text_buffer();
+    let mut out = text_buffer();
     write_all(&input[..size], &mut out);
 }
