@@ -1,4 +1,4 @@
--- Demand 3, for any column count and limit, and for the PCF8532.
+-- Demand 3, wherever the commands keep the ranges, and for the PCF8532.
 -- Assumes nothing.
 use native.Mathlib.Omega.{arith}
 use Rattle.sheet.specs.Long.{stateOf, bothOn, powerOnCall}
@@ -8,16 +8,13 @@ use Rattle.laws.proofs.Fits.{powered-passes}
 use Rattle.agreement.proofs.Transfer as transfers
 use Rattle.agreement.proofs.Sequence as sequences
 use Rattle.agreement.proofs.Power as powers
-use Rattle.agreement.proofs.Show as pictures
 
 pub demand3 : Claim
 unfolding powerOnCall
 demand3 C L pc keeps = record {
   transfer = λ n s bytes v. transfers.transfer C L keeps n s bytes v;
   sequence = λ n s ts v. sequences.sequence C L keeps n s ts v;
-  power-on = λ n r ram. powers.power-on C L n r ram;
-  powered-on = λ n ram ts e. sequences.sequence C L keeps n (stateOf bothOn ram) ts (powered-passes C L n ram pc e);
-  show = λ n s g phase out v pg pp e. pictures.show C L n s g phase out v pg pp e;
+  powered-on = λ n r ram ts e. rw (powers.power-on C L n r ram) (sequences.sequence C L keeps n (stateOf bothOn ram) ts (powered-passes C L n ram pc e));
 }
 
 -- the commands of the PCF8532 keep P below 160 and A at most 4

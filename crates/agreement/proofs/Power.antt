@@ -1,7 +1,7 @@
 -- Chips powered on one by one are the chips of the long state powered on.
 -- Assumes nothing.
 use mathlib.Core.Path.{_≡_, refl, ap₂, _∙_}
-use mathlib.Core.List.{List, _++_, map, map-append}
+use mathlib.Core.List.{List, _++_, map-append}
 use Prim.Native.Nat.{ℕ, _*_}
 use lib.ListN.{drop}
 use Rattle.sheet.specs.declared.Both.{Both}
@@ -10,11 +10,11 @@ use Rattle.sheet.specs.declared.Chips.{Chips}
 use Rattle.sheet.specs.Commands.{powerOn}
 use Rattle.sheet.specs.Long.{stateOf, powerOnCall}
 use Rattle.sheet.specs.Plain.{chipPowerOn}
-use Rattle.sheet.specs.Agree.{groupOf, chipsOf}
+use Rattle.sheet.specs.Agree.{groupOf, chipsOf, poweredOn}
 use Rattle.agreement.proofs.Chips.{set-alike}
 
 pub power-on : (C L : ℕ) (n : Chips) (r : Both) (ram : List ℕ)
-    → map (λ c. chipPowerOn C L c .chip) (chipsOf C n (stateOf r ram)) ≡ chipsOf C n (stateOf (powerOnCall C L n ram .registers) ram)
+    → poweredOn C L (chipsOf C n (stateOf r ram)) ≡ chipsOf C n (stateOf (powerOnCall C L n ram .registers) ram)
 unfolding chipPowerOn powerOnCall
 power-on C L n r ram =
     let f : Chip → Chip = λ c. chipPowerOn C L c .chip in

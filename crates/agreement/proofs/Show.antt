@@ -1,11 +1,13 @@
 -- The chips' pictures one after the other are the long picture, and their lit elements add up.
 -- Assumes nothing.
 use mathlib.Core.Path.{_≡_, refl, sym, ap, ap₂, _∙_}
-use mathlib.Core.List.{List, [], _∷_, _++_, map-append}
+use mathlib.Core.Bool.{Bool, true, false, cond}
+use mathlib.Core.List.{List, [], _∷_, _++_, map-append, append-nil}
 use Prim.Native.Nat.{ℕ, zero, suc, _+_, _*_, _≤_, _<_}
 use native.Mathlib.Nat.{add-assoc, zero-add, mul-zero, suc-ne-zero}
 use native.Mathlib.Omega.{arith}
 use lib.Count.{ones}
+use lib.Dec.{eqb}
 use lib.ListN.{length, take, drop, replicate, length-drop, length-replicate, take-append-drop}
 use lib.Seq.{length-take-le}
 use borrow.Author.Tests.{lt-ltb, eq-eqb}
@@ -17,7 +19,7 @@ use Rattle.sheet.specs.Checks.{chipsIn, checkPicture}
 use Rattle.sheet.specs.Pictures.{pictureOf, litIn}
 use Rattle.sheet.specs.Long.{State, Seen, registersOf, partOf, pictureCall}
 use Rattle.sheet.specs.Plain.{chipFits, checkChipPicture, chipPictureCall}
-use Rattle.sheet.specs.Agree.{groupChips, groupOf, Valid, chipSeen, litOf, chipPictures, chipsLit, Shows}
+use Rattle.sheet.specs.Agree.{groupChips, groupOf, chipsOf, Valid, chipSeen, litOf, chipPictures, chipsLit, withAddress, Shows}
 use Rattle.laws.proofs.Ranges.{InRange, in-range}
 use Rattle.laws.proofs.Nibbles.{Nibbles, check-nibbles, take-nibbles, drop-nibbles}
 use Rattle.laws.proofs.Fits.{fits-of}
@@ -78,13 +80,49 @@ seen-group : (C L : ℕ) (n : Chips) (s : State) (g phase : ℕ) (out : List ℕ
 unfolding pictureCall checkPicture
 seen-group C L n s g phase out v pg pp e = rw (v, lt-ltb g 2 pg, lt-ltb phase 2 pp, eq-eqb (length out) (C * chipsIn g n) e) refl
 
+-- ---- the group's chips, among both groups'
+
+with-join : (g : ℕ) (a b : List Chip) → withAddress g (a ++ b) ≡ withAddress g a ++ withAddress g b
+with-join g [] b = refl
+with-join g (c ∷ cs) b = rw (with-join g cs b) (by-test (eqb (c .sa0) g) (withAddress g cs))
+  where
+    by-test : (t : Bool) (l : List Chip) → cond t (c ∷ (l ++ withAddress g b)) (l ++ withAddress g b) ≡ cond t (c ∷ l) l ++ withAddress g b
+    by-test true l = refl
+    by-test false l = refl
+
+with-own : (C g n i : ℕ) (r : Registers) (columns : List ℕ) → withAddress g (groupChips C n g i r columns) ≡ groupChips C n g i r columns
+unfolding groupChips
+with-own C g zero i r columns = refl
+with-own C g (suc n) i r columns = rw (eq-eqb g g refl) (ap (λ (l : List Chip). chipAt g i r (take C columns) ∷ l) (with-own C g n (suc i) r (drop C columns)))
+
+with-other : (C g h n i : ℕ) (r : Registers) (columns : List ℕ) → eqb h g ≡ false → withAddress g (groupChips C n h i r columns) ≡ []
+unfolding groupChips
+with-other C g h zero i r columns e = refl
+with-other C g h (suc n) i r columns e = rw e (with-other C g h n (suc i) r (drop C columns) e)
+
+with-group : (C : ℕ) (n : Chips) (s : State) (g : ℕ) → g < 2 → withAddress g (chipsOf C n s) ≡ groupOf C g n s
+with-group C n s zero pg =
+    with-join 0 (groupOf C 0 n s) (groupOf C 1 n s)
+    ∙ ap₂ (λ (a b : List Chip). a ++ b) (with-own C 0 (n .zero) 0 (s .registers .zero) (s .ram)) (with-other C 0 1 (n .one) 0 (s .registers .one) (drop (C * n .zero) (s .ram)) refl)
+    ∙ append-nil (groupOf C 0 n s)
+with-group C n s (suc zero) pg =
+    with-join 1 (groupOf C 0 n s) (groupOf C 1 n s)
+    ∙ ap₂ (λ (a b : List Chip). a ++ b) (with-other C 1 0 (n .zero) 0 (s .registers .zero) (s .ram) refl) (with-own C 1 (n .one) 0 (s .registers .one) (drop (C * n .zero) (s .ram)))
+with-group C n s (suc (suc g)) pg = absurd (omega arith)
+
+-- ---- the law
+
 shows : (C L : ℕ) (n : Chips) (s : State) (g phase : ℕ) (out : List ℕ) → Valid C L n s → g < 2 → phase < 2 → length out ≡ C * chipsIn g n
-    → Same C L phase (groupOf C g n s) (registersOf g (s .registers)) (partOf C n g (s .ram)) → Shows C L n s g phase out
+    → Same C L phase (groupOf C g n s) (registersOf g (s .registers)) (partOf C n g (s .ram)) → Shows C L n s (chipsOf C n s) g phase out
 shows C L n s g phase out v pg pp e same =
     let seen = seen-group C L n s g phase out v pg pp e in
-    record { picture = ap (λ (k : Seen). k .out) seen ∙ sym (same .picture); lit = ap (λ (k : Seen). k .result) seen ∙ ap Pictured.Lit (sym (same .lit)) }
+    let own = with-group C n s g pg in
+    record {
+      picture = ap (λ (k : Seen). k .out) seen ∙ sym (same .picture) ∙ ap (λ (cs : List Chip). chipPictures C L phase cs) (sym own);
+      lit = ap (λ (k : Seen). k .result) seen ∙ ap Pictured.Lit (sym (same .lit)) ∙ ap (λ (cs : List Chip). Pictured.Lit (chipsLit C L phase cs)) (sym own);
+    }
 
-pub show : (C L : ℕ) (n : Chips) (s : State) (g phase : ℕ) (out : List ℕ) → Valid C L n s → g < 2 → phase < 2 → length out ≡ C * chipsIn g n → Shows C L n s g phase out
+pub show : (C L : ℕ) (n : Chips) (s : State) (g phase : ℕ) (out : List ℕ) → Valid C L n s → g < 2 → phase < 2 → length out ≡ C * chipsIn g n → Shows C L n s (chipsOf C n s) g phase out
 show C L n s zero phase out v pg pp e =
     let f = fits-of C L n (s .registers) (s .ram) v in
     shows C L n s zero phase out v pg pp e (same-part C L 0 (s .registers .zero) phase pg pp (f .zero-in) (n .zero) (s .ram) (f .zero-few) (f .nibbles) (omega (arith, f .columns)))

@@ -1,8 +1,10 @@
 -- Demand 3, stated: "Chips 0 upwards of one slave address, powered on together, followed one by one, hold, acknowledge and show after any
--- sequence of accepted transfers what one long RAM does." For any column count C from 1 up and any subaddress limit L. Proved in `agreement`.
+-- sequence of accepted transfers what one long RAM does." Proved in `agreement` for the column counts C and subaddress limits L within which
+-- the PCF8532's commands keep P and A (`Keeps`): C a multiple of 16 from 160 up and L from 3 up, so 160 and 4.
 use Prim.Native.Nat.{ℕ, zero, suc, _+_, _*_, _<_}
 use mathlib.Core.Path.{_≡_}
-use mathlib.Core.Bool.{true}
+use mathlib.Core.Bool.{true, cond}
+use lib.Dec.{eqb}
 use mathlib.Core.List.{List, [], _∷_, _++_, map}
 use lib.ListN.{length, take, drop, replicate}
 use Rattle.sheet.specs.declared.Registers.{Registers}
@@ -64,7 +66,7 @@ plainAnswers C L cs (t ∷ ts) = plainCall C L cs t .answer ∷ plainAnswers C L
 abbrev pub Valid : ℕ → ℕ → Chips → State → Type 0
 Valid C L n s = checkState C L n (s .registers) (s .ram) ≡ Passed
 
--- what is asked of a part's commands: P stays below C and A at most L
+-- what is asked of the commands: P stays below C and A at most L
 abbrev pub Keeps : ℕ → ℕ → Type 0
 Keeps C L = (r : Registers) (x : ℕ) → inRange C L r ≡ true → inRange C L (obeyed r (commandOf x)) ≡ true
 
@@ -74,13 +76,7 @@ pub record Agrees (C L : ℕ) (n : Chips) (s : State) (bytes : List ℕ) : Type 
   pub acknowledge : plainCall C L (chipsOf C n s) bytes .answer ≡ answerTo C L n s bytes
   pub valid : Valid C L n (stateAfter C L n s bytes)
 
--- any sequence
-pub record AgreesAll (C L : ℕ) (n : Chips) (s : State) (ts : List (List ℕ)) : Type 0 where
-  pub hold : plainAll C L (chipsOf C n s) ts ≡ chipsOf C n (stateAfterAll C L n s ts)
-  pub acknowledge : plainAnswers C L (chipsOf C n s) ts ≡ longAnswers C L n s ts
-  pub valid : Valid C L n (stateAfterAll C L n s ts)
-
--- show: each chip alone, into a buffer of C bytes
+-- each chip shown alone, into a buffer of C bytes
 abbrev pub chipSeen : ℕ → ℕ → ℕ → Chip → Seen
 chipSeen C L phase c = chipPictureCall C L c phase (replicate C 0)
 
@@ -97,21 +93,34 @@ abbrev pub chipsLit : ℕ → ℕ → ℕ → List Chip → ℕ
 chipsLit C L phase [] = 0
 chipsLit C L phase (c ∷ cs) = litOf (chipSeen C L phase c .result) + chipsLit C L phase cs
 
--- the group's picture is its chips' one after the other, and their lit elements add up
-pub record Shows (C L : ℕ) (n : Chips) (s : State) (g phase : ℕ) (out : List ℕ) : Type 0 where
-  pub picture : pictureCall C L n (s .registers) (s .ram) g phase out .out ≡ chipPictures C L phase (groupOf C g n s)
-  pub lit : pictureCall C L n (s .registers) (s .ram) g phase out .result ≡ Pictured.Lit (chipsLit C L phase (groupOf C g n s))
+-- the chips of a list that have slave address bit g
+abbrev pub withAddress : ℕ → List Chip → List Chip
+withAddress g [] = []
+withAddress g (c ∷ cs) = cond (eqb (c .sa0) g) (c ∷ withAddress g cs) (withAddress g cs)
 
--- the demand
+-- show: the picture of group g is its chips' one after the other, and their lit elements add up
+pub record Shows (C L : ℕ) (n : Chips) (s : State) (cs : List Chip) (g phase : ℕ) (out : List ℕ) : Type 0 where
+  pub picture : pictureCall C L n (s .registers) (s .ram) g phase out .out ≡ chipPictures C L phase (withAddress g cs)
+  pub lit : pictureCall C L n (s .registers) (s .ram) g phase out .result ≡ Pictured.Lit (chipsLit C L phase (withAddress g cs))
+
+-- hold, acknowledge and show: chips cs and state s, after any sequence of transfers
+pub record AgreesAll (C L : ℕ) (n : Chips) (s : State) (cs : List Chip) (ts : List (List ℕ)) : Type 0 where
+  pub hold : plainAll C L cs ts ≡ chipsOf C n (stateAfterAll C L n s ts)
+  pub acknowledge : plainAnswers C L cs ts ≡ longAnswers C L n s ts
+  pub show : (g phase : ℕ) (out : List ℕ) → g < 2 → phase < 2 → length out ≡ C * chipsIn g n → Shows C L n (stateAfterAll C L n s ts) (plainAll C L cs ts) g phase out
+  pub valid : Valid C L n (stateAfterAll C L n s ts)
+
+-- chips with any registers, each powered on by itself
+abbrev pub poweredOn : ℕ → ℕ → List Chip → List Chip
+poweredOn C L cs = map (λ c. chipPowerOn C L c .chip) cs
+
+-- the demand: from any valid state, and from power-on
 pub record Demand3 (C L : ℕ) : Type 1 where
   pub transfer : (n : Chips) (s : State) (bytes : List ℕ) → Valid C L n s → Agrees C L n s bytes
-  pub sequence : (n : Chips) (s : State) (ts : List (List ℕ)) → Valid C L n s → AgreesAll C L n s ts
-  pub power-on : (n : Chips) (r : Both) (ram : List ℕ) → map (λ c. chipPowerOn C L c .chip) (chipsOf C n (stateOf r ram))
-      ≡ chipsOf C n (stateOf (powerOnCall C L n ram .registers) ram)
-  pub powered-on : (n : Chips) (ram : List ℕ) (ts : List (List ℕ)) → powerOnCall C L n ram .check ≡ Passed
-      → AgreesAll C L n (stateOf (powerOnCall C L n ram .registers) ram) ts
-  pub show : (n : Chips) (s : State) (g phase : ℕ) (out : List ℕ) → Valid C L n s → g < 2 → phase < 2 → length out ≡ C * chipsIn g n → Shows C L n s g phase out
+  pub sequence : (n : Chips) (s : State) (ts : List (List ℕ)) → Valid C L n s → AgreesAll C L n s (chipsOf C n s) ts
+  pub powered-on : (n : Chips) (r : Both) (ram : List ℕ) (ts : List (List ℕ)) → powerOnCall C L n ram .check ≡ Passed
+      → AgreesAll C L n (stateOf (powerOnCall C L n ram .registers) ram) (poweredOn C L (chipsOf C n (stateOf r ram))) ts
 
--- for any part whose commands keep the ranges
+-- wherever the commands keep the ranges
 abbrev pub Claim : Type 1
 Claim = (C L : ℕ) → 0 < C → Keeps C L → Demand3 C L
