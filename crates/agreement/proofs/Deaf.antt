@@ -1,16 +1,13 @@
 -- Chips that do not hear an address: they keep all and acknowledge nothing.
 -- Assumes nothing.
 use mathlib.Core.Path.{_≡_, refl, sym, ap}
-use mathlib.Core.Bool.{Bool, true, false, _&&_, _||_, true≢false, or-false, or-assoc}
+use mathlib.Core.Bool.{Bool, false, _&&_, _||_, or-false, or-assoc}
 use mathlib.Core.List.{List, [], _∷_, _++_, map}
 use Prim.Native.Nat.{ℕ}
+use Rattle.lemmas.proofs.Tests.{either-false}
 use Rattle.sheet.specs.declared.Chip.{Chip}
 use Rattle.sheet.specs.declared.Expect.{Expect}
 use Rattle.sheet.specs.Plain.{any, hears, takes}
-
-either-false : (a b : Bool) → (a || b) ≡ false → (a ≡ false) × (b ≡ false)
-either-false true b e = (e, absurd (true≢false e))
-either-false false b e = (refl, e)
 
 pub any-join : (f : Chip → Bool) (a b : List Chip) → any f (a ++ b) ≡ (any f a || any f b)
 any-join f [] b = refl

@@ -38,7 +38,7 @@ length-byte C L Commands x s = refl
 length-byte C L OneData x s = length-bits 8 _ _ _ x (s .ram)
 length-byte C L Run x s = length-bits 8 _ _ _ x (s .ram)
 
-length-heard : (C L : ℕ) (e : Expect) (xs : List ℕ) (s : Group) → length (heard C L e xs s .ram) ≡ length (s .ram)
+pub length-heard : (C L : ℕ) (e : Expect) (xs : List ℕ) (s : Group) → length (heard C L e xs s .ram) ≡ length (s .ram)
 unfolding heard
 length-heard C L e [] s = refl
 length-heard C L e (x ∷ xs) s = length-heard C L (next e x) xs (byte C L e x s) ∙ length-byte C L e x s
@@ -46,14 +46,14 @@ length-heard C L e (x ∷ xs) s = length-heard C L (next e x) xs (byte C L e x s
 -- ---- each group, where the other one or nobody hears
 
 module _ (C L : ℕ) (n : Chips) (r : Both) (ram bytes : List ℕ) (f : Fits C L n r ram) where
-  zero-kept : (t : Bool) → Stays C n 0 r ram (taken C L n r ram bytes (cond t (To 1) Nobody))
+  pub zero-kept : (t : Bool) → Stays C n 0 r ram (taken C L n r ram bytes (cond t (To 1) Nobody))
   zero-kept true = record {
     registers = refl;
     columns = take-at (take (C * n .zero) ram) _ (C * n .zero) (length-take-le (C * n .zero) ram (omega (arith, f .columns)));
   }
   zero-kept false = record { registers = refl; columns = refl }
 
-  one-kept : (t : Bool) → Stays C n 1 r ram (taken C L n r ram bytes (cond t (To 0) Nobody))
+  pub one-kept : (t : Bool) → Stays C n 1 r ram (taken C L n r ram bytes (cond t (To 0) Nobody))
   one-kept true =
       let before = begun (r .zero) (take (C * n .zero) ram) in
       record {
@@ -72,7 +72,7 @@ answered-stays C n g r ram Passed a h = h refl
 answered-stays C n g r ram (Refused x) a h = record { registers = refl; columns = refl }
 
 module _ (C L : ℕ) (n : Chips) (r : Both) (ram bytes : List ℕ) where
-  fitting : checkTransfer C L n r ram bytes ≡ Passed → Fits C L n r ram
+  pub fitting : checkTransfer C L n r ram bytes ≡ Passed → Fits C L n r ram
   unfolding checkTransfer
   fitting e = fits-of C L n r ram (both-pass (checkState C L n r ram) _ e .0)
 

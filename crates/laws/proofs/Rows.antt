@@ -71,7 +71,7 @@ unfolding changed
 changed-other f c i ram ne = getD-set-other ram c i (f (getD ram c 0)) 0 ne
 
 -- a row that f keeps stays in every column
-row-kept : (f : ℕ → ℕ) (r : ℕ) → ((q : ℕ) → rowOf (f q) r ≡ rowOf q r) → (c i : ℕ) (ram : List ℕ) → rowOf (getD (changed f c ram) i 0) r ≡ rowOf (getD ram i 0) r
+pub row-kept : (f : ℕ → ℕ) (r : ℕ) → ((q : ℕ) → rowOf (f q) r ≡ rowOf q r) → (c i : ℕ) (ram : List ℕ) → rowOf (getD (changed f c ram) i 0) r ≡ rowOf (getD ram i 0) r
 unfolding changed
 row-kept f r h c i [] = refl
 row-kept f r h zero zero (q ∷ qs) = h q
@@ -80,7 +80,7 @@ row-kept f r h (suc c) zero (q ∷ qs) = refl
 row-kept f r h (suc c) (suc i) (q ∷ qs) = row-kept f r h c i qs
 
 -- one row of one column changed: every other row of every column stays
-row-stays : (r t c : ℕ) (ram : List ℕ) (i s : ℕ) → t < 2 → (i ≡ c → s ≡ r → ⊥) → rowOf (getD (changed (withRow r t) c ram) i 0) s ≡ rowOf (getD ram i 0) s
+pub row-stays : (r t c : ℕ) (ram : List ℕ) (i s : ℕ) → t < 2 → (i ≡ c → s ≡ r → ⊥) → rowOf (getD (changed (withRow r t) c ram) i 0) s ≡ rowOf (getD ram i 0) s
 row-stays r t c ram i s p apart =
     ⊎-elim
     (λ (e : i ≡ c). row-kept (withRow r t) s (λ q. row-other r s t q p (apart e)) c i ram)

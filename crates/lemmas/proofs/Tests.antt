@@ -1,6 +1,6 @@
--- Tests that compute: the parts of a passed conjunction, and a statement about every number below a bound by one computed test.
+-- Tests that compute: the parts of a conjunction that is true and of a disjunction that is false, and a statement about every number below a bound by one computed test.
 -- Assumes nothing.
-use mathlib.Core.Bool.{Bool, true, false, _&&_}
+use mathlib.Core.Bool.{Bool, true, false, _&&_, _||_, true≢false}
 use mathlib.Core.Logic.{⊎-elim}
 use mathlib.Core.Path.{_≡_, refl, subst, sym}
 use Prim.Native.Nat.{ℕ, zero, suc, _<_}
@@ -20,6 +20,11 @@ pub both-true : (a b : Bool) → (a && b) ≡ true → (a ≡ true) × (b ≡ tr
 both-true true b e = (refl, e)
 both-true false true e = (e, refl)
 both-true false false e = (e, e)
+
+-- a disjunction that is false has false parts
+pub either-false : (a b : Bool) → (a || b) ≡ false → (a ≡ false) × (b ≡ false)
+either-false true b e = (e, absurd (true≢false e))
+either-false false b e = (refl, e)
 
 -- the test f passes at every number below n
 abbrev pub all : ℕ → (ℕ → Bool) → Bool

@@ -9,5 +9,7 @@ pub mod Pictures
 pub mod Logs
 pub mod Plain
 pub mod Agree
+pub mod Lands
 pub mod Starred
+pub mod Landing
 pub mod Worked
