@@ -12,4 +12,5 @@ pub mod Agree
 pub mod Lands
 pub mod Starred
 pub mod Landing
+pub mod Orders
 pub mod Worked

@@ -1,0 +1,125 @@
+-- The orders of refusals (paper 01, "Refusal numbers"), computed: each call, given every set of its faults, answers the first of them in the paper's order, and its place.
+use Prim.Native.Nat.{ℕ, zero, suc, _+_, _*_}
+use mathlib.Core.Bool.{Bool, true, false, cond, _&&_}
+use mathlib.Core.List.{List, [], _∷_, _++_}
+use lib.Dec.{T, eqb}
+use lib.ListN.{getD, take, replicate}
+use Rattle.sheet.specs.declared.Registers.{Registers}
+use Rattle.sheet.specs.declared.Both.{Both}
+use Rattle.sheet.specs.declared.Chips.{Chips}
+use Rattle.sheet.specs.declared.Chip.{Chip}
+use Rattle.sheet.specs.Refusals.{numbers, plainNumbers, pictureNumbers, checkNumbers}
+use Rattle.sheet.specs.Commands.{powerOn, within, commandOf, inRange, backplanes, bankRow}
+use Rattle.sheet.specs.Places.{advanced, position, atPosition}
+use Rattle.sheet.specs.Data.{putBits, changed, withRow, storedBits, counted}
+use Rattle.sheet.specs.Protocol.{heardBy, controlOf, undefinedIn}
+use Rattle.sheet.specs.Checks.{checkChips, checkRegisters, overIn, checkRam, checkLength, checkState, checkPowerOn, checkTransfer, checkPicture}
+use Rattle.sheet.specs.Pictures.{shown, pictureOf, litIn}
+use Rattle.sheet.specs.Long.{heard, dataByte, powerOnCall, transferCall, pictureCall}
+use Rattle.sheet.specs.Plain.{putRows, column, columns, chipData, chipAcknowledges, plainHeard, chipFits, chipPowerOn, checkChipPicture, chipPictureCall, misfitIn, checkPlain, plainCall}
+use Rattle.sheet.specs.Logs.{cutIn, checkLog}
+use Rattle.sheet.specs.Starred.{same}
+use lib.Count.{ones, onesIn}
+
+-- ---- every set of faults
+
+-- a refusal's number and place
+pub record Fault : Type 0 where
+  pub number : ℕ
+  pub place : ℕ
+
+abbrev refusal : ℕ → ℕ → Fault
+refusal number place = record { number = number; place = place }
+
+-- the first whose fault is there; 0 where none is
+abbrev pub firstOf : List Fault → List Bool → List ℕ
+firstOf [] there = 0 ∷ 0 ∷ []
+firstOf (f ∷ fs) [] = 0 ∷ 0 ∷ []
+firstOf (f ∷ fs) (true ∷ there) = f .number ∷ f .place ∷ []
+firstOf (f ∷ fs) (false ∷ there) = firstOf fs there
+
+abbrev pub everySet : List Fault → (List Bool → Bool) → Bool
+everySet [] f = f []
+everySet (x ∷ xs) f = everySet xs (λ there. f (true ∷ there)) && everySet xs (λ there. f (false ∷ there))
+
+-- an answer's numbers begin with that number and place, whichever faults are there
+abbrev pub inOrder : List Fault → (List Bool → List ℕ) → Bool
+inOrder faults call = everySet faults (λ there. same (take 2 (call there)) (firstOf faults there))
+
+-- fault i is there
+abbrev is : List Bool → ℕ → Bool
+is [] i = false
+is (t ∷ ts) zero = t
+is (t ∷ ts) (suc i) = is ts i
+
+-- ---- the long account: two chips, or five
+
+abbrev chips : Bool → Chips
+chips many = record { zero = cond many 5 1; one = 1 }
+
+-- 160 bytes a chip, or one more; column 2 holds 0, or 16
+abbrev ram : Bool → Bool → Bool → List ℕ
+ram many long over = replicate 2 0 ++ (cond over 16 0 ∷ replicate (cond many 957 317 + cond long 1 0) 0)
+
+-- group 1's M is 0, or 4
+abbrev both : Bool → Both
+both bad = record { zero = powerOn; one = record { e = 0; b = 0; m = cond bad 4 0; p = 0; a = 0; i = 0; o = 0; ab = 0; bf = 0 } }
+
+-- a command 00, or 0A
+abbrev commands : Bool → List ℕ
+commands undefined = 0x70 ∷ 0x00 ∷ cond undefined 0x0A 0x00 ∷ []
+
+-- no bytes, or 4,097
+abbrev empty : Bool → List ℕ → List ℕ
+empty none bytes = cond none [] bytes
+
+abbrev over4096 : Bool → List ℕ → List ℕ
+over4096 more bytes = bytes ++ cond more (replicate 4094 0) []
+
+abbrev state : List Fault
+state = refusal 3 0 ∷ refusal 6 0 ∷ refusal 4 0 ∷ refusal 5 2 ∷ []
+
+abbrev sent : (Bool → List ℕ → List ℕ) → List Bool → List ℕ
+sent length f = numbers (transferCall 160 4 (chips (is f 0)) (both (is f 1)) (ram (is f 0) (is f 2) (is f 3)) (length (is f 4) (commands (is f 5))) .result .answer)
+
+abbrev shownTo : (Bool → ℕ) → (Bool → ℕ) → List Bool → List ℕ
+shownTo group phase f =
+    pictureNumbers (pictureCall 160 4 (chips (is f 0)) (both (is f 1)) (ram (is f 0) (is f 2) (is f 3)) (group (is f 4)) (phase (is f 4)) (replicate (cond (is f 0) 800 160 + cond (is f 5) 1 0) 0) .result)
+
+abbrev pub long : Bool
+long =
+    inOrder (refusal 3 0 ∷ refusal 4 0 ∷ refusal 5 2 ∷ []) (λ f. checkNumbers (powerOnCall 160 4 (chips (is f 0)) (ram (is f 0) (is f 1) (is f 2)) .check))
+    && (inOrder (state ++ (refusal 1 0 ∷ refusal 7 2 ∷ [])) (sent empty) && (inOrder (state ++ (refusal 2 0 ∷ refusal 7 2 ∷ [])) (sent over4096)
+    && (inOrder (state ++ (refusal 8 0 ∷ refusal 9 0 ∷ [])) (shownTo (λ bad. cond bad 2 0) (λ bad. 0))
+    && inOrder (state ++ (refusal 8 0 ∷ refusal 9 0 ∷ [])) (shownTo (λ bad. 0) (λ bad. cond bad 2 0)))))
+
+-- ---- the plain account: a chip and a second one, whose subaddress is 1, or 4; seven more, or none
+
+abbrev chip : ℕ → Chip
+chip i = record { columns = replicate 160 0; sa0 = 0; subaddress = i; registers = powerOn }
+
+abbrev list : Bool → Bool → List Chip
+list many misfit = chip 0 ∷ chip (cond misfit 4 1) ∷ cond many (replicate 7 (chip 2)) []
+
+abbrev called : (Bool → List ℕ → List ℕ) → List Bool → List ℕ
+called length f = plainNumbers (plainCall 160 4 (list (is f 0) (is f 1)) (length (is f 2) (commands (is f 3))) .answer)
+
+abbrev pub plain : Bool
+plain =
+    inOrder (refusal 10 0 ∷ refusal 11 1 ∷ refusal 1 0 ∷ refusal 7 2 ∷ []) (called empty)
+    && (inOrder (refusal 10 0 ∷ refusal 11 1 ∷ refusal 2 0 ∷ refusal 7 2 ∷ []) (called over4096)
+    && (inOrder (refusal 11 0 ∷ []) (λ f. checkNumbers (chipPowerOn 160 4 (chip (cond (is f 0) 4 1)) .check))
+    && inOrder (refusal 11 0 ∷ refusal 8 0 ∷ refusal 9 0 ∷ [])
+    (λ f. pictureNumbers (chipPictureCall 160 4 (chip (cond (is f 0) 4 1)) (cond (is f 1) 2 0) (replicate (160 + cond (is f 2) 1 0) 0) .result))))
+
+-- ---- a log: version 1 or 2, one chip or five, an empty record or one cut short, and too many empty records
+
+abbrev log : List Bool → List ℕ
+log f = cond (is f 1) 2 1 ∷ cond (is f 2) 5 1 ∷ 0 ∷ 0 ∷ cond (is f 3) 9 0 ∷ cond (is f 0) (replicate 65532 0) []
+
+abbrev pub logs : Bool
+logs = inOrder (refusal 14 0 ∷ refusal 12 0 ∷ refusal 3 0 ∷ refusal 13 3 ∷ []) (λ f. checkNumbers (checkLog (log f)))
+
+pub orders : T (long && (plain && logs))
+unfolding checkLog cutIn powerOnCall checkPowerOn pictureCall checkPicture chipPowerOn chipPictureCall checkChipPicture litIn ones onesIn plainCall checkPlain misfitIn chipFits plainHeard chipData column columns putRows advanced chipAcknowledges transferCall checkTransfer checkState checkChips checkRegisters checkRam checkLength overIn undefinedIn heardBy heard dataByte controlOf commandOf within inRange backplanes bankRow position atPosition putBits changed withRow storedBits counted shown pictureOf
+orders = tt
