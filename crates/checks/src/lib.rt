@@ -1,4 +1,4 @@
-// The checks that several calls share, each with its refusal.
+// The checks that several calls share, each with its refusal. A check is looked at only if the earlier ones passed.
 use sheet::Check;
 use sheet::Chips;
 use sheet::Refusal;
@@ -7,7 +7,7 @@ ghost use Prim.Native.Nat.{max};
 ghost use lib.ListN.{getD};
 ghost use Rattle.checks.specs.Highest.{highestOf};
 ghost use Rattle.sheet.specs.Refusals.{numberOf, placeOf};
-ghost use Rattle.sheet.specs.Checks.{unless, orElse, overIn, checkChips, checkLength};
+ghost use Rattle.sheet.specs.Checks.{unless, overIn, checkChips, checkLength};
 ghost use Rattle.sheet.specs.Plain.{passed};
 
 // Refused unless a test holds.
@@ -18,16 +18,6 @@ pub fn unless(holds: bool, refusal: Refusal) -> Check
         Check::Passed
     } else {
         Check::Refused(refusal)
-    }
-}
-
-// A refusal that comes first, or else the next check.
-pub fn or_else(first: Check, next: Check) -> Check
-    ensures { λ r. ⌜ r ≡ orElse first next ⌝ }
-{
-    match first {
-        Check::Passed => next,
-        Check::Refused(refusal) => Check::Refused(refusal),
     }
 }
 
@@ -103,9 +93,11 @@ pub fn first_over(columns: &[u8]) -> Check
 pub fn check_length(size: usize) -> Check
     ensures { λ r. ⌜ r ≡ checkLength size ⌝ }
 {
-    let some = unless(0 < size, Refusal::EmptyTransfer);
-    let few = unless(size <= 4096, Refusal::LongTransfer);
-    or_else(some, few)
+    if 0 < size {
+        unless(size <= 4096, Refusal::LongTransfer)
+    } else {
+        Check::Refused(Refusal::EmptyTransfer)
+    }
 }
 
 // The paper's number of a refusal.

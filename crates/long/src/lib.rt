@@ -14,10 +14,10 @@ ghost use mathlib.Core.Path.{_≡_};
 ghost use Prim.Native.Nat.{_*_, _<_};
 ghost use lib.ListN.{length, getD};
 ghost use Rattle.sheet.specs.Protocol.{heardBy};
-ghost use Rattle.sheet.specs.Checks.{unless, chipsIn, checkRegisters, checkRam, checkCommands, checkState, checkTransfer, checkPicture};
+ghost use Rattle.sheet.specs.Checks.{unless, chipsIn, checkRegisters, checkRam, checkCommands, checkState, checkPowerOn, checkTransfer, checkPicture};
 ghost use Rattle.sheet.specs.Long.{nothing, registersOf, replaced, startOf, endOf, taken, powerOnCall, transferCall, pictureCall};
 
-// ---- the checks, in the order of their numbers in each call
+// ---- the checks, in the order of their numbers in each call; a later one is looked at only if the earlier ones passed
 
 fn check_registers(registers: Both) -> Check
     ensures { λ r. ⌜ r ≡ checkRegisters 160 4 registers ⌝ }
@@ -34,18 +34,32 @@ fn check_ram(chips: Chips, ram: &[u8]) -> Check
     ensures { λ r. ⌜ r ≡ checkRam 160 chips (now (ram .entry)) ⌝ }
 {
     let size = 160 * (chips.zero as usize + chips.one as usize);
-    let length = checks::unless(ram.len() == size, Refusal::RamLength);
-    let over = checks::first_over(ram);
-    checks::or_else(length, over)
+    if ram.len() == size {
+        checks::first_over(ram)
+    } else {
+        Check::Refused(Refusal::RamLength)
+    }
+}
+
+fn check_power_on(chips: Chips, ram: &[u8]) -> Check
+    ensures { λ r. ⌜ r ≡ checkPowerOn 160 4 chips (now (ram .entry)) ⌝ }
+{
+    match checks::check_chips(chips) {
+        Check::Refused(refusal) => Check::Refused(refusal),
+        Check::Passed => check_ram(chips, ram),
+    }
 }
 
 fn check_state(chips: Chips, registers: Both, ram: &[u8]) -> Check
     ensures { λ r. ⌜ r ≡ checkState 160 4 chips registers (now (ram .entry)) ⌝ }
 {
-    let counts = checks::check_chips(chips);
-    let ranges = check_registers(registers);
-    let columns = check_ram(chips, ram);
-    checks::or_else(counts, checks::or_else(ranges, columns))
+    match checks::check_chips(chips) {
+        Check::Refused(refusal) => Check::Refused(refusal),
+        Check::Passed => match check_registers(registers) {
+            Check::Refused(refusal) => Check::Refused(refusal),
+            Check::Passed => check_ram(chips, ram),
+        },
+    }
 }
 
 // The group that hears an address byte. An empty transfer has none, and the 0 that stands for it is nobody's.
@@ -73,10 +87,13 @@ fn check_commands(chips: Chips, bytes: &[u8]) -> Check
 fn check_transfer(chips: Chips, registers: Both, ram: &[u8], bytes: &[u8]) -> Check
     ensures { λ r. ⌜ r ≡ checkTransfer 160 4 chips registers (now (ram .entry)) (now (bytes .entry)) ⌝ }
 {
-    let state = check_state(chips, registers, ram);
-    let length = checks::check_length(bytes.len());
-    let commands = check_commands(chips, bytes);
-    checks::or_else(state, checks::or_else(length, commands))
+    match check_state(chips, registers, ram) {
+        Check::Refused(refusal) => Check::Refused(refusal),
+        Check::Passed => match checks::check_length(bytes.len()) {
+            Check::Refused(refusal) => Check::Refused(refusal),
+            Check::Passed => check_commands(chips, bytes),
+        },
+    }
 }
 
 fn chips_in(group: u8, chips: Chips) -> u8
@@ -95,11 +112,17 @@ fn check_picture(
 ) -> Check
     ensures { λ r. ⌜ r ≡ checkPicture 160 4 chips registers (now (ram .entry)) group phase size ⌝ }
 {
-    let wanted = 160 * (chips_in(group, chips) as usize);
-    let state = check_state(chips, registers, ram);
-    let numbers = checks::unless((group < 2) & (phase < 2), Refusal::GroupOrPhase);
-    let length = checks::unless(size == wanted, Refusal::PictureLength);
-    checks::or_else(state, checks::or_else(numbers, length))
+    match check_state(chips, registers, ram) {
+        Check::Refused(refusal) => Check::Refused(refusal),
+        Check::Passed => {
+            if (group < 2) & (phase < 2) {
+                let wanted = 160 * (chips_in(group, chips) as usize);
+                checks::unless(size == wanted, Refusal::PictureLength)
+            } else {
+                Check::Refused(Refusal::GroupOrPhase)
+            }
+        }
+    }
 }
 
 // ---- a group's registers and part of the RAM
@@ -145,9 +168,7 @@ fn end_of(chips: Chips, group: u8) -> usize
 pub fn power_on(chips: Chips, ram: &[u8]) -> PowerOn
     ensures { λ r. ⌜ r ≡ powerOnCall 160 4 chips (now (ram .entry)) ⌝ }
 {
-    let counts = checks::check_chips(chips);
-    let columns = check_ram(chips, ram);
-    let check = checks::or_else(counts, columns);
+    let check = check_power_on(chips, ram);
     let registers = Both {
         zero: command::power_on(),
         one: command::power_on(),

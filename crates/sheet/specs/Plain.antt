@@ -73,6 +73,13 @@ chipAcknowledged C L Commands x c = Bool.true
 chipAcknowledged C L OneData x c = chipAcknowledges C L x c
 chipAcknowledged C L Run x c = chipAcknowledges C L x c
 
+-- of any chip: one with a register out of range, to which no transfer is taken, stays as it is and acknowledges nothing
+abbrev pub chipStepped : ℕ → ℕ → Expect → ℕ → Chip → Chip
+chipStepped C L e x c = cond (inRange C L (c .registers)) (chipByte C L e x c) c
+
+abbrev pub chipAnswers : ℕ → ℕ → Expect → ℕ → Chip → Bool
+chipAnswers C L e x c = inRange C L (c .registers) && chipAcknowledged C L e x c
+
 -- ---- a list of chips
 
 abbrev pub hears : ℕ → Chip → Bool

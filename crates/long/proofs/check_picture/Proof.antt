@@ -1,55 +1,28 @@
 -- `long::check_picture` meets its contract.
 -- Assumes nothing.
-use mathlib.Core.Path.{ap, ap₂, _∙_}
+use mathlib.Core.Path.{refl, sym, ap, _∙_}
 use Prim.Native.Nat.{ℕ, _*_}
 use lib.Dec.{eqb}
 use Rattle.sheet.specs.declared.Refusal.the-variants.{PictureLength}
-use Rattle.sheet.specs.Checks.{unless, orElse, checkPicture}
+use Rattle.sheet.specs.Checks.{unless, checkPicture}
 use borrow.Author.Needs.{needs}
 use Rattle.long.proofs.check_picture.Statement.{statement}
 use Rattle.long.proofs.check_picture.Tie as tie
 
-chips-in-requires : tie.Need-chips-in-requires
-chips-in-requires c κs = search needs
-
-cast-wanted : tie.Need-cast-wanted
-cast-wanted c = search needs
-
-mul-wanted : tie.Need-mul-wanted
-mul-wanted c = search needs
-
-check-state-requires : tie.Need-check-state-requires
-check-state-requires c κs = search needs
-
-unless-requires : tie.Need-unless-requires
-unless-requires c κs = search needs
-
-unless-requires-2 : tie.Need-unless-requires-2
-unless-requires-2 c κs = search needs
-
-or-else-requires : tie.Need-or-else-requires
-or-else-requires c κs = search needs
-
-or-else-requires-2 : tie.Need-or-else-requires-2
-or-else-requires-2 c κs = search needs
-
 returns : tie.Need-returns
 unfolding checkPicture
-returns c = let size = c .before .before .before .before .before .before .before .args .size in
-    c .or-else2 .ensures
-    ∙ ap₂ orElse (c .before .before .before .before .check-state .ensures)
-    (c .before .or-else .ensures ∙ ap₂ orElse (c .before .before .before .unless .ensures) (c .before .before .unless2 .ensures ∙ ap (λ (k : ℕ). unless (eqb size (160 * k)) PictureLength) (c .before .before .before .before .before .chips-in .ensures)))
+returns c = rw (sym (c .before .before .before .check-state .ensures) ∙ c .before .refusal .given .1) refl
+
+returns-2 : tie.Need-returns-2
+unfolding checkPicture
+returns-2 c =
+    let passed = c .before .before .before in
+    rw (sym (passed .before .before .check-state .ensures) ∙ passed .enum-told .given .1, c .before .before .if1 .taken)
+    (c .unless .ensures ∙ ap (λ (k : ℕ). unless (eqb (passed .before .before .before .before .args .size) (160 * k)) PictureLength) (c .before .chips-in .ensures))
+
+returns-3 : tie.Need-returns-3
+unfolding checkPicture
+returns-3 c = rw (sym (c .before .before .before .check-state .ensures) ∙ c .before .enum-told .given .1, c .if1 .left) refl
 
 pub check-picture-spec : {M : Type 1} → statement M
-check-picture-spec =
-    tie.close
-    (tie.spec
-    chips-in-requires
-    cast-wanted
-    mul-wanted
-    check-state-requires
-    unless-requires
-    unless-requires-2
-    or-else-requires
-    or-else-requires-2
-    returns)
+check-picture-spec = tie.close (tie.spec (λ c κs. search needs) (λ c. search needs) (λ c. search needs) (λ c κs. search needs) (λ c. search needs) (λ c. search needs) (λ c κs. search needs) returns returns-2 returns-3)
