@@ -10,11 +10,12 @@ ghost use mathlib.Core.Path.{_≡_};
 ghost use mathlib.Core.Bool.{cond, true};
 ghost use Prim.Native.Nat.{_+_, _*_, _≤_, _<_};
 ghost use lib.Dec.{ltb};
+ghost use Rattle.sheet.specs.Refusals.{pictureNumbers, checkNumbers};
 ghost use Rattle.sheet.specs.Commands.{commandOf, obeyed, inRange, backplanes};
 ghost use Rattle.sheet.specs.Places.{advanced};
 ghost use Rattle.sheet.specs.Data.{bitOf, withRow};
 ghost use Rattle.sheet.specs.Checks.{overIn};
-ghost use Rattle.sheet.specs.Plain.{withRegisters, putRows, column, chipData, chipAcknowledges, chipByte, chipAcknowledged, hears, passed, chipFits, chipPowerOn, checkChipPicture, chipPictureCall};
+ghost use Rattle.sheet.specs.Plain.{withRegisters, putRows, column, chipData, chipAcknowledges, chipByte, chipAcknowledged, chipStepped, chipAnswers, hears, passed, chipFits, chipPowerOn, checkChipPicture, chipPictureCall};
 
 // A column with one row made bit k of a byte. A byte has no bit past 7: then the row stays.
 fn put_row(row: usize, k: usize, byte: u8, column: u8) -> u8
@@ -120,8 +121,8 @@ fn take_command(mut chip: Chip, byte: u8) -> Chip
     chip
 }
 
-// The chip after a byte, by what the byte is.
-pub fn step(chip: Chip, expect: Expect, byte: u8) -> Chip
+// The chip, its registers in range, after a byte, by what the byte is.
+fn follow(chip: Chip, expect: Expect, byte: u8) -> Chip
     requires { ⌜ inRange 160 4 (chip .registers) ≡ true ⌝ }
     ensures { λ r. ⌜ r ≡ chipByte 160 4 expect byte chip ⌝ }
 {
@@ -131,6 +132,17 @@ pub fn step(chip: Chip, expect: Expect, byte: u8) -> Chip
         Expect::Commands => take_command(chip, byte),
         Expect::OneData => take_data(chip, byte),
         Expect::Run => take_data(chip, byte),
+    }
+}
+
+// The chip after a byte. With a register out of range it stays as it is.
+pub fn step(chip: Chip, expect: Expect, byte: u8) -> Chip
+    ensures { λ r. ⌜ r ≡ chipStepped 160 4 expect byte chip ⌝ }
+{
+    if command::in_range(chip.registers) {
+        follow(chip, expect, byte)
+    } else {
+        chip
     }
 }
 
@@ -144,8 +156,8 @@ fn acknowledges_data(chip: Chip, byte: u8) -> bool
     ram::least(4, last / 160) == chip.subaddress as usize
 }
 
-// Whether the chip acknowledges a byte.
-pub fn acknowledges(chip: Chip, expect: Expect, byte: u8) -> bool
+// Whether the chip, its registers in range, acknowledges a byte.
+fn answers(chip: Chip, expect: Expect, byte: u8) -> bool
     requires { ⌜ inRange 160 4 (chip .registers) ≡ true ⌝ }
     ensures { λ r. ⌜ r ≡ chipAcknowledged 160 4 expect byte chip ⌝ }
 {
@@ -155,6 +167,17 @@ pub fn acknowledges(chip: Chip, expect: Expect, byte: u8) -> bool
         Expect::Commands => true,
         Expect::OneData => acknowledges_data(chip, byte),
         Expect::Run => acknowledges_data(chip, byte),
+    }
+}
+
+// Whether the chip acknowledges a byte. With a register out of range it acknowledges none.
+pub fn acknowledges(chip: Chip, expect: Expect, byte: u8) -> bool
+    ensures { λ r. ⌜ r ≡ chipAnswers 160 4 expect byte chip ⌝ }
+{
+    if command::in_range(chip.registers) {
+        answers(chip, expect, byte)
+    } else {
+        false
     }
 }
 
@@ -181,9 +204,10 @@ pub fn fits(chip: Chip) -> bool
         & ((chip.subaddress < 4) & (command::in_range(chip.registers) & columns_fit(columns)))
 }
 
-// Power-on. Taken or refused, the registers become the power-on ones and the rest stays.
+// Power-on, taken or refused by 11: the registers become the power-on ones and the rest stays.
 pub fn power_on(mut chip: Chip) -> ChipPowerOn
     ensures { λ r. ⌜ r ≡ chipPowerOn 160 4 chip ⌝ }
+    ensures { λ r. ⌜ checkNumbers (r .check) ≡ checkNumbers (chipPowerOn 160 4 chip .check) ⌝ }
 {
     let columns = chip.columns;
     let fits = (chip.sa0 < 2) & ((chip.subaddress < 4) & columns_fit(columns));
@@ -198,16 +222,22 @@ pub fn power_on(mut chip: Chip) -> ChipPowerOn
 fn check_picture(chip: Chip, phase: u8, size: usize) -> Check
     ensures { λ r. ⌜ r ≡ checkChipPicture 160 4 chip phase size ⌝ }
 {
-    let fit = checks::unless(fits(chip), Refusal::ChipField(0));
-    let shown = checks::unless(phase < 2, Refusal::GroupOrPhase);
-    let room = checks::unless(size == 160, Refusal::PictureLength);
-    checks::or_else(fit, checks::or_else(shown, room))
+    if fits(chip) {
+        if phase < 2 {
+            checks::unless(size == 160, Refusal::PictureLength)
+        } else {
+            Check::Refused(Refusal::GroupOrPhase)
+        }
+    } else {
+        Check::Refused(Refusal::ChipField(0))
+    }
 }
 
-// The picture of the chip alone, and its lit elements.
+// The picture of the chip alone and its lit elements, or a refusal by 11, 8, 9.
 pub fn picture(chip: Chip, phase: u8, out: &mut [u8]) -> Pictured
     ensures { λ r. ⌜ r ≡ chipPictureCall 160 4 chip phase (now (out .entry)) .result ⌝ }
     ensures { λ _. ⌜ now (out .exit) ≡ chipPictureCall 160 4 chip phase (now (out .entry)) .out ⌝ }
+    ensures { λ r. ⌜ pictureNumbers r ≡ pictureNumbers (chipPictureCall 160 4 chip phase (now (out .entry)) .result) ⌝ }
 {
     match check_picture(chip, phase, out.len()) {
         Check::Refused(refusal) => Pictured::Refused(refusal),

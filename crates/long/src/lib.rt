@@ -13,6 +13,7 @@ use sheet::Transferred;
 ghost use mathlib.Core.Path.{_≡_};
 ghost use Prim.Native.Nat.{_*_, _<_};
 ghost use lib.ListN.{length, getD};
+ghost use Rattle.sheet.specs.Refusals.{numbers, pictureNumbers, checkNumbers};
 ghost use Rattle.sheet.specs.Protocol.{heardBy};
 ghost use Rattle.sheet.specs.Checks.{unless, chipsIn, checkRegisters, checkRam, checkCommands, checkState, checkPowerOn, checkTransfer, checkPicture};
 ghost use Rattle.sheet.specs.Long.{nothing, registersOf, replaced, startOf, endOf, taken, powerOnCall, transferCall, pictureCall};
@@ -165,8 +166,10 @@ fn end_of(chips: Chips, group: u8) -> usize
 
 // ---- the calls
 
+// Power-on: the power-on registers, taken or refused by 3, 4, 5; the RAM is only read.
 pub fn power_on(chips: Chips, ram: &[u8]) -> PowerOn
     ensures { λ r. ⌜ r ≡ powerOnCall 160 4 chips (now (ram .entry)) ⌝ }
+    ensures { λ r. ⌜ checkNumbers (r .check) ≡ checkNumbers (powerOnCall 160 4 chips (now (ram .entry)) .check) ⌝ }
 {
     let check = check_power_on(chips, ram);
     let registers = Both {
@@ -208,9 +211,11 @@ fn unheard(registers: Both) -> Transferred
     }
 }
 
+// A transfer, START to STOP, taken or refused by 3, 6, 4, 5, 1, 2, 7.
 pub fn transfer(chips: Chips, registers: Both, ram: &mut [u8], bytes: &[u8]) -> Transferred
     ensures { λ _. ⌜ now (ram .exit) ≡ transferCall 160 4 chips registers (now (ram .entry)) (now (bytes .entry)) .ram ⌝ }
     ensures { λ r. ⌜ r ≡ transferCall 160 4 chips registers (now (ram .entry)) (now (bytes .entry)) .result ⌝ }
+    ensures { λ r. ⌜ numbers (r .answer) ≡ numbers (transferCall 160 4 chips registers (now (ram .entry)) (now (bytes .entry)) .result .answer) ⌝ }
 {
     match check_transfer(chips, registers, ram, bytes) {
         Check::Refused(refusal) => Transferred {
@@ -224,6 +229,7 @@ pub fn transfer(chips: Chips, registers: Both, ram: &mut [u8], bytes: &[u8]) -> 
     }
 }
 
+// The picture of a group at a blink phase and its lit elements, or a refusal by 3, 6, 4, 5, 8, 9.
 pub fn picture(
     chips: Chips,
     registers: Both,
@@ -234,6 +240,7 @@ pub fn picture(
 ) -> Pictured
     ensures { λ _. ⌜ now (out .exit) ≡ pictureCall 160 4 chips registers (now (ram .entry)) group phase (now (out .entry)) .out ⌝ }
     ensures { λ r. ⌜ r ≡ pictureCall 160 4 chips registers (now (ram .entry)) group phase (now (out .entry)) .result ⌝ }
+    ensures { λ r. ⌜ pictureNumbers r ≡ pictureNumbers (pictureCall 160 4 chips registers (now (ram .entry)) group phase (now (out .entry)) .result) ⌝ }
 {
     match check_picture(chips, registers, ram, group, phase, out.len()) {
         Check::Refused(refusal) => Pictured::Refused(refusal),

@@ -1,58 +1,18 @@
--- acknowledges: by the case of what the byte is.
+-- `chip::acknowledges` meets its contract.
 -- Assumes nothing.
+use mathlib.Core.Path.{refl, sym, _∙_}
 use borrow.Author.Needs.{needs}
 use Rattle.chip.proofs.acknowledges.Statement.{statement}
 use Rattle.chip.proofs.acknowledges.Tie as tie
 
-enum-told : tie.Need-enum-told
-enum-told c = search needs
-
-enum-told-2 : tie.Need-enum-told-2
-enum-told-2 c = search needs
-
-enum-told-3 : tie.Need-enum-told-3
-enum-told-3 c = search needs
-
-enum-told-4 : tie.Need-enum-told-4
-enum-told-4 c = search needs
-
-acknowledges-data-requires : tie.Need-acknowledges-data-requires
-acknowledges-data-requires c κs = search needs
-
-enum-told-5 : tie.Need-enum-told-5
-enum-told-5 c = search needs
-
-acknowledges-data-requires-2 : tie.Need-acknowledges-data-requires-2
-acknowledges-data-requires-2 c κs = search needs
+answers-requires : tie.Need-answers-requires
+answers-requires c κs = sym (c .before .in-range .ensures) ∙ c .if1 .taken
 
 returns : tie.Need-returns
-returns c = search needs
+returns c = rw (sym (c .before .before .in-range .ensures) ∙ c .before .if1 .taken) (c .answers .ensures)
 
 returns-2 : tie.Need-returns-2
-returns-2 c = search needs
-
-returns-3 : tie.Need-returns-3
-returns-3 c = search needs
-
-returns-4 : tie.Need-returns-4
-returns-4 c = rw (c .before .enum-told4 .given .1) (c .acknowledges-data .ensures)
-
-returns-5 : tie.Need-returns-5
-returns-5 c = rw (c .before .enum-told5 .given .1) (c .acknowledges-data2 .ensures)
+returns-2 c = rw (sym (c .before .in-range .ensures) ∙ c .if1 .left) refl
 
 pub acknowledges-spec : {M : Type 1} → statement M
-acknowledges-spec =
-    tie.close
-    (tie.spec
-    enum-told
-    enum-told-2
-    enum-told-3
-    enum-told-4
-    acknowledges-data-requires
-    enum-told-5
-    acknowledges-data-requires-2
-    returns
-    returns-2
-    returns-3
-    returns-4
-    returns-5)
+acknowledges-spec = tie.close (tie.spec (λ c κs. search needs) answers-requires returns returns-2)

@@ -1,40 +1,23 @@
--- check_picture: its checks are the definition's, in its order.
+-- `chip::check_picture` meets its contract: its checks are the definition's, in its order.
 -- Assumes nothing.
-use borrow.Author.Needs.{needs}
+use mathlib.Core.Path.{refl, sym, _∙_}
+use borrow.Author.Tests.{lt-ltb, le-ltb}
 use Rattle.sheet.specs.Plain.{checkChipPicture}
+use borrow.Author.Needs.{needs}
 use Rattle.chip.proofs.check_picture.Statement.{statement}
 use Rattle.chip.proofs.check_picture.Tie as tie
 
-fits-requires : tie.Need-fits-requires
-fits-requires c κs = search needs
-
-unless-requires : tie.Need-unless-requires
-unless-requires c κs = search needs
-
-unless-requires-2 : tie.Need-unless-requires-2
-unless-requires-2 c κs = search needs
-
-unless-requires-3 : tie.Need-unless-requires-3
-unless-requires-3 c κs = search needs
-
-or-else-requires : tie.Need-or-else-requires
-or-else-requires c κs = search needs
-
-or-else-requires-2 : tie.Need-or-else-requires-2
-or-else-requires-2 c κs = search needs
-
 returns : tie.Need-returns
 unfolding checkChipPicture
-returns c = rw (c .or-else2 .ensures, c .before .or-else .ensures, c .before .before .unless3 .ensures, c .before .before .before .unless2 .ensures, c .before .before .before .before .unless .ensures, c .before .before .before .before .before .fits2 .ensures)
+returns c = rw (sym (c .before .before .before .fits2 .ensures) ∙ c .before .before .if1 .taken, lt-ltb _ 2 (c .before .if2 .taken)) (c .unless .ensures)
+
+returns-2 : tie.Need-returns-2
+unfolding checkChipPicture
+returns-2 c = rw (sym (c .before .before .fits2 .ensures) ∙ c .before .if1 .taken, le-ltb _ 2 (c .if2 .left)) refl
+
+returns-3 : tie.Need-returns-3
+unfolding checkChipPicture
+returns-3 c = rw (sym (c .before .fits2 .ensures) ∙ c .if1 .left) refl
 
 pub check-picture-spec : {M : Type 1} → statement M
-check-picture-spec =
-    tie.close
-    (tie.spec
-    fits-requires
-    unless-requires
-    unless-requires-2
-    unless-requires-3
-    or-else-requires
-    or-else-requires-2
-    returns)
+check-picture-spec = tie.close (tie.spec (λ c κs. search needs) (λ c κs. search needs) returns returns-2 returns-3)

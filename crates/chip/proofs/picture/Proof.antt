@@ -2,11 +2,13 @@
 -- Assumes nothing.
 use mathlib.Core.Path.{_≡_, refl, sym, ap, _∙_}
 use mathlib.Core.Bool.{true}
+use Prim.Native.Nat.{ℕ}
 use native.Mathlib.Omega.{arith}
 use lib.ListN.{length}
 use Rattle.sheet.specs.declared.Check.the-variants.{Passed}
 use Rattle.sheet.specs.declared.Pictured.{Pictured}
 use Rattle.sheet.specs.Commands.{inRange}
+use Rattle.sheet.specs.Refusals.{pictureNumbers}
 use Rattle.sheet.specs.Plain.{checkChipPicture, chipPictureCall}
 use Rattle.chip.proofs.Passing.{picture-passes}
 use borrow.Author.Needs.{needs}
@@ -38,14 +40,16 @@ show-requires c κs = let h = known (c .before .before .before) in (h .1 ∙ sli
 
 returns : tie.Need-returns
 unfolding chipPictureCall
-returns c = rw (sym (c .before .before .before .check-picture .ensures) ∙ c .before .refusal .given .1) (refl, refl)
+returns c = rw (sym (c .before .before .before .check-picture .ensures) ∙ c .before .refusal .given .1) (refl, (refl, refl))
 
 same-length : tie.Need-same-length
 same-length c = search needs
 
 returns-2 : tie.Need-returns-2
 unfolding chipPictureCall
-returns-2 c = rw (passes (c .before .before .before .before .before .before)) (ap Pictured.Lit (c .before .before .show .ensures .1), c .before .before .show .ensures .0)
+returns-2 c =
+    let lit = c .before .before .show .ensures .1 in
+    rw (passes (c .before .before .before .before .before .before)) (ap Pictured.Lit lit, (c .before .before .show .ensures .0, ap (λ (n : ℕ). pictureNumbers (Pictured.Lit n)) lit))
 
 pub picture-spec : {M : Type 1} → statement M
 picture-spec =

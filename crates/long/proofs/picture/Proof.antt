@@ -10,6 +10,7 @@ use Rattle.sheet.specs.declared.Registers.{Registers}
 use Rattle.sheet.specs.declared.Check.the-variants.{Passed}
 use Rattle.sheet.specs.declared.Pictured.{Pictured}
 use Rattle.sheet.specs.Checks.{chipsIn, checkPicture}
+use Rattle.sheet.specs.Refusals.{pictureNumbers}
 use Rattle.sheet.specs.Pictures.{pictureOf, litIn}
 use Rattle.sheet.specs.Long.{partOf, pictureCall}
 use Rattle.laws.proofs.Ranges.{in-range}
@@ -70,7 +71,7 @@ show-requires c κs = let a = c .before .before .before .before .before .before 
 
 returns : tie.Need-returns
 unfolding pictureCall
-returns c = rw (sym (c .before .before .before .check-picture .ensures) ∙ c .before .refusal .given .1) (refl, refl)
+returns c = rw (sym (c .before .before .before .check-picture .ensures) ∙ c .before .refusal .given .1) (refl, (refl, refl))
 
 same-length : tie.Need-same-length
 same-length c = search needs
@@ -79,7 +80,8 @@ returns-2 : tie.Need-returns-2
 unfolding pictureCall
 returns-2 c = let a = c .before .before .before .before .before .before .before .before .before .before .before .before .before .args in
     let same = ap₂ (λ (r : Registers) (l : List ℕ). pictureOf r (a .phase) l) (c .before .before .before .before .before .registers-of .ensures) (part (c .before .before .before .before .before .before)) in
-    rw (passes (c .before .before .before .before .before .before .before .before)) (c .before .before .show .ensures .0 ∙ same, ap (λ (n : ℕ). Pictured.Lit n) (c .before .before .show .ensures .1 ∙ ap litIn same))
+    let lit = c .before .before .show .ensures .1 ∙ ap litIn same in
+    rw (passes (c .before .before .before .before .before .before .before .before)) (c .before .before .show .ensures .0 ∙ same, (ap Pictured.Lit lit, ap (λ (n : ℕ). pictureNumbers (Pictured.Lit n)) lit))
 
 pub picture-spec : {M : Type 1} → statement M
 picture-spec =
