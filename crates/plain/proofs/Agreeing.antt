@@ -1,10 +1,9 @@
 -- What the chips of a list are asked and become is, for chips whose registers are in range, what the sheet says; and they stay in range.
 -- Assumes nothing.
-use mathlib.Core.Path.{_≡_, refl, sym, ap, _∙_}
+use mathlib.Core.Path.{_≡_, refl, sym}
 use mathlib.Core.Bool.{Bool, true, false, cond, _&&_, _||_}
 use mathlib.Core.List.{List, [], _∷_, map}
 use Prim.Native.Nat.{ℕ}
-use Rattle.lemmas.proofs.Tests.{both-true}
 use Rattle.sheet.specs.declared.Chip.{Chip}
 use Rattle.sheet.specs.declared.Expect.{Expect}
 use Rattle.sheet.specs.declared.Expect.the-variants.{Control, OneCommand, Commands, OneData, Run}
@@ -16,29 +15,17 @@ use Rattle.laws.proofs.Kept.{pcf8532-keeps}
 use Rattle.chip.proofs.Moves.{still-in}
 use Rattle.plain.specs.declared.BusByte.{BusByte}
 use Rattle.plain.specs.declared.Question.the-variants.{Acknowledges}
-use Rattle.plain.specs.Asking.{takesPart, yes, taken}
+use Rattle.plain.specs.Asking.{yes, taken}
 use Rattle.plain.specs.Turns.{AllIn}
 
--- a chip that takes part has its registers in range
-pub part-in : (h : BusByte) (c : Chip) → takesPart h c ≡ true → inRange 160 4 (c .registers) ≡ true
-part-in h c e = both-true (hears (h .address) c) (inRange 160 4 (c .registers)) e .1
-
 module _ (h : BusByte) where
-  -- a chip in range takes part if it hears
-  part : (c : Chip) → inRange 160 4 (c .registers) ≡ true → hears (h .address) c ≡ takesPart h c
-  part c e = and-true (hears (h .address) c) ∙ ap (λ (t : Bool). hears (h .address) c && t) (sym e)
-    where
-      and-true : (b : Bool) → b ≡ (b && true)
-      and-true true = refl
-      and-true false = refl
-
   pub asked : (cs : List Chip) → AllIn cs → any (λ c. hears (h .address) c && chipAcknowledged 160 4 (h .expect) (h .byte) c) cs ≡ any (yes (Acknowledges h)) cs
   asked [] i = refl
-  asked (c ∷ cs) i = λ j. (part c (i .0) j && chipAcknowledged 160 4 (h .expect) (h .byte) c) || asked cs (i .1) j
+  asked (c ∷ cs) i = λ j. (hears (h .address) c && (sym (i .0) j && chipAcknowledged 160 4 (h .expect) (h .byte) c)) || asked cs (i .1) j
 
   pub all-taken : (cs : List Chip) → AllIn cs → map (takes 160 4 (h .address) (h .expect) (h .byte)) cs ≡ map (taken h) cs
   all-taken [] i = refl
-  all-taken (c ∷ cs) i = λ j. cond (part c (i .0) j) (chipByte 160 4 (h .expect) (h .byte) c) c ∷ all-taken cs (i .1) j
+  all-taken (c ∷ cs) i = λ j. cond (hears (h .address) c) (cond (sym (i .0) j) (chipByte 160 4 (h .expect) (h .byte) c) c) c ∷ all-taken cs (i .1) j
 
 -- a byte keeps a chip's registers in range
 byte-kept : (e : Expect) (x : ℕ) (c : Chip) → inRange 160 4 (c .registers) ≡ true → inRange 160 4 (chipByte 160 4 e x c .registers) ≡ true
@@ -51,8 +38,9 @@ byte-kept Run x c i = in-range 160 4 _ (still-in 160 4 x (widthOf (backplanes (c
 
 pub all-kept : (h : BusByte) (cs : List Chip) → AllIn cs → AllIn (map (taken h) cs)
 all-kept h [] i = tt
-all-kept h (c ∷ cs) i = (one (takesPart h c), all-kept h cs (i .1))
+all-kept h (c ∷ cs) i = (one (hears (h .address) c) (inRange 160 4 (c .registers)), all-kept h cs (i .1))
   where
-    one : (t : Bool) → inRange 160 4 (cond t (chipByte 160 4 (h .expect) (h .byte) c) c .registers) ≡ true
-    one true = byte-kept (h .expect) (h .byte) c (i .0)
-    one false = i .0
+    one : (t u : Bool) → inRange 160 4 (cond t (cond u (chipByte 160 4 (h .expect) (h .byte) c) c) c .registers) ≡ true
+    one true true = byte-kept (h .expect) (h .byte) c (i .0)
+    one true false = i .0
+    one false u = i .0

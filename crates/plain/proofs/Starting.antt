@@ -3,13 +3,13 @@
 use mathlib.Core.Path.{_≡_, refl, sym, ap, subst, _∙_}
 use mathlib.Core.Bool.{Bool, true, false, cond, not, _&&_}
 use mathlib.Core.List.{List, [], _∷_}
-use Prim.Native.Nat.{ℕ, suc, _+_, _<_, zero-le}
+use Prim.Native.Nat.{ℕ, suc, _+_, _≤_, _<_, zero-le}
 use native.Mathlib.Nat.{lt-irrefl, le-refl}
 use native.Mathlib.Omega.{arith}
 use lib.Dec.{T, ltb, leb, leb·suc-zero, leb·suc-suc}
 use lib.ListN.{length, getD, drop}
 use lib.Seq.{drop-length}
-use borrow.Author.Tests.{ltb-true}
+use borrow.Author.Tests.{ltb-true, le-leb, lt-leb}
 use Rattle.lemmas.proofs.Tests.{both-true}
 use Rattle.sheet.specs.declared.Chip.{Chip}
 use Rattle.sheet.specs.declared.Expect.the-variants.{Control}
@@ -69,6 +69,11 @@ passed-is Passed e = refl
 passed-is (Refused r) e = absurd (subst T (sym e) tt)
 
 module _ (cs : List Chip) (bytes : List ℕ) where
+  -- more than eight chips are refused before any is looked at
+  pub too-many : 8 < length cs → plainCall 160 4 cs bytes ≡ record { answer = PlainAnswer.Refused ManyChips; chips = cs }
+  unfolding plainCall checkPlain
+  too-many l = rw (lt-leb (length cs) 8 l) refl
+
   abbrev pub misfit-at : ℕ
   misfit-at = firstYes (yes Misfit) cs
 
@@ -82,16 +87,16 @@ module _ (cs : List Chip) (bytes : List ℕ) where
   abbrev heard : Bool
   heard = any (hears (getD bytes 0 0)) cs
 
-  checked : checkOf bytes (length cs) misfit-at hearer-at ≡ checkPlain 160 4 cs bytes
+  checked : length cs ≤ 8 → checkOf bytes (length cs) misfit-at hearer-at ≡ checkPlain 160 4 cs bytes
   unfolding checkPlain
-  checked = λ j. orElse (unless (leb (length cs) 8) ManyChips) (orElse (fields j) (orElse (checkLength (length bytes)) (cond (sym (any-first (hears (getD bytes 0 0)) cs) j) (undefinedIn Control 1 (drop 1 bytes)) Passed)))
+  checked few = rw (le-leb (length cs) 8 few) (λ j. orElse (fields j) (orElse (checkLength (length bytes)) (cond (sym (any-first (hears (getD bytes 0 0)) cs) j) (undefinedIn Control 1 (drop 1 bytes)) Passed)))
     where
       fields : unless (leb (length cs) misfit-at) (ChipField misfit-at) ≡ misfitIn 160 4 0 cs
       fields = let at : misfit-at ≡ 0 + misfit-at = omega arith in ap (λ (m : ℕ). unless (leb (length cs) misfit-at) (ChipField m)) at ∙ sym (misfit 0 cs)
 
   -- so the turn from which the chips follow is the one of a transfer that the sheet takes
-  turned : begun .turn ≡ firstTurn bytes (checkPlain 160 4 cs bytes) heard
-  turned = λ j. firstTurn bytes (checked j) (sym (any-first (hears (getD bytes 0 0)) cs) j)
+  turned : length cs ≤ 8 → begun .turn ≡ firstTurn bytes (checkPlain 160 4 cs bytes) heard
+  turned few = λ j. firstTurn bytes (checked few j) (sym (any-first (hears (getD bytes 0 0)) cs) j)
 
   -- what a transfer that is taken is known to be: there is a byte, and the chips are in range
   taken-is : checkPlain 160 4 cs bytes ≡ Passed → (0 < length bytes) × AllIn cs
@@ -103,8 +108,8 @@ module _ (cs : List Chip) (bytes : List ℕ) where
       let x = both-pass (unless (ltb 0 (length bytes)) EmptyTransfer) (unless (leb (length bytes) 4096) LongTransfer) (w .0) in
       (ltb-true 0 (length bytes) (unless-passes _ EmptyTransfer (x .0)), all-in 0 cs (v .0))
 
-  pub ready : Ready cs bytes (begun .turn)
-  ready = subst (Ready cs bytes) (sym turned) (by-test (passed (checkPlain 160 4 cs bytes) && heard) refl)
+  pub ready : length cs ≤ 8 → Ready cs bytes (begun .turn)
+  ready few = subst (Ready cs bytes) (sym (turned few)) (by-test (passed (checkPlain 160 4 cs bytes) && heard) refl)
     where
       by-test : (b : Bool) → (passed (checkPlain 160 4 cs bytes) && heard) ≡ b → Ready cs bytes (cond b (turnAt bytes 1 1) (turnAt bytes (length bytes) 0))
       by-test true e =
@@ -113,6 +118,6 @@ module _ (cs : List Chip) (bytes : List ℕ) where
       by-test false e = record { within = le-refl (length bytes); counted = zero-le; byte = refl; right = λ l. absurd (lt-irrefl (length bytes) l) }
 
   -- the call, as it is begun, followed and answered
-  pub concluded : record { answer = answerOf (begun .check) (followed cs bytes (begun .turn) .acknowledged); chips = followed cs bytes (begun .turn) .chips } ≡ plainCall 160 4 cs bytes
+  pub concluded : length cs ≤ 8 → record { answer = answerOf (begun .check) (followed cs bytes (begun .turn) .acknowledged); chips = followed cs bytes (begun .turn) .chips } ≡ plainCall 160 4 cs bytes
   unfolding plainCall
-  concluded = (λ j. record { answer = answerOf (checked j) (followed cs bytes (turned j) .acknowledged); chips = followed cs bytes (turned j) .chips }) ∙ answered cs bytes (checkPlain 160 4 cs bytes) heard
+  concluded few = (λ j. record { answer = answerOf (checked few j) (followed cs bytes (turned few j) .acknowledged); chips = followed cs bytes (turned few j) .chips }) ∙ answered cs bytes (checkPlain 160 4 cs bytes) heard

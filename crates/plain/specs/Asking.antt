@@ -1,26 +1,21 @@
--- What the chips of a list are asked, and what becomes of each, said of every chip: one with a register out of range takes no part.
--- For chips that fit it is the sheet's meaning (proofs/Agreeing).
+-- What the chips of a list are asked, and what becomes of each, said of every chip. For chips in range it is the sheet's meaning (proofs/Agreeing).
 use Prim.Native.Nat.{ℕ, suc}
 use mathlib.Core.Bool.{Bool, cond, _&&_, not}
 use mathlib.Core.List.{List, [], _∷_}
 use Rattle.sheet.specs.declared.Chip.{Chip}
-use Rattle.sheet.specs.Commands.{inRange}
-use Rattle.sheet.specs.Plain.{hears, chipFits, chipByte, chipAcknowledged}
+use Rattle.sheet.specs.Plain.{hears, chipFits, chipStepped, chipAnswers}
 use Rattle.plain.specs.declared.BusByte.{BusByte}
 use Rattle.plain.specs.declared.Question.{Question}
 use Rattle.plain.specs.declared.Question.the-variants.{Misfit, Hears, Acknowledges}
 
-abbrev pub takesPart : BusByte → Chip → Bool
-takesPart h c = hears (h .address) c && inRange 160 4 (c .registers)
-
 abbrev pub yes : Question → Chip → Bool
 yes Misfit c = not (chipFits 160 4 c)
 yes (Hears address) c = hears address c
-yes (Acknowledges h) c = takesPart h c && chipAcknowledged 160 4 (h .expect) (h .byte) c
+yes (Acknowledges h) c = hears (h .address) c && chipAnswers 160 4 (h .expect) (h .byte) c
 
 -- the chip after a byte
 abbrev pub taken : BusByte → Chip → Chip
-taken h c = cond (takesPart h c) (chipByte 160 4 (h .expect) (h .byte) c) c
+taken h c = cond (hears (h .address) c) (chipStepped 160 4 (h .expect) (h .byte) c) c
 
 -- the place of the first chip of which f holds, or the count
 unfoldable pub firstYes : (Chip → Bool) → List Chip → ℕ

@@ -1,11 +1,11 @@
--- How a transfer to a list of chips begins and what is answered, from the count of the chips and the places of the first that does not fit and the first that hears (each the count if there is none).
+-- How a transfer to a list of at most eight chips begins and what is answered, from the count of the chips and the places of the first that does not fit and the first that hears (each the count if there is none).
 use Prim.Native.Nat.{ℕ}
 use mathlib.Core.Bool.{Bool, cond, _&&_}
 use mathlib.Core.List.{List}
 use lib.Dec.{ltb, leb}
 use lib.ListN.{length, getD, drop}
 use Rattle.sheet.specs.declared.Expect.the-variants.{Control}
-use Rattle.sheet.specs.declared.Refusal.the-variants.{ManyChips, ChipField}
+use Rattle.sheet.specs.declared.Refusal.the-variants.{ChipField}
 use Rattle.sheet.specs.declared.Check.{Check}
 use Rattle.sheet.specs.declared.Check.the-variants.{Passed, Refused}
 use Rattle.sheet.specs.declared.PlainAnswer.{PlainAnswer}
@@ -15,13 +15,12 @@ use Rattle.sheet.specs.Plain.{passed}
 use Rattle.plain.specs.declared.Turn.{Turn}
 use Rattle.plain.specs.declared.Start.{Start}
 
--- 10, 11, 1, 2, 7
+-- 11, 1, 2, 7
 abbrev pub checkOf : List ℕ → ℕ → ℕ → ℕ → Check
 checkOf bytes count misfit hearer =
-    orElse (unless (leb count 8) ManyChips)
-    (orElse (unless (leb count misfit) (ChipField misfit))
+    orElse (unless (leb count misfit) (ChipField misfit))
     (orElse (checkLength (length bytes))
-    (cond (ltb hearer count) (undefinedIn Control 1 (drop 1 bytes)) Passed)))
+    (cond (ltb hearer count) (undefinedIn Control 1 (drop 1 bytes)) Passed))
 
 -- the turn at a place after the address
 abbrev pub turnAt : List ℕ → ℕ → ℕ → Turn

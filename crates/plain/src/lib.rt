@@ -11,9 +11,10 @@ ghost use mathlib.Core.List.{map};
 ghost use Prim.Native.Nat.{_+_, _≤_, _<_, _^_};
 ghost use lib.Dec.{ltb};
 ghost use lib.ListN.{length, getD, drop};
+ghost use Rattle.sheet.specs.Refusals.{plainNumbers};
 ghost use Rattle.sheet.specs.Protocol.{undefinedIn};
 ghost use Rattle.sheet.specs.Plain.{plainCall};
-ghost use Rattle.plain.specs.Asking.{takesPart, yes, taken, firstYes};
+ghost use Rattle.plain.specs.Asking.{yes, taken, firstYes};
 ghost use Rattle.plain.specs.Turns.{turnAfter, followed, Ready};
 ghost use Rattle.plain.specs.Starts.{checkOf, turnAt, startOf, answerOf};
 ghost use Rattle.plain.specs.Benches.{firstTransferred, benchTransferred};
@@ -34,22 +35,12 @@ enum Question {
     Acknowledges(BusByte),
 }
 
-// Whether a chip takes part in a byte. One with a register out of range never does; a transfer in which there is one is refused before.
-fn takes_part(chip: Chip, heard: BusByte) -> bool
-    ensures { λ r. ⌜ r ≡ takesPart heard chip ⌝ }
-{
-    chip::hears(chip, heard.address) & command::in_range(chip.registers)
-}
-
+// Whether a chip hears a byte and acknowledges it.
 fn acknowledges(chip: Chip, heard: BusByte) -> bool
     ensures { λ r. ⌜ r ≡ yes (Question.Acknowledges heard) chip ⌝ }
 {
     let expect = heard.expect;
-    if takes_part(chip, heard) {
-        chip::acknowledges(chip, expect, heard.byte)
-    } else {
-        false
-    }
+    chip::hears(chip, heard.address) & chip::acknowledges(chip, expect, heard.byte)
 }
 
 fn says_yes(chip: Chip, question: Question) -> bool
@@ -62,12 +53,12 @@ fn says_yes(chip: Chip, question: Question) -> bool
     }
 }
 
-// The chip after a byte: as it was, if it takes no part.
+// The chip after a byte: as it was, if it does not hear it.
 fn take(chip: Chip, heard: BusByte) -> Chip
     ensures { λ r. ⌜ r ≡ taken heard chip ⌝ }
 {
     let expect = heard.expect;
-    if takes_part(chip, heard) {
+    if chip::hears(chip, heard.address) {
         chip::step(chip, expect, heard.byte)
     } else {
         chip
@@ -179,14 +170,14 @@ fn check_commands(bytes: &[u8], heard: bool) -> Check
 fn check_transfer(bytes: &[u8], count: usize, misfit: usize, hearer: usize) -> Check
     ensures { λ r. ⌜ r ≡ checkOf (now (bytes .entry)) count misfit hearer ⌝ }
 {
-    let many = checks::unless(count <= 8, Refusal::ManyChips);
-    let fields = checks::unless(count <= misfit, Refusal::ChipField(misfit));
-    let length = checks::check_length(bytes.len());
-    let commands = check_commands(bytes, hearer < count);
-    checks::or_else(
-        many,
-        checks::or_else(fields, checks::or_else(length, commands)),
-    )
+    if count <= misfit {
+        match checks::check_length(bytes.len()) {
+            Check::Refused(refusal) => Check::Refused(refusal),
+            Check::Passed => check_commands(bytes, hearer < count),
+        }
+    } else {
+        Check::Refused(Refusal::ChipField(misfit))
+    }
 }
 
 fn turn_at(bytes: &[u8], at: usize, acknowledged: usize) -> Turn
@@ -236,8 +227,9 @@ fn answer(check: Check, acknowledged: usize) -> PlainAnswer
     }
 }
 
-// A transfer, START to STOP.
-pub fn transfer(chips: &mut [Chip], bytes: &[u8]) -> PlainAnswer
+// A transfer to at most eight chips.
+fn transfer_few(chips: &mut [Chip], bytes: &[u8]) -> PlainAnswer
+    requires { ⌜ length (now chips) ≤ 8 ⌝ }
     ensures { λ r. ⌜ r ≡ plainCall 160 4 (now (chips .entry)) (now (bytes .entry)) .answer ⌝ }
     ensures { λ _. ⌜ now (chips .exit) ≡ plainCall 160 4 (now (chips .entry)) (now (bytes .entry)) .chips ⌝ }
 {
@@ -246,6 +238,23 @@ pub fn transfer(chips: &mut [Chip], bytes: &[u8]) -> PlainAnswer
     let start = begin(bytes, chips.len(), misfit, hearer);
     let acknowledged = follow(chips, bytes, start.turn);
     answer(start.check, acknowledged)
+}
+
+fn many_chips() -> PlainAnswer
+    ensures { λ r. ⌜ r ≡ PlainAnswer.Refused Refusal.ManyChips ⌝ }
+{
+    PlainAnswer::Refused(Refusal::ManyChips)
+}
+
+// A transfer, START to STOP, taken or refused by 10, 11, 1, 2, 7. Of more than eight chips none is looked at.
+pub fn transfer(chips: &mut [Chip], bytes: &[u8]) -> PlainAnswer
+    ensures { λ r. ⌜ (r ≡ plainCall 160 4 (now (chips .entry)) (now (bytes .entry)) .answer) × (plainNumbers r ≡ plainNumbers (plainCall 160 4 (now (chips .entry)) (now (bytes .entry)) .answer)) ⌝ }
+    ensures { λ _. ⌜ now (chips .exit) ≡ plainCall 160 4 (now (chips .entry)) (now (bytes .entry)) .chips ⌝ }
+{
+    if 8 < chips.len() {
+        return many_chips();
+    }
+    transfer_few(chips, bytes)
 }
 
 // ---- by value, for a caller that has its chips in a local
@@ -274,8 +283,10 @@ fn transfer_first(bytes: &[u8], bench: Bench) -> BenchTransferred
     }
 }
 
+// The same, taken or refused by 10, 11, 1, 2, 7; a count over eight is refused by 10.
 pub fn transfer_bench(bench: Bench, bytes: &[u8]) -> BenchTransferred
     ensures { λ r. ⌜ r ≡ benchTransferred bench (now (bytes .entry)) ⌝ }
+    ensures { λ r. ⌜ plainNumbers (r .answer) ≡ plainNumbers (benchTransferred bench (now (bytes .entry)) .answer) ⌝ }
 {
     if bench.count <= 8 {
         transfer_first(bytes, bench)

@@ -1,22 +1,15 @@
--- take: a chip that takes part has its registers in range, as the chip's own step asks.
+-- `plain::take` meets its contract: by whether the chip hears.
 -- Assumes nothing.
-use mathlib.Core.Path.{sym, _∙_}
+use mathlib.Core.Path.{refl, sym, _∙_}
 use borrow.Author.Needs.{needs}
-use Rattle.plain.proofs.Agreeing.{part-in}
 use Rattle.plain.proofs.take.Statement.{statement}
 use Rattle.plain.proofs.take.Tie as tie
 
-takes-part-requires : tie.Need-takes-part-requires
-takes-part-requires c κs = search needs
-
-step-requires : tie.Need-step-requires
-step-requires c κs = part-in (c .before .before .args .heard) (c .before .before .args .chip) (sym (c .before .takes-part .ensures) ∙ c .if1 .taken)
-
 returns : tie.Need-returns
-returns c = rw (sym (c .before .before .takes-part .ensures) ∙ c .before .if1 .taken) (c .step .ensures)
+returns c = rw (sym (c .before .before .hears .ensures) ∙ c .before .if1 .taken) (c .step .ensures)
 
 returns-2 : tie.Need-returns-2
-returns-2 c = rw (sym (c .before .takes-part .ensures) ∙ c .if1 .left)
+returns-2 c = rw (sym (c .before .hears .ensures) ∙ c .if1 .left) refl
 
 pub take-spec : {M : Type 1} → statement M
-take-spec = tie.close (tie.spec takes-part-requires step-requires returns returns-2)
+take-spec = tie.close (tie.spec (λ c κs. search needs) (λ c κs. search needs) returns returns-2)
