@@ -2,6 +2,7 @@
 -- Assumes nothing.
 use mathlib.Core.Path.{_≡_, refl, sym, ap, _∙_}
 use Prim.Native.Nat.{_%_}
+use native.Mathlib.Omega.{arith}
 use lib.ListN.{length}
 use denote.Ref.{now}
 use Rattle.cabi.specs.Calls.{PlainCalled, plainC}
@@ -16,7 +17,7 @@ sizes : (c : tie.Then1) → let a = c .before .before .before .before .args in (
 sizes c = let a = c .before .before .before .before .args in both-sized (length (now (a .chips)) % 171) (length (now (a .answer))) 0 5 (c .if1 .taken)
 
 plain-transfer-requires : tie.Need-plain-transfer-requires
-plain-transfer-requires c κs = let t = sizes (c .before .before .before) in (t .0, c .before .before .if2 .taken, t .1)
+plain-transfer-requires c κs = let t = sizes (c .before .before .before) in (t .0, omega (arith, c .before .before .if2 .taken), t .1)
 
 put-refusal-requires : tie.Need-put-refusal-requires
 put-refusal-requires c κs = sizes (c .before .before) .1
