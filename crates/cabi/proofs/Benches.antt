@@ -94,7 +94,7 @@ unfolding plainCall checkPlain
 many cs bytes h = rw (lt-leb (length cs) 8 h) refl
 
 pub too-many : (chips bytes answer : List ℕ) → length chips % 171 ≡ 0 → length answer ≡ 5 → 8 < length chips / 171
-    → plainC chips bytes answer ≡ record { number = 10; chips = chips; answer = refusalNumbers ManyChips }
+    → plainC chips bytes answer ≡ record { number = 10; buffer = chips; answer = refusalNumbers ManyChips }
 too-many chips bytes answer e five h =
     let n = length chips / 171 in
     sized chips bytes answer e five ∙ ap (λ (s : PlainAfter). plainDone (s .answer) (s .chips) chips) (many (listIn n chips) bytes (rw (list-length n chips) h))

@@ -1,2 +1,4 @@
 pub mod Parts
+pub mod Sizes
 pub mod Benches
+pub mod Given

@@ -1,6 +1,6 @@
 -- The calls as C sees them: registers and chips as bytes, answers as numbers, through the definitions of `sheet`.
 use Prim.Native.Nat.{ℕ, _/_, _%_}
-use mathlib.Core.Bool.{cond, _&&_}
+use mathlib.Core.Bool.{Bool, cond, _&&_}
 use mathlib.Core.List.{List}
 use lib.Dec.{eqb}
 use lib.ListN.{length, getD}
@@ -9,9 +9,9 @@ use Rattle.sheet.specs.declared.Chips.{Chips}
 use Rattle.sheet.specs.declared.PlainAnswer.{PlainAnswer}
 use Rattle.sheet.specs.Refusals.{numberOf, refusalNumbers, numbers, plainNumbers, pictureNumbers, checkNumbers}
 use Rattle.sheet.specs.Long.{powerOnCall, transferCall, pictureCall}
-use Rattle.sheet.specs.Plain.{plainCall}
+use Rattle.sheet.specs.Plain.{chipPowerOn, chipPictureCall, plainCall}
 use Rattle.buslog.specs.declared.Replayed.{Replayed}
-use Rattle.cabi.specs.Bytes.{bothOf, bothBytes, listIn, listBytes}
+use Rattle.cabi.specs.Bytes.{bothOf, bothBytes, chipIn, chipBytes, listIn, listBytes}
 
 abbrev pub chipsOf : ℕ → ℕ → Chips
 chipsOf z o = record { zero = z; one = o }
@@ -46,23 +46,40 @@ pictureC z o registers ram group phase out answer =
     let s = pictureCall 160 4 (chipsOf z o) (bothOf registers) ram group phase out in
     sized registers out answer (record { number = getD (pictureNumbers (s .result)) 0 0; registers = registers; buffer = s .out; answer = pictureNumbers (s .result) })
 
--- ---- the plain account
+-- ---- the plain account. Each call lends one buffer to write, the chips or the picture
 
 pub record PlainCalled : Type 0 where
   pub number : ℕ
-  pub chips : List ℕ
+  pub buffer : List ℕ
   pub answer : List ℕ
+
+-- 255, and nothing is written, unless chips are whole and an answer has five numbers
+abbrev pub plainSized : Bool → List ℕ → List ℕ → PlainCalled → PlainCalled
+plainSized whole buffer answer c = cond (whole && eqb (length answer) 5) c (record { number = 255; buffer = buffer; answer = answer })
+
+-- one chip, 171 bytes: taken or refused, only the registers are new
+unfoldable pub chipPowerOnC : List ℕ → List ℕ → PlainCalled
+chipPowerOnC chip answer =
+    let p = chipPowerOn 160 4 (chipIn chip) in
+    let k = checkNumbers (p .check) in
+    plainSized (eqb (length chip) 171) chip answer (record { number = getD k 0 0; buffer = chipBytes (p .chip); answer = k })
+
+unfoldable pub chipPictureC : List ℕ → ℕ → List ℕ → List ℕ → PlainCalled
+chipPictureC chip phase out answer =
+    let s = chipPictureCall 160 4 (chipIn chip) phase out in
+    let k = pictureNumbers (s .result) in
+    plainSized (eqb (length chip) 171) out answer (record { number = getD k 0 0; buffer = s .out; answer = k })
 
 -- taken, the chips are written; refused, they are as given
 abbrev pub plainDone : PlainAnswer → List Chip → List ℕ → PlainCalled
-plainDone (PlainAnswer.Acknowledged n) after given = record { number = 0; chips = listBytes after; answer = plainNumbers (PlainAnswer.Acknowledged n) }
-plainDone (PlainAnswer.Refused r) after given = record { number = numberOf r; chips = given; answer = refusalNumbers r }
+plainDone (PlainAnswer.Acknowledged n) after given = record { number = 0; buffer = listBytes after; answer = plainNumbers (PlainAnswer.Acknowledged n) }
+plainDone (PlainAnswer.Refused r) after given = record { number = numberOf r; buffer = given; answer = refusalNumbers r }
 
--- 255, and nothing is written, unless the chips are 171 bytes each and an answer has five numbers
+-- a list of chips, 171 bytes each
 unfoldable pub plainC : List ℕ → List ℕ → List ℕ → PlainCalled
 plainC chips bytes answer =
     let s = plainCall 160 4 (listIn (length chips / 171) chips) bytes in
-    cond (eqb (length chips % 171) 0 && eqb (length answer) 5) (plainDone (s .answer) (s .chips) chips) (record { number = 255; chips = chips; answer = answer })
+    plainSized (eqb (length chips % 171) 0) chips answer (plainDone (s .answer) (s .chips) chips)
 
 -- ---- replay
 

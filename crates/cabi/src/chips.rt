@@ -19,7 +19,7 @@ fn copy(from: &[u8], to: &mut [u8])
     }
 }
 
-fn chip_of(bytes: &[u8]) -> Chip
+pub fn chip_of(bytes: &[u8]) -> Chip
     requires { ⌜ length (now bytes) ≡ 171 ⌝ }
     ensures { λ r. ⌜ r ≡ chipIn (now (bytes .entry)) ⌝ }
 {
@@ -44,7 +44,7 @@ fn put_identity(chip: Chip, out: &mut [u8])
     registers::put_registers(registers, &mut out[2..]);
 }
 
-fn put_chip(chip: Chip, out: &mut [u8])
+pub fn put_chip(chip: Chip, out: &mut [u8])
     requires { ⌜ length (now out) ≡ 171 ⌝ }
     ensures { λ _. ⌜ now (out .exit) ≡ chipBytes chip ⌝ }
 {

@@ -1,5 +1,5 @@
 // The model for C and Rust: numbers and lent buffers only. Registers are 18 bytes, group 0's nine and then group 1's, in the order E B M P A I O AB BF;
-// an answer is five numbers: answer, place, acknowledged, stored, discarded. A buffer of another size is answered 255 and nothing is written.
+// a chip is 171 bytes (`chips`); an answer is five numbers: answer, place, acknowledged, stored, discarded. A buffer of another size is answered 255 and nothing is written.
 mod answers;
 mod chips;
 mod registers;
@@ -12,7 +12,7 @@ ghost use mathlib.Core.Path.{_≡_};
 ghost use Prim.Native.Nat.{_≤_, _/_, _%_};
 ghost use lib.ListN.{length};
 ghost use Rattle.buslog.specs.Replays.{replayCall};
-ghost use Rattle.cabi.specs.Calls.{powerOnC, transferC, pictureC, plainC, replayNumber};
+ghost use Rattle.cabi.specs.Calls.{powerOnC, transferC, pictureC, chipPowerOnC, chipPictureC, plainC, replayNumber};
 
 #[no_mangle]
 pub extern "C" fn humtrellis_power_on(
@@ -99,11 +99,50 @@ pub extern "C" fn humtrellis_picture(
     }
 }
 
+// One chip: taken or refused, only its registers are new.
+#[no_mangle]
+pub extern "C" fn humtrellis_chip_power_on(chip: &mut [u8], answer: &mut [usize]) -> u8
+    ensures { λ r. ⌜ r ≡ chipPowerOnC (now (chip .entry)) (now (answer .entry)) .number ⌝ }
+    ensures { λ _. ⌜ now (chip .exit) ≡ chipPowerOnC (now (chip .entry)) (now (answer .entry)) .buffer ⌝ }
+    ensures { λ _. ⌜ now (answer .exit) ≡ chipPowerOnC (now (chip .entry)) (now (answer .entry)) .answer ⌝ }
+{
+    if (chip.len() == 171) & (answer.len() == 5) {
+        let before = chips::chip_of(chip);
+        let done = chip::power_on(before);
+        let after = done.chip;
+        let check = done.check;
+        chips::put_chip(after, chip);
+        answers::put_check(check, answer)
+    } else {
+        255
+    }
+}
+
+#[no_mangle]
+pub extern "C" fn humtrellis_chip_picture(
+    chip: &[u8],
+    phase: u8,
+    out: &mut [u8],
+    answer: &mut [usize],
+) -> u8
+    ensures { λ r. ⌜ r ≡ chipPictureC (now (chip .entry)) phase (now (out .entry)) (now (answer .entry)) .number ⌝ }
+    ensures { λ _. ⌜ now (out .exit) ≡ chipPictureC (now (chip .entry)) phase (now (out .entry)) (now (answer .entry)) .buffer ⌝ }
+    ensures { λ _. ⌜ now (answer .exit) ≡ chipPictureC (now (chip .entry)) phase (now (out .entry)) (now (answer .entry)) .answer ⌝ }
+{
+    if (chip.len() == 171) & (answer.len() == 5) {
+        let before = chips::chip_of(chip);
+        let shown = chip::picture(before, phase, out);
+        answers::put_pictured(shown, answer)
+    } else {
+        255
+    }
+}
+
 // Of at most eight chips: they are read, follow the transfer, and are written if it is taken.
 fn plain_transfer(chips: &mut [u8], bytes: &[u8], answer: &mut [usize]) -> u8
     requires { ⌜ (length (now chips) % 171 ≡ 0) × (length (now chips) / 171 ≤ 8) × (length (now answer) ≡ 5) ⌝ }
     ensures { λ r. ⌜ r ≡ plainC (now (chips .entry)) (now (bytes .entry)) (now (answer .entry)) .number ⌝ }
-    ensures { λ _. ⌜ now (chips .exit) ≡ plainC (now (chips .entry)) (now (bytes .entry)) (now (answer .entry)) .chips ⌝ }
+    ensures { λ _. ⌜ now (chips .exit) ≡ plainC (now (chips .entry)) (now (bytes .entry)) (now (answer .entry)) .buffer ⌝ }
     ensures { λ _. ⌜ now (answer .exit) ≡ plainC (now (chips .entry)) (now (bytes .entry)) (now (answer .entry)) .answer ⌝ }
 {
     let before = chips::bench_of(chips, chips.len() / 171);
@@ -126,7 +165,7 @@ pub extern "C" fn humtrellis_plain_transfer(
     answer: &mut [usize],
 ) -> u8
     ensures { λ r. ⌜ r ≡ plainC (now (chips .entry)) (now (bytes .entry)) (now (answer .entry)) .number ⌝ }
-    ensures { λ _. ⌜ now (chips .exit) ≡ plainC (now (chips .entry)) (now (bytes .entry)) (now (answer .entry)) .chips ⌝ }
+    ensures { λ _. ⌜ now (chips .exit) ≡ plainC (now (chips .entry)) (now (bytes .entry)) (now (answer .entry)) .buffer ⌝ }
     ensures { λ _. ⌜ now (answer .exit) ≡ plainC (now (chips .entry)) (now (bytes .entry)) (now (answer .entry)) .answer ⌝ }
 {
     if (chips.len() % 171 == 0) & (answer.len() == 5) {

@@ -2,25 +2,22 @@
 -- Assumes nothing.
 use mathlib.Core.Path.{_≡_, refl, sym, ap, _∙_}
 use Prim.Native.Nat.{_%_}
-use lib.Dec.{eqb}
+use native.Mathlib.Omega.{arith}
 use lib.ListN.{length}
-use borrow.Author.Tests.{eqb-true}
 use denote.Ref.{now}
-use Rattle.lemmas.proofs.Tests.{both-true}
 use Rattle.cabi.specs.Calls.{PlainCalled, plainC}
 use Rattle.cabi.proofs.Benches.{too-many}
+use Rattle.cabi.proofs.Sizes.{both-sized}
 use borrow.Author.Needs.{needs}
 use Rattle.cabi.proofs.humtrellis_plain_transfer.Statement.{statement}
 use Rattle.cabi.proofs.humtrellis_plain_transfer.Tie as tie
 
 -- past the first test the buffers have their sizes
-sizes : (c : tie.Then1) → (length (now (c .before .before .before .before .args .chips)) % 171 ≡ 0) × (length (now (c .before .before .before .before .args .answer)) ≡ 5)
-sizes c =
-    let t = both-true (eqb (length (now (c .before .before .before .before .args .chips)) % 171) 0) (eqb (length (now (c .before .before .before .before .args .answer))) 5) (c .if1 .taken) in
-    (eqb-true _ 0 (t .0), eqb-true _ 5 (t .1))
+sizes : (c : tie.Then1) → let a = c .before .before .before .before .args in (length (now (a .chips)) % 171 ≡ 0) × (length (now (a .answer)) ≡ 5)
+sizes c = let a = c .before .before .before .before .args in both-sized (length (now (a .chips)) % 171) (length (now (a .answer))) 0 5 (c .if1 .taken)
 
 plain-transfer-requires : tie.Need-plain-transfer-requires
-plain-transfer-requires c κs = let t = sizes (c .before .before .before) in (t .0, c .before .before .if2 .taken, t .1)
+plain-transfer-requires c κs = let t = sizes (c .before .before .before) in (t .0, omega (arith, c .before .before .if2 .taken), t .1)
 
 put-refusal-requires : tie.Need-put-refusal-requires
 put-refusal-requires c κs = sizes (c .before .before) .1
@@ -42,7 +39,7 @@ returns-2 c = let a = c .before .before .before .before .before .before .before 
     let t = sizes (c .before .before .before .before .before) in
     let told = too-many (now (a .chips)) (now (a .bytes)) (now (a .answer)) (t .0) (t .1) (c .before .before .before .before .if2 .left) in (
       c .before .before .put-refusal .ensures .0 ∙ sym (ap (λ (k : PlainCalled). k .number) told),
-      (sym (ap (λ (k : PlainCalled). k .chips) told), c .before .before .put-refusal .ensures .1 ∙ sym (ap (λ (k : PlainCalled). k .answer) told)),
+      (sym (ap (λ (k : PlainCalled). k .buffer) told), c .before .before .put-refusal .ensures .1 ∙ sym (ap (λ (k : PlainCalled). k .answer) told)),
     )
 
 returns-3 : tie.Need-returns-3

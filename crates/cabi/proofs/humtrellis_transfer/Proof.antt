@@ -1,26 +1,22 @@
 -- `cabi::humtrellis_transfer` meets its contract: the call of the long account between bytes and registers.
 -- Assumes nothing.
 use mathlib.Core.Path.{_≡_, refl, ap, _∙_}
-use lib.Dec.{eqb}
 use lib.ListN.{length, getD}
-use borrow.Author.Tests.{eqb-true}
 use denote.Ref.{now}
-use Rattle.lemmas.proofs.Tests.{both-true}
 use Rattle.sheet.specs.declared.Both.{Both}
 use Rattle.sheet.specs.declared.Transferred.{Transferred}
 use Rattle.sheet.specs.Refusals.{numbers}
 use Rattle.sheet.specs.Long.{transferCall}
 use Rattle.cabi.specs.Bytes.{bothOf, bothBytes}
 use Rattle.cabi.specs.Calls.{chipsOf, transferC}
+use Rattle.cabi.proofs.Sizes.{both-sized}
 use borrow.Author.Needs.{needs}
 use Rattle.cabi.proofs.humtrellis_transfer.Statement.{statement}
 use Rattle.cabi.proofs.humtrellis_transfer.Tie as tie
 
 -- past the test both buffers have their sizes
-sizes : (c : tie.Then1) → (length (now (c .before .before .before .before .before .args .registers)) ≡ 18) × (length (now (c .before .before .before .before .before .args .answer)) ≡ 5)
-sizes c =
-    let t = both-true (eqb (length (now (c .before .before .before .before .before .args .registers))) 18) (eqb (length (now (c .before .before .before .before .before .args .answer))) 5) (c .if1 .taken) in
-    (eqb-true _ 18 (t .0), eqb-true _ 5 (t .1))
+sizes : (c : tie.Then1) → let a = c .before .before .before .before .before .args in (length (now (a .registers)) ≡ 18) × (length (now (a .answer)) ≡ 5)
+sizes c = let a = c .before .before .before .before .before .args in both-sized (length (now (a .registers))) (length (now (a .answer))) 18 5 (c .if1 .taken)
 
 both-of-requires : tie.Need-both-of-requires
 both-of-requires c κs = sizes (c .before) .0

@@ -56,7 +56,7 @@ returns c = let a = c .before .before .before .before .before .before .before .b
     let after = told (now (a .chips)) (now (a .bytes)) (now (a .answer)) (PlainAnswer.Acknowledged (c .before .before .before .before .before .before .before .before .before .said .given .0 .0)) (c .before .before .before .before .before .before .before .before .before .before .before .before .before .before .before .before .before .before .pre .0) (c .before .before .before .before .before .before .before .before .before .before .before .before .before .before .before .before .before .before .pre .2) (sym (f .answer) ∙ c .before .before .before .before .before .before .before .before .before .said .given .1) in (
       c .before .before .put-numbers .ensures .0 ∙ sym (ap (λ (k : PlainCalled). k .number) after),
       (
-        c .before .before .before .before .before .before .put-bench .ensures ∙ ap listBytes (f .chips) ∙ sym (ap (λ (k : PlainCalled). k .chips) after),
+        c .before .before .before .before .before .before .put-bench .ensures ∙ ap listBytes (f .chips) ∙ sym (ap (λ (k : PlainCalled). k .buffer) after),
         c .before .before .put-numbers .ensures .1 ∙ sym (ap (λ (k : PlainCalled). k .answer) after),
       ),
     )
@@ -72,7 +72,7 @@ returns-2 c = let a = c .before .before .before .before .before .before .before 
     let f = bench (c .before .before .before .before .before .before .before .before) in
     let after = told (now (a .chips)) (now (a .bytes)) (now (a .answer)) (PlainAnswer.Refused (c .before .before .before .before .before .said2 .given .0 .0)) (c .before .before .before .before .before .before .before .before .before .before .before .before .before .before .pre .0) (c .before .before .before .before .before .before .before .before .before .before .before .before .before .before .pre .2) (sym (f .answer) ∙ c .before .before .before .before .before .said2 .given .1) in (
       c .before .before .put-refusal .ensures .0 ∙ sym (ap (λ (k : PlainCalled). k .number) after),
-      (sym (ap (λ (k : PlainCalled). k .chips) after), c .before .before .put-refusal .ensures .1 ∙ sym (ap (λ (k : PlainCalled). k .answer) after)),
+      (sym (ap (λ (k : PlainCalled). k .buffer) after), c .before .before .put-refusal .ensures .1 ∙ sym (ap (λ (k : PlainCalled). k .answer) after)),
     )
 
 pub plain-transfer-spec : {M : Type 1} → statement M
