@@ -33,7 +33,7 @@ use Rattle.protocol.specs.Listeners.{groupOf, listenerOf}
 use Rattle.protocol.proofs.Hearing.{Sound, Hearing, byte-turn, at-end}
 use Rattle.long.proofs.Parts.{part-in, part-passes, transfer-passed}
 use borrow.Author.Tests.{leb-true}
-use Rattle.buslog.proofs.Widths.{Small}
+use Rattle.buslog.proofs.Widths.{Below, Small}
 
 -- ---- refusals
 
@@ -133,3 +133,14 @@ module _ (n : Chips) (s : State) (bytes : List ℕ) (v : Valid 160 4 n s) (short
       by-check : (k : Check) → checkTransfer 160 4 n (s .registers) (s .ram) bytes ≡ k → Few k → Small (numbers (answered k (s .registers) (s .ram) (taken 160 4 n (s .registers) (s .ram) bytes (heardBy n (getD bytes 0 0))) .result .answer))
       by-check Passed e f = transfer-taken e (heardBy n (getD bytes 0 0))
       by-check (Refused r) e f = (f .0, (f .1 .0, (omega arith, (omega arith, (omega arith, tt)))))
+
+-- of a transfer of no byte, or of the address alone, they have one digit each
+pub transfer-short : (n : Chips) (s : State) (bytes : List ℕ) → Valid 160 4 n s → length bytes < 2 → Below 0 (numbers (transferCall 160 4 n (s .registers) (s .ram) bytes .result .answer))
+unfolding transferCall checkTransfer checkLength undefinedIn heard
+transfer-short n s [] v l = rw v (omega arith)
+transfer-short n s (x ∷ []) v l = rw v (by-address (heardBy n x))
+  where
+    by-address : (to : Addressed) → Below 0 (numbers (answered (checkCommands to (x ∷ [])) (s .registers) (s .ram) (taken 160 4 n (s .registers) (s .ram) (x ∷ []) to) .result .answer))
+    by-address (To g) = omega arith
+    by-address Nobody = omega arith
+transfer-short n s (x ∷ y ∷ xs) v l = absurd (omega arith)

@@ -1,4 +1,4 @@
--- There is room for the text of any log: at most 32,768 transfer lines of 38 bytes, 1,280 column lines of 20 and two group lines of 14; or a refusal's line.
+-- There is room for the text of any log: ten bytes of transfer lines at most for each byte of a log, 1,280 column lines of 20 and two group lines of 14; or a refusal's line.
 -- Assumes nothing.
 use mathlib.Core.Path.{_≡_, refl, ap}
 use mathlib.Core.Logic.{⊎-elim}
@@ -33,8 +33,8 @@ use Rattle.buslog.specs.declared.Replayed.{Replayed}
 use Rattle.buslog.specs.declared.Replayed.the-variants.{Written, SmallBuffer}
 use Rattle.buslog.specs.Records.{recordsFrom}
 use Rattle.buslog.specs.Replays.{room, replayCall}
-use Rattle.buslog.proofs.Widths.{line-few}
-use Rattle.buslog.proofs.Numbers.{Few, log-few, transfer-few}
+use Rattle.buslog.proofs.Widths.{line-few, line-short}
+use Rattle.buslog.proofs.Numbers.{Few, log-few, transfer-few, transfer-short}
 use Rattle.buslog.proofs.Checked.{checked}
 use Rattle.buslog.proofs.States.{start-valid}
 
@@ -48,7 +48,20 @@ records-few (suc k) [] = omega arith
 records-few (suc k) (h ∷ []) = omega arith
 records-few (suc k) (h ∷ l ∷ rest) = omega (arith, records-few k (drop (lengthOf h l) rest), length-drop (lengthOf h l) rest)
 
--- and no more than the log
+-- the bytes of the records, with their length fields
+abbrev weight : List (List ℕ) → ℕ
+weight [] = 0
+weight (t ∷ ts) = length t + 2 + weight ts
+
+records-weigh : (k : ℕ) (rest : List ℕ) → weight (recordsIn k rest) ≤ length rest
+unfolding recordsIn
+records-weigh zero rest = omega arith
+records-weigh (suc k) [] = omega arith
+records-weigh (suc k) (h ∷ []) = omega arith
+records-weigh (suc k) (h ∷ l ∷ rest) =
+    omega (arith, records-weigh k (drop (lengthOf h l) rest), length-take (lengthOf h l) rest, length-drop (lengthOf h l) rest)
+
+-- none is longer than the log
 abbrev Short : List (List ℕ) → Type 0
 Short [] = Unit {0}
 Short (t ∷ ts) = (length t ≤ 65536) × Short ts
@@ -66,13 +79,21 @@ five : (a : Answer) → length (numbers a) ≡ 5
 five (Answer.Taken t) = refl
 five (Answer.Refused r) = refl
 
-transfers-few : (n : Chips) (i : ℕ) (s : State) (ts : List (List ℕ)) → Valid 160 4 n s → Short ts → i + length ts ≤ 99999 → length (transferLines n i s ts) ≤ 38 * length ts
+-- ten bytes at most for each byte of the record: a line of one digit a count for a record of no byte or one, and else 38
+transfer-line : (n : Chips) (i : ℕ) (s : State) (t : List ℕ) → Valid 160 4 n s → length t ≤ 65536 → i < 100000
+    → length (line 84 (i ∷ numbers (transferCall 160 4 n (s .registers) (s .ram) t .result .answer))) ≤ 10 * (length t + 2)
+transfer-line n i s t v short h =
+    let a = transferCall 160 4 n (s .registers) (s .ram) t .result .answer in
+    ⊎-elim (λ (l : length t < 2). omega (arith, line-short 84 i (numbers a) h (transfer-short n s t v l) (five a)))
+    (λ (l : 2 ≤ length t). omega (arith, line-few 84 (i ∷ numbers a) (h, transfer-few n s t v short), five a))
+    (lt-or-le (length t) 2)
+
+transfers-few : (n : Chips) (i : ℕ) (s : State) (ts : List (List ℕ)) → Valid 160 4 n s → Short ts → i + length ts ≤ 99999 → length (transferLines n i s ts) ≤ 10 * weight ts
 unfolding transferLines
 transfers-few n i s [] v short h = omega arith
 transfers-few n i s (t ∷ ts) v short h =
-    let a = transferCall 160 4 n (s .registers) (s .ram) t .result .answer in
     let after = stateAfter 160 4 n s t in
-    omega (arith, length-append (line 84 (i ∷ numbers a)) (transferLines n (suc i) after ts), line-few 84 (i ∷ numbers a) (omega arith, transfer-few n s t v (short .0)), five a, transfers-few n (suc i) after ts (pcf8532 .transfer n s t v .valid) (short .1) (omega arith))
+    omega (arith, length-append (line 84 (i ∷ numbers (transferCall 160 4 n (s .registers) (s .ram) t .result .answer))) (transferLines n (suc i) after ts), transfer-line n i s t v (short .0) (omega arith), transfers-few n (suc i) after ts (pcf8532 .transfer n s t v .valid) (short .1) (omega arith))
 
 -- ---- pictures
 
@@ -144,7 +165,7 @@ lines-few log e =
     let v = start-valid n (c .chips) in
     let shorter : length (drop 3 log) ≤ 65536 = omega (arith, length-drop 3 log) in
     let few = records-few (length log) (drop 3 log) in
-    omega (arith, length-append (transferLines n 0 (logStart n) ts) (endLines n (stateAfterAll 160 4 n (logStart n) ts)), transfers-few n 0 (logStart n) ts v (records-short (length log) (drop 3 log) shorter) (omega arith), end-few n (stateAfterAll 160 4 n (logStart n) ts) (pcf8532 .sequence n (logStart n) ts v .valid))
+    omega (arith, records-weigh (length log) (drop 3 log), length-drop 3 log, length-append (transferLines n 0 (logStart n) ts) (endLines n (stateAfterAll 160 4 n (logStart n) ts)), transfers-few n 0 (logStart n) ts v (records-short (length log) (drop 3 log) shorter) (omega arith), end-few n (stateAfterAll 160 4 n (logStart n) ts) (pcf8532 .sequence n (logStart n) ts v .valid))
 
 -- the law
 pub text-few : (log : List ℕ) → length (textOf log) ≤ room

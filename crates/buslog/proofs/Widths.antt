@@ -1,5 +1,6 @@
--- How long lines are: of numbers below 100,000, each of five digits at most.
+-- How long lines are, by the digits of their numbers.
 -- Assumes nothing.
+use mathlib.Core.Path.{_≡_}
 use mathlib.Core.Logic.{⊎-elim}
 use mathlib.Core.List.{List, [], _∷_}
 use Prim.Native.Nat.{ℕ, zero, suc, _+_, _*_, _/_, _%_, _^_, _≤_, _<_}
@@ -23,17 +24,27 @@ digits-few (suc j) (suc k) n h =
     rw (le-ltb n 10 l) (omega (arith, length-append (digitsIn j (n / 10)) ((48 + n % 10) ∷ []), digits-few j k (n / 10) tenth)))
     (lt-or-le n 10)
 
--- every number is below 100,000
-abbrev pub Small : List ℕ → Type 0
-Small [] = Unit {0}
-Small (n ∷ ns) = (n < 100000) × Small ns
+-- every number has k + 1 digits at most
+abbrev pub Below : ℕ → List ℕ → Type 0
+Below k [] = Unit {0}
+Below k (n ∷ ns) = (n < 10 ^ suc k) × Below k ns
 
--- a space and five digits a number
-spaced-few : (ns : List ℕ) → Small ns → length (spaced ns) ≤ 6 * length ns
+-- below 100,000
+abbrev pub Small : List ℕ → Type 0
+Small ns = Below 4 ns
+
+-- a space and the digits, a number
+pub spaced-few : (k : ℕ) (ns : List ℕ) → Below k ns → length (spaced ns) ≤ (k + 2) * length ns
 unfolding spaced decimal
-spaced-few [] s = omega arith
-spaced-few (n ∷ ns) s = omega (arith, length-append (decimal n) (spaced ns), digits-few (suc n) 4 n (s .0), spaced-few ns (s .1))
+spaced-few k [] s = omega arith
+spaced-few k (n ∷ ns) s = omega (arith, length-append (decimal n) (spaced ns), digits-few (suc n) k n (s .0), spaced-few k ns (s .1))
 
 -- and the letter and LF
 pub line-few : (letter : ℕ) (ns : List ℕ) → Small ns → length (line letter ns) ≤ 6 * length ns + 2
-line-few letter ns s = omega (arith, length-append (spaced ns) (10 ∷ []), spaced-few ns s)
+line-few letter ns s = omega (arith, length-append (spaced ns) (10 ∷ []), spaced-few 4 ns s)
+
+-- a small number and five of one digit
+pub line-short : (letter n : ℕ) (ns : List ℕ) → n < 100000 → Below 0 ns → length ns ≡ 5 → length (line letter (n ∷ ns)) ≤ 18
+unfolding spaced decimal
+line-short letter n ns h s e =
+    omega (arith, length-append (spaced (n ∷ ns)) (10 ∷ []), length-append (decimal n) (spaced ns), digits-few (suc n) 4 n h, spaced-few 0 ns s)

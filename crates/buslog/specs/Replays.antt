@@ -11,7 +11,7 @@ use Rattle.buslog.specs.declared.Replayed.the-variants.{Written, SmallBu
 
 -- room for the text of any log
 abbrev pub room : ℕ
-room = 1300000
+room = 700000
 
 pub record ReplayedAfter : Type 0 where
   pub result : Replayed

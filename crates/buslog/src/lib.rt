@@ -12,7 +12,7 @@ ghost use Prim.Native.Nat.{_+_, _*_, _≤_, _<_};
 ghost use lib.Dec.{eqb};
 ghost use lib.ListN.{length, drop, replicate};
 ghost use Rattle.sheet.specs.Refusals.{numberOf, placeOf, numbers};
-ghost use Rattle.sheet.specs.Checks.{chipsIn, checkChips};
+ghost use Rattle.sheet.specs.Checks.{orElse, chipsIn, checkChips};
 ghost use Rattle.sheet.specs.Logs.{lengthOf, logChips, cutIn, checkLog, decimal, spaced, line, transferLines, columnLines, shownAt, endLines, logStart, logLines, textOf};
 ghost use Rattle.sheet.specs.Long.{stateOf, stateAfterAll};
 ghost use Rattle.sheet.specs.Agree.{Valid};
@@ -145,20 +145,28 @@ fn check_records(log: &[u8]) -> Check
     }
 }
 
+// The chip counts and the records: 3, 13.
+fn check_body(log: &[u8]) -> Check
+    ensures { λ r. ⌜ r ≡ orElse (checkChips 4 (logChips (now (log .entry)))) (cutIn (length (now (log .entry))) 3 (drop 3 (now (log .entry)))) ⌝ }
+{
+    match checks::check_chips(chips_of(log)) {
+        Check::Refused(refusal) => Check::Refused(refusal),
+        Check::Passed => check_records(log),
+    }
+}
+
 // A log is checked whole before its first line is written: 14, 12, 3, 13.
 fn check_log(log: &[u8]) -> Check
     ensures { λ r. ⌜ r ≡ checkLog (now (log .entry)) ⌝ }
 {
-    let chips = chips_of(log);
-    let long = checks::unless(log.len() <= 65536, Refusal::LongLog);
-    let head = checks::unless(
-        (3 <= log.len()) & (checks::byte_at(log, 0) == 1),
-        Refusal::LogHead,
-    );
-    let counts = checks::check_chips(chips);
-    let records = check_records(log);
-    let chips_and_records = checks::or_else(counts, records);
-    checks::or_else(long, checks::or_else(head, chips_and_records))
+    if 65536 < log.len() {
+        return Check::Refused(Refusal::LongLog);
+    }
+    if (3 <= log.len()) & (checks::byte_at(log, 0) == 1) {
+        check_body(log)
+    } else {
+        Check::Refused(Refusal::LogHead)
+    }
 }
 
 // ---- the text
@@ -348,7 +356,7 @@ fn put_refusal(out: &mut [u8], refusal: Refusal) -> usize
 // ---- the call
 
 // Room for the text of any log.
-pub const TEXT: usize = 1300000;
+pub const TEXT: usize = 700000;
 
 pub enum Replayed {
     Written(usize),

@@ -12,10 +12,10 @@ fn input_buffer() -> [u8; 700000]
     [0; 700000]
 }
 
-fn text_buffer() -> [u8; 1300000]
-    ensures { λ r. ⌜ 1300000 ≡ length r ⌝ }
+fn text_buffer() -> [u8; 700000]
+    ensures { λ r. ⌜ 700000 ≡ length r ⌝ }
 {
-    [0; 1300000]
+    [0; 700000]
 }
 
 fn wide(byte: u8) -> usize

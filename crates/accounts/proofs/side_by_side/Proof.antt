@@ -19,8 +19,8 @@ returns : tie.Need-returns
 returns c = let s = c .before .before .before .before .before .before .before in
     let a = s .args in
     let ram = c .before .before .transfer .ensures .0 in
-    let long = c .before .before .transfer .ensures .1 in
-    let plain = c .before .before .before .before .transfer-bench .ensures in (
+    let long = c .before .before .transfer .ensures .1 .0 in
+    let plain = c .before .before .before .before .transfer-bench .ensures .0 in (
       long,
       (
         ram,

@@ -53,7 +53,7 @@ told (Pictured.Lit n) = suc n
 told (Pictured.Refused r) = 0
 
 result : (c : tie.After-picture2) → let d = c .before .before in let a = d .before .before .before .args in c .picture2 .result ≡ Pictured.Lit (litIn (shownAt (a .chips) (state d) (a .group)))
-result c = c .picture2 .ensures .1 ∙ ap (λ (k : Seen). k .result) (seen c)
+result c = c .picture2 .ensures .1 .0 ∙ ap (λ (k : Seen). k .result) (seen c)
 
 blank-picture-requires : tie.Need-blank-picture-requires
 blank-picture-requires c κs = search needs

@@ -84,7 +84,7 @@ put-transfer-requires : tie.Need-put-transfer-requires Inv-loop μ-loop
 put-transfer-requires c κs = let p = c .before .before .before .before .before .before .before .before .before .before .before in
     let a = p .before .before .before .before .args in
     let t = c .before .before .before .before .transfer in
-    room (line 84 (p .loop .index ∷ numbers (t .result .answer))) _ (one-more (a .log .now) (a .chips) (a .initial) (a .ram .now) (a .out .now) (p .loop .registers) (p .loop .ram) (p .loop .out) (p .loop .index) (p .loop .at) (p .loop .cursor .at) (p .loop .inv) _ _ (found (c .before .before .before .before .before .before .before .before)) (t .result) (t .last .1 .1 .0) (t .ensures .1) (t .ensures .0)) (omega (arith, p .before .before .before .before .pre .1))
+    room (line 84 (p .loop .index ∷ numbers (t .result .answer))) _ (one-more (a .log .now) (a .chips) (a .initial) (a .ram .now) (a .out .now) (p .loop .registers) (p .loop .ram) (p .loop .out) (p .loop .index) (p .loop .at) (p .loop .cursor .at) (p .loop .inv) _ _ (found (c .before .before .before .before .before .before .before .before)) (t .result) (t .last .1 .1 .0) (t .ensures .1 .0) (t .ensures .0)) (omega (arith, p .before .before .before .before .pre .1))
 
 add-index : tie.Need-add-index Inv-loop μ-loop
 add-index c = omega (arith, found (c .before .before .before .before .before .before .before .before .before .before .before) .inside, found (c .before .before .before .before .before .before .before .before .before .before .before) .begins, c .before .before .before .before .before .before .before .before .before .before .before .before .before .before .loop .inv .few)
@@ -96,7 +96,7 @@ loop-again : tie.Need-loop-again Inv-loop μ-loop
 loop-again c = let p = c .before .before .before .before .before .before .before .before .before .before .before .before .before .before in
     let a = p .before .before .before .before .args in
     let t = c .before .before .before .before .before .before .before .transfer in
-    next-record (a .log .now) (a .chips) (a .initial) (a .ram .now) (a .out .now) (p .loop .registers) (p .loop .ram) (p .loop .out) (p .loop .index) (p .loop .at) (p .loop .cursor .at) (p .loop .inv) _ _ (found (c .before .before .before .before .before .before .before .before .before .before .before)) (t .result) (t .last .1 .1 .0) (t .ensures .1) (t .ensures .0) _ _ (t .kept .1 .1 .0) (c .before .before .put-transfer .ensures)
+    next-record (a .log .now) (a .chips) (a .initial) (a .ram .now) (a .out .now) (p .loop .registers) (p .loop .ram) (p .loop .out) (p .loop .index) (p .loop .at) (p .loop .cursor .at) (p .loop .inv) _ _ (found (c .before .before .before .before .before .before .before .before .before .before .before)) (t .result) (t .last .1 .1 .0) (t .ensures .1 .0) (t .ensures .0) _ _ (t .kept .1 .1 .0) (c .before .before .put-transfer .ensures)
 
 same-length : tie.Need-same-length Inv-loop μ-loop
 same-length c = c .before .before .loop .inv .long
