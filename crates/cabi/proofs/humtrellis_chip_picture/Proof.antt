@@ -43,7 +43,7 @@ returns c = let on = c .before .before .before .before .before .before in
     rw (on .before .before .before .if1 .taken) (
       c .before .before .put-pictured .ensures .0 ∙ ap (λ (t : Pictured). getD (pictureNumbers t) 0 0) shown,
       (
-        on .picture .ensures .1 ∙ ap (λ (k : Chip). chipPictureCall 160 4 k (a .phase) (now (a .out)) .out) before,
+        on .picture .ensures .1 .0 ∙ ap (λ (k : Chip). chipPictureCall 160 4 k (a .phase) (now (a .out)) .out) before,
         c .before .before .put-pictured .ensures .1 ∙ ap pictureNumbers shown,
       ),
     )

@@ -39,7 +39,7 @@ returns : tie.Need-returns
 unfolding chipPowerOnC
 returns c = let on = c .before .before .before .before .before .before .before .before .before in
     let after : on .power-on .result ≡ chipPowerOn 160 4 (chipIn (now (on .before .before .before .before .before .before .args .chip))) =
-    on .power-on .ensures ∙ ap (chipPowerOn 160 4) (on .before .chip-of .ensures) in
+    on .power-on .ensures .0 ∙ ap (chipPowerOn 160 4) (on .before .chip-of .ensures) in
     rw (on .before .before .before .if1 .taken) (
       c .before .before .put-check .ensures .0 ∙ ap (λ (p : ChipPowerOn). getD (checkNumbers (p .check)) 0 0) after,
       (

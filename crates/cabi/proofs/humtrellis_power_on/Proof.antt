@@ -33,7 +33,7 @@ same-length-2 c = search needs
 
 returns : tie.Need-returns
 unfolding powerOnC
-returns c = let after = c .before .before .before .before .before .before .before .before .before .power-on .ensures in
+returns c = let after = c .before .before .before .before .before .before .before .before .before .power-on .ensures .0 in
     rw (c .before .before .before .before .before .before .before .before .before .before .if1 .taken) (
       c .before .before .put-check .ensures .0 ∙ ap (λ (t : PowerOn). getD (checkNumbers (t .check)) 0 0) after,
       (

@@ -44,7 +44,7 @@ unfolding transferC
 returns c = let a = c .before .before .before .before .before .before .before .before .before .before .before .before .before .before .before .before .before .before .before .before .args in
     let before = c .before .before .before .before .before .before .before .before .before .before .before .before .before .both-of .ensures in
     let after : c .before .before .before .before .before .before .before .before .before .before .before .transfer .result ≡ transferCall 160 4 (chipsOf (a .chips0) (a .chips1)) (bothOf (now (a .registers))) (now (a .ram)) (now (a .bytes)) .result =
-    c .before .before .before .before .before .before .before .before .before .before .before .transfer .ensures .1 ∙ ap (λ (r : Both). transferCall 160 4 (chipsOf (a .chips0) (a .chips1)) r (now (a .ram)) (now (a .bytes)) .result) before in
+    c .before .before .before .before .before .before .before .before .before .before .before .transfer .ensures .1 .0 ∙ ap (λ (r : Both). transferCall 160 4 (chipsOf (a .chips0) (a .chips1)) r (now (a .ram)) (now (a .bytes)) .result) before in
     rw (c .before .before .before .before .before .before .before .before .before .before .before .before .before .before .before .if1 .taken) (
       c .before .before .put-answer .ensures .0 ∙ ap (λ (t : Transferred). getD (numbers (t .answer)) 0 0) after,
       (

@@ -20,7 +20,7 @@ bench c =
     let a = c .before .before .before .before .before .before .args in
     let k = c .before .bench-of in
     followed (k .result) (listIn (length (now (a .chips)) / 171) (now (a .chips))) (length (now (a .chips)) / 171) (now (a .bytes)) (c .transfer-bench .result)
-    (c .before .before .before .before .before .before .pre .1) (k .ensures .0) (k .ensures .1 .0) (k .ensures .1 .1) (c .transfer-bench .ensures)
+    (c .before .before .before .before .before .before .pre .1) (k .ensures .0) (k .ensures .1 .0) (k .ensures .1 .1) (c .transfer-bench .ensures .0)
 
 bench-of-requires : tie.Need-bench-of-requires
 bench-of-requires c κs = search needs
