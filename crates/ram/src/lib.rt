@@ -230,7 +230,6 @@ fn whole_bytes(ram: &mut [u8], v: usize, m: usize, bank: u8, bytes: &[u8])
     }
 }
 
-// How many of a bytes fit where b do.
 // The lesser of two numbers.
 pub fn least(a: usize, b: usize) -> usize
     ensures { λ r. ⌜ r ≡ min a b ⌝ }
