@@ -6,15 +6,6 @@ use borrow.Author.Needs.{needs}
 use Rattle.accounts.proofs.side_by_side.Statement.{statement}
 use Rattle.accounts.proofs.side_by_side.Tie as tie
 
-transfer-bench-requires : tie.Need-transfer-bench-requires
-transfer-bench-requires c κs = search needs
-
-transfer-requires : tie.Need-transfer-requires
-transfer-requires c κs = search needs
-
-same-length : tie.Need-same-length
-same-length c = search needs
-
 returns : tie.Need-returns
 returns c = let s = c .before .before .before .before .before .before .before in
     let a = s .args in
@@ -33,4 +24,4 @@ returns c = let s = c .before .before .before .before .before .before .before in
 
 pub side-by-side-spec : {M : Type 1} → statement M
 side-by-side-spec =
-    tie.close (tie.spec transfer-bench-requires transfer-requires same-length returns)
+    tie.close (tie.spec (λ c κs. search needs) (λ c κs. search needs) (λ c. search needs) returns)

@@ -23,12 +23,6 @@ found c = let p = c .before .before .before in next-of (p .before .before .args 
 loop-holds : tie.Need-loop-holds Inv-loop μ-loop
 loop-holds c = refl
 
-read-requires : tie.Need-read-requires Inv-loop μ-loop
-read-requires c κs = search needs
-
-enum-known-start : tie.Need-enum-known-start Inv-loop μ-loop
-enum-known-start c = search needs
-
 add-at : tie.Need-add-at Inv-loop μ-loop
 add-at c = omega (arith, found (c .before) .inside)
 
@@ -46,9 +40,6 @@ returns c = let p = c .before .before .before in
     let log = p .before .before .args .log .now in
     sym (at-end (length log) (p .loop .at) (drop (p .loop .at) log) (sym (c .before .before .read .ensures) ∙ c .enum-told .given .1) .0) ∙ p .loop .inv
 
-enum-told-2 : tie.Need-enum-told-2 Inv-loop μ-loop
-enum-told-2 c = search needs
-
 returns-2 : tie.Need-returns-2 Inv-loop μ-loop
 returns-2 c = let p = c .before .before .before in
     let log = p .before .before .args .log .now in
@@ -61,12 +52,12 @@ check-records-spec =
     Inv-loop
     μ-loop
     loop-holds
-    read-requires
-    enum-known-start
+    (λ c κs. search needs)
+    (λ c. search needs)
     add-at
     loop-less
     loop-again
     enum-told
     returns
-    enum-told-2
+    (λ c. search needs)
     returns-2)

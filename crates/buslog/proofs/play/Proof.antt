@@ -51,12 +51,6 @@ valid c = let d = c .before .before .before in
     let n = s .args .chips in
     subst (Valid 160 4 n) (sym (c .put-transfers .ensures .0)) (pcf8532 .sequence n (initial d) (transfers s) (subst (Valid 160 4 n) (sym (powered d)) (start-valid n (s .pre .0 .0))) .valid)
 
-power-on-requires : tie.Need-power-on-requires
-power-on-requires c κs = search needs
-
-power-on-requires-2 : tie.Need-power-on-requires-2
-power-on-requires-2 c κs = search needs
-
 put-transfers-requires : tie.Need-put-transfers-requires
 put-transfers-requires c κs = let d = c .before .before in
     let s = c .before .before .before .before .before .before .before in
@@ -66,12 +60,6 @@ put-transfers-requires c κs = let d = c .before .before in
 put-end-requires : tie.Need-put-end-requires
 put-end-requires c κs = (valid (c .before .before .before .before .before .before .before), room-left _ (played (c .before .before .before .before .before .before .before)) (fits (c .before .before .before .before .before .before .before .before .before .before .before .before .before .before .before)))
 
-same-length : tie.Need-same-length
-same-length c = search needs
-
-same-length-2 : tie.Need-same-length-2
-same-length-2 c = search needs
-
 returns : tie.Need-returns
 returns c = last (played (c .before .before .before .before .before .before .before .before .before .before)) (c .before .before .put-end .ensures)
 
@@ -79,10 +67,10 @@ pub play-spec : {M : Type 1} → statement M
 play-spec =
     tie.close
     (tie.spec
-    power-on-requires
-    power-on-requires-2
+    (λ c κs. search needs)
+    (λ c κs. search needs)
     put-transfers-requires
     put-end-requires
-    same-length
-    same-length-2
+    (λ c. search needs)
+    (λ c. search needs)
     returns)

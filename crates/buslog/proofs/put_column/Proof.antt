@@ -6,21 +6,15 @@ use borrow.Author.Needs.{needs}
 use Rattle.buslog.proofs.put_column.Statement.{statement}
 use Rattle.buslog.proofs.put_column.Tie as tie
 
-slice-aggregate-put-line : tie.Need-slice-aggregate-put-line
-slice-aggregate-put-line c = search needs
-
 put-line-requires : tie.Need-put-line-requires
 put-line-requires c κs = rw (ne-eqb _ 0 (c .before .before .if1 .left)) at (c .before .before .before .before .pre)
 
 returns : tie.Need-returns
 returns c = rw (eq-eqb _ 0 (c .if1 .taken)) (done (begin _ _ _))
 
-same-length : tie.Need-same-length
-same-length c = search needs
-
 returns-2 : tie.Need-returns-2
 returns-2 c = rw (ne-eqb _ 0 (c .before .before .before .before .before .if1 .left)) (c .before .before .put-line .ensures)
 
 pub put-column-spec : {M : Type 1} → statement M
 put-column-spec =
-    tie.close (tie.spec slice-aggregate-put-line put-line-requires returns same-length returns-2)
+    tie.close (tie.spec (λ c. search needs) put-line-requires returns (λ c. search needs) returns-2)

@@ -36,19 +36,10 @@ abbrev μ-loop : tie.MeasureT-loop
 loop-holds : tie.Need-loop-holds Inv-loop μ-loop
 loop-holds c = begin _ _ _
 
-shared-slice-read-put-column : tie.Need-shared-slice-read-put-column Inv-loop μ-loop
-shared-slice-read-put-column c = search needs
-
 put-column-requires : tie.Need-put-column-requires Inv-loop μ-loop
 put-column-requires c κs = let p = c .before .before .before in
     let s = p .before .before .before in
     room (columnLine (s .args .group) (p .loop .i) (getD (s .args .picture .now) (p .loop .i) 0)) _ (rest-is (p .loop .inv) (one-more (s .args .group) (s .args .picture .now) (p .loop .i) (c .before .before .loop-test .taken))) (s .pre)
-
-add-i : tie.Need-add-i Inv-loop μ-loop
-add-i c = search needs
-
-loop-less : tie.Need-loop-less Inv-loop μ-loop
-loop-less c = search needs
 
 loop-again : tie.Need-loop-again Inv-loop μ-loop
 loop-again c = let p = c .before .before .before .before .before .before in
@@ -68,10 +59,10 @@ put-columns-spec =
     Inv-loop
     μ-loop
     loop-holds
-    shared-slice-read-put-column
+    (λ c. search needs)
     put-column-requires
-    add-i
-    loop-less
+    (λ c. search needs)
+    (λ c. search needs)
     loop-again
     same-length
     returns)

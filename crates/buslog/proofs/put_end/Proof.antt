@@ -30,18 +30,6 @@ both-listed : (c : tie.After-put-group2) → let d = c .before .before .before .
 both-listed c = let d = c .before .before .before .before in
     rest-is (turn (zero-listed d) (c .put-group2 .ensures .0)) (ap₂ (λ (zero one : ℕ). line 71 (0 ∷ zero ∷ []) ++ line 71 (1 ∷ one ∷ [])) (sym (d .put-group .ensures .1)) (sym (c .put-group2 .ensures .1)))
 
-cast-zeros : tie.Need-cast-zeros
-cast-zeros c = search needs
-
-mul-zeros : tie.Need-mul-zeros
-mul-zeros c = search needs
-
-cast-ones : tie.Need-cast-ones
-cast-ones c = search needs
-
-mul-ones : tie.Need-mul-ones
-mul-ones c = search needs
-
 put-group-requires : tie.Need-put-group-requires
 put-group-requires c κs = let s = c .before .before .before .before .before in
     ((omega arith, refl, s .pre .0), room (columnLines 0 0 (picture s 0)) _ (begin (s .args .at) (text s) (s .args .out .now)) (s .pre .1))
@@ -50,20 +38,11 @@ put-group-requires-2 : tie.Need-put-group-requires-2
 put-group-requires-2 c κs = let s = c .before .before .before .before .before .before .before .before .before in
     ((omega arith, refl, s .pre .0), room (columnLines 1 0 (picture s 1)) _ (zero-listed (c .before .before .before)) (s .pre .1))
 
-slice-aggregate-put-line : tie.Need-slice-aggregate-put-line
-slice-aggregate-put-line c = search needs
-
 put-line-requires : tie.Need-put-line-requires
 put-line-requires c κs = room (line 71 (0 ∷ c .before .before .before .before .before .before .before .before .put-group .result .lit ∷ [])) _ (both-listed (c .before .before .before .before)) (c .before .before .before .before .before .before .before .before .before .before .before .before .before .before .pre .1)
 
-slice-aggregate-put-line-2 : tie.Need-slice-aggregate-put-line-2
-slice-aggregate-put-line-2 c = search needs
-
 put-line-requires-2 : tie.Need-put-line-requires-2
 put-line-requires-2 c κs = room-left _ (turn (both-listed (c .before .before .before .before .before .before .before .before .before)) (c .before .before .before .before .put-line .ensures)) (c .before .before .before .before .before .before .before .before .before .before .before .before .before .before .before .before .before .before .before .pre .1)
-
-same-length : tie.Need-same-length
-same-length c = search needs
 
 returns : tie.Need-returns
 returns c = last (turn (both-listed (c .before .before .before .before .before .before .before .before .before .before .before .before)) (c .before .before .before .before .before .before .before .put-line .ensures)) (c .before .before .put-line2 .ensures)
@@ -72,15 +51,15 @@ pub put-end-spec : {M : Type 1} → statement M
 put-end-spec =
     tie.close
     (tie.spec
-    cast-zeros
-    mul-zeros
-    cast-ones
-    mul-ones
+    (λ c. search needs)
+    (λ c. search needs)
+    (λ c. search needs)
+    (λ c. search needs)
     put-group-requires
     put-group-requires-2
-    slice-aggregate-put-line
+    (λ c. search needs)
     put-line-requires
-    slice-aggregate-put-line-2
+    (λ c. search needs)
     put-line-requires-2
-    same-length
+    (λ c. search needs)
     returns)

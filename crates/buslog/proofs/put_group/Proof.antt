@@ -55,20 +55,11 @@ told (Pictured.Refused r) = 0
 result : (c : tie.After-picture2) → let d = c .before .before in let a = d .before .before .before .args in c .picture2 .result ≡ Pictured.Lit (litIn (shownAt (a .chips) (state d) (a .group)))
 result c = c .picture2 .ensures .1 .0 ∙ ap (λ (k : Seen). k .result) (seen c)
 
-blank-picture-requires : tie.Need-blank-picture-requires
-blank-picture-requires c κs = search needs
-
 array-borrow-prefix-picture : tie.Need-array-borrow-prefix-picture
 array-borrow-prefix-picture c = small c
 
 slice-aggregate-picture : tie.Need-slice-aggregate-picture
 slice-aggregate-picture c = sym (lent (c .before))
-
-picture-requires : tie.Need-picture-requires
-picture-requires c κs = search needs
-
-enum-known-lit : tie.Need-enum-known-lit
-enum-known-lit c = search needs
 
 array-share-prefix-picture : tie.Need-array-share-prefix-picture
 array-share-prefix-picture c = enough (c .before .before .before .before .before)
@@ -85,9 +76,6 @@ put-columns-requires c κs = let d = c .before .before .before .before .before .
 enum-told : tie.Need-enum-told
 enum-told c = search needs
 
-same-length : tie.Need-same-length
-same-length c = search needs
-
 returns : tie.Need-returns
 returns c = let d = c .before .before .before .before .before .before .before .before .before in
     (rw (sym (held d)) (c .before .before .put-columns .ensures), omega (arith, ap told (sym (c .before .before .before .before .before .before .lit .given .1) ∙ result d)))
@@ -99,15 +87,15 @@ pub put-group-spec : {M : Type 1} → statement M
 put-group-spec =
     tie.close
     (tie.spec
-    blank-picture-requires
+    (λ c κs. search needs)
     array-borrow-prefix-picture
     slice-aggregate-picture
-    picture-requires
-    enum-known-lit
+    (λ c κs. search needs)
+    (λ c. search needs)
     array-share-prefix-picture
     slice-aggregate-put-columns
     put-columns-requires
     enum-told
-    same-length
+    (λ c. search needs)
     returns
     returns-2)

@@ -7,9 +7,6 @@ use borrow.Author.Needs.{needs}
 use Rattle.buslog.proofs.put_line.Statement.{statement}
 use Rattle.buslog.proofs.put_line.Tie as tie
 
-put-byte-requires : tie.Need-put-byte-requires
-put-byte-requires c κs = search needs
-
 put-numbers-requires : tie.Need-put-numbers-requires
 put-numbers-requires c κs = let s = c .before .before .before .before .before .before .before in
     let w = begin (s .args .at) (line (s .args .letter) (s .args .numbers .now)) (s .args .out .now) in
@@ -20,13 +17,10 @@ put-byte-requires-2 c κs = let s = c .before .before .before .before .before .b
     let w = begin (s .args .at) (line (s .args .letter) (s .args .numbers .now)) (s .args .out .now) in
     room-left (10 ∷ []) (turn (turn w (c .before .before .before .before .before .before .before .put-byte .ensures)) (c .before .before .before .put-numbers .ensures)) (s .pre)
 
-same-length : tie.Need-same-length
-same-length c = search needs
-
 returns : tie.Need-returns
 returns c = let s = c .before .before .before .before .before .before .before .before .before .before .before .before .before .before in
     let w = begin (s .args .at) (line (s .args .letter) (s .args .numbers .now)) (s .args .out .now) in
     last (turn (turn w (c .before .before .before .before .before .before .before .before .before .before .put-byte .ensures)) (c .before .before .before .before .before .before .put-numbers .ensures)) (c .before .before .put-byte2 .ensures)
 
 pub put-line-spec : {M : Type 1} → statement M
-put-line-spec = tie.close (tie.spec put-byte-requires put-numbers-requires put-byte-requires-2 same-length returns)
+put-line-spec = tie.close (tie.spec (λ c κs. search needs) put-numbers-requires put-byte-requires-2 (λ c. search needs) returns)

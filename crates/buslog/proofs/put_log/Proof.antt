@@ -39,24 +39,6 @@ small c = omega (arith, few c, ap length (c .blank-ram .ensures), length-replica
 lines : (c : tie.After-chips-of) → let s = c .before .before .before in textOf (s .args .log .now) ≡ logLines (c .chips-of .result) (recordsFrom 3 (s .args .log .now))
 lines c = let s = c .before .before .before in text-passed (s .args .log .now) (s .pre .0) ∙ ap (λ (n : Chips). logLines n (recordsFrom 3 (s .args .log .now))) (sym (c .chips-of .ensures))
 
-chips-of-requires : tie.Need-chips-of-requires
-chips-of-requires c κs = search needs
-
-blank-ram-requires : tie.Need-blank-ram-requires
-blank-ram-requires c κs = search needs
-
-cast-size : tie.Need-cast-size
-cast-size c = search needs
-
-cast-size-2 : tie.Need-cast-size-2
-cast-size-2 c = search needs
-
-add-size : tie.Need-add-size
-add-size c = search needs
-
-mul-size : tie.Need-mul-size
-mul-size c = search needs
-
 array-borrow-prefix-ram : tie.Need-array-borrow-prefix-ram
 array-borrow-prefix-ram c = small (c .before .before)
 
@@ -70,9 +52,6 @@ play-requires c κs = let s = c .before .before .before .before .before .before 
     let ram : take (160 * (n .zero + n .one)) (d .blank-ram .result) ≡ replicate (160 * (n .zero + n .one)) 0 = ap (take (160 * (n .zero + n .one))) (d .blank-ram .ensures) ∙ zeros (160 * (n .zero + n .one)) 1280 (few d) in
     ((chips (d .before), checked (s .args .log .now) (s .pre .0) .whole, ram), subst (λ (l : List ℕ). length l ≤ length (s .args .out .now)) (lines (d .before)) (s .pre .1))
 
-same-length : tie.Need-same-length
-same-length c = search needs
-
 returns : tie.Need-returns
 returns c = rw (lines (c .before .before .before .before .before .before .before .before .before)) (c .before .before .before .play .ensures)
 
@@ -80,14 +59,14 @@ pub put-log-spec : {M : Type 1} → statement M
 put-log-spec =
     tie.close
     (tie.spec
-    chips-of-requires
-    blank-ram-requires
-    cast-size
-    cast-size-2
-    add-size
-    mul-size
+    (λ c κs. search needs)
+    (λ c κs. search needs)
+    (λ c. search needs)
+    (λ c. search needs)
+    (λ c. search needs)
+    (λ c. search needs)
     array-borrow-prefix-ram
     slice-aggregate-play
     play-requires
-    same-length
+    (λ c. search needs)
     returns)

@@ -34,24 +34,12 @@ put-byte-requires c κs = let p = c .before .before in
     let s = p .before .before .before in
     room (32 ∷ []) _ (rest-is (p .loop .inv) (one-more (s .args .numbers .now) (p .loop .i) (c .before .loop-test .taken))) (s .pre)
 
-mul-put-number : tie.Need-mul-put-number Inv-loop μ-loop
-mul-put-number c = search needs
-
-shared-slice-read-put-number : tie.Need-shared-slice-read-put-number Inv-loop μ-loop
-shared-slice-read-put-number c = search needs
-
 put-number-requires : tie.Need-put-number-requires Inv-loop μ-loop
 put-number-requires c κs =
     let p = c .before .before .before .before .before .before .before in
     let s = p .before .before .before in
     let w = turn (rest-is (p .loop .inv) (one-more (s .args .numbers .now) (p .loop .i) (c .before .before .before .before .before .before .loop-test .taken))) (c .before .before .before .before .put-byte .ensures) in
     room (decimal (getD (s .args .numbers .now) (p .loop .i) 0)) _ w (s .pre)
-
-add-i : tie.Need-add-i Inv-loop μ-loop
-add-i c = search needs
-
-loop-less : tie.Need-loop-less Inv-loop μ-loop
-loop-less c = search needs
 
 loop-again : tie.Need-loop-again Inv-loop μ-loop
 loop-again c = let p = c .before .before .before .before .before .before .before .before .before .before in
@@ -72,11 +60,11 @@ put-numbers-spec =
     μ-loop
     loop-holds
     put-byte-requires
-    mul-put-number
-    shared-slice-read-put-number
+    (λ c. search needs)
+    (λ c. search needs)
     put-number-requires
-    add-i
-    loop-less
+    (λ c. search needs)
+    (λ c. search needs)
     loop-again
     same-length
     returns)

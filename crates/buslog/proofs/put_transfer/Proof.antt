@@ -14,40 +14,16 @@ use Rattle.buslog.proofs.put_transfer.Tie as tie
 refused : (c : tie.After-place-of) → (c .before .number-of .result ∷ c .place-of .result ∷ 0 ∷ 0 ∷ 0 ∷ []) ≡ numbers (c .before .before .before .before .before .before .before .args .answer)
 refused c = ap₂ (λ (n p : ℕ). n ∷ p ∷ 0 ∷ 0 ∷ 0 ∷ []) (c .before .number-of .ensures) (c .place-of .ensures) ∙ sym (ap numbers (c .before .before .before .before .answer2 .given .1))
 
-enum-known-answer : tie.Need-enum-known-answer
-enum-known-answer c = search needs
-
-slice-aggregate-put-line : tie.Need-slice-aggregate-put-line
-slice-aggregate-put-line c = search needs
-
 put-line-requires : tie.Need-put-line-requires
 put-line-requires c κs = let s = c .before .before .before .before .before .before in
     subst (λ (l : List ℕ). s .args .at + length (line 84 (s .args .index ∷ l)) ≤ length (s .args .out .now)) (ap numbers (c .before .before .before .answer .given .1)) (s .pre)
-
-enum-known-answer-2 : tie.Need-enum-known-answer-2
-enum-known-answer-2 c = search needs
-
-number-of-requires : tie.Need-number-of-requires
-number-of-requires c κs = search needs
-
-place-of-requires : tie.Need-place-of-requires
-place-of-requires c κs = search needs
-
-slice-aggregate-put-line-2 : tie.Need-slice-aggregate-put-line-2
-slice-aggregate-put-line-2 c = search needs
 
 put-line-requires-2 : tie.Need-put-line-requires-2
 put-line-requires-2 c κs = let s = c .before .before .before .before .before .before .before .before in
     subst (λ (l : List ℕ). s .args .at + length (line 84 (s .args .index ∷ l)) ≤ length (s .args .out .now)) (sym (refused (c .before))) (s .pre)
 
-same-length : tie.Need-same-length
-same-length c = search needs
-
 returns : tie.Need-returns
 returns c = rw (c .before .before .before .before .before .before .answer .given .1) (c .before .before .put-line .ensures)
-
-same-length-2 : tie.Need-same-length-2
-same-length-2 c = search needs
 
 returns-2 : tie.Need-returns-2
 returns-2 c = rw (sym (refused (c .before .before .before .before))) (c .before .before .put-line2 .ensures)
@@ -56,15 +32,15 @@ pub put-transfer-spec : {M : Type 1} → statement M
 put-transfer-spec =
     tie.close
     (tie.spec
-    enum-known-answer
-    slice-aggregate-put-line
+    (λ c. search needs)
+    (λ c. search needs)
     put-line-requires
-    enum-known-answer-2
-    number-of-requires
-    place-of-requires
-    slice-aggregate-put-line-2
+    (λ c. search needs)
+    (λ c κs. search needs)
+    (λ c κs. search needs)
+    (λ c. search needs)
     put-line-requires-2
-    same-length
+    (λ c. search needs)
     returns
-    same-length-2
+    (λ c. search needs)
     returns-2)

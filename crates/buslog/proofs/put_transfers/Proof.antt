@@ -59,26 +59,14 @@ ended c = let p = c .before .before in
 loop-holds : tie.Need-loop-holds Inv-loop μ-loop
 loop-holds c = record { writing = begin _ _ _; state = refl; whole = c .before .before .before .pre .0; few = omega arith; long = refl }
 
-read-requires : tie.Need-read-requires Inv-loop μ-loop
-read-requires c κs = search needs
-
-enum-known-start : tie.Need-enum-known-start Inv-loop μ-loop
-enum-known-start c = search needs
-
 add-end : tie.Need-add-end Inv-loop μ-loop
 add-end c = omega (arith, found (c .before) .inside)
 
 sub-transfer : tie.Need-sub-transfer Inv-loop μ-loop
 sub-transfer c = omega arith
 
-part-transfer-start : tie.Need-part-transfer-start Inv-loop μ-loop
-part-transfer-start c = search needs
-
 part-transfer-end : tie.Need-part-transfer-end Inv-loop μ-loop
 part-transfer-end c = omega (arith, found (c .before .before) .inside)
-
-transfer-requires : tie.Need-transfer-requires Inv-loop μ-loop
-transfer-requires c κs = search needs
 
 put-transfer-requires : tie.Need-put-transfer-requires Inv-loop μ-loop
 put-transfer-requires c κs = let p = c .before .before .before .before .before .before .before .before .before .before .before in
@@ -117,13 +105,13 @@ put-transfers-spec =
     Inv-loop
     μ-loop
     loop-holds
-    read-requires
-    enum-known-start
+    (λ c κs. search needs)
+    (λ c. search needs)
     add-end
     sub-transfer
-    part-transfer-start
+    (λ c. search needs)
     part-transfer-end
-    transfer-requires
+    (λ c κs. search needs)
     put-transfer-requires
     add-index
     loop-less

@@ -35,12 +35,6 @@ returns : tie.Need-returns
 unfolding replayCall
 returns c = rw (lt-ltb (length (c .before .before .before .args .out .now)) room (c .if1 .taken)) (refl, refl)
 
-check-log-requires : tie.Need-check-log-requires
-check-log-requires c κs = search needs
-
-enum-known-refusal : tie.Need-enum-known-refusal
-enum-known-refusal c = search needs
-
 put-refusal-requires : tie.Need-put-refusal-requires
 put-refusal-requires c κs = let a = c .before .before .before .before .before .before .before .before .args in
     let e = text-refused (a .log .now) _ (sym (c .before .before .before .before .check-log .ensures) ∙ c .before .before .refusal .given .1) in
@@ -54,15 +48,9 @@ put-log-requires c κs = let a = c .before .before .before .before .before .befo
     let enough : length (textOf (a .log .now)) ≤ length (a .out .now) = omega (arith, text-few (a .log .now), c .before .before .before .before .if1 .left) in
     (sym (c .before .before .before .check-log .ensures) ∙ c .before .enum-told .given .1, enough)
 
-same-length : tie.Need-same-length
-same-length c = search needs
-
 returns-2 : tie.Need-returns-2
 returns-2 c = let a = c .before .before .before .before .before .before .before .before .before .before .before .args in
     whole (a .log .now) (a .out .now) _ _ (c .before .before .before .before .before .before .before .before .if1 .left) (rw (text-refused (a .log .now) _ (sym (c .before .before .before .before .before .before .before .check-log .ensures) ∙ c .before .before .before .before .before .refusal .given .1)) (c .before .before .put-refusal .ensures))
-
-same-length-2 : tie.Need-same-length-2
-same-length-2 c = search needs
 
 returns-3 : tie.Need-returns-3
 returns-3 c = let a = c .before .before .before .before .before .before .before .before .before .before .args in
@@ -73,12 +61,12 @@ replay-spec =
     tie.close
     (tie.spec
     returns
-    check-log-requires
-    enum-known-refusal
+    (λ c κs. search needs)
+    (λ c. search needs)
     put-refusal-requires
     enum-told
     put-log-requires
-    same-length
+    (λ c. search needs)
     returns-2
-    same-length-2
+    (λ c. search needs)
     returns-3)

@@ -20,20 +20,11 @@ sizes c = let a = c .before .before .before .args in both-sized (length (now (a 
 chip-of-requires : tie.Need-chip-of-requires
 chip-of-requires c κs = sizes (c .before) .0
 
-power-on-requires : tie.Need-power-on-requires
-power-on-requires c κs = search needs
-
 put-chip-requires : tie.Need-put-chip-requires
 put-chip-requires c κs = sizes (c .before .before .before .before .before) .0
 
 put-check-requires : tie.Need-put-check-requires
 put-check-requires c κs = sizes (c .before .before .before .before .before .before .before .before .before) .1
-
-same-length : tie.Need-same-length
-same-length c = search needs
-
-same-length-2 : tie.Need-same-length-2
-same-length-2 c = search needs
 
 returns : tie.Need-returns
 unfolding chipPowerOnC
@@ -57,10 +48,10 @@ humtrellis-chip-power-on-spec =
     tie.close
     (tie.spec
     chip-of-requires
-    power-on-requires
+    (λ c κs. search needs)
     put-chip-requires
     put-check-requires
-    same-length
-    same-length-2
+    (λ c. search needs)
+    (λ c. search needs)
     returns
     returns-2)

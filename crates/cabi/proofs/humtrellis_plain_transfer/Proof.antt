@@ -22,18 +22,6 @@ plain-transfer-requires c κs = let t = sizes (c .before .before .before) in (t 
 put-refusal-requires : tie.Need-put-refusal-requires
 put-refusal-requires c κs = sizes (c .before .before) .1
 
-same-length : tie.Need-same-length
-same-length c = search needs
-
-same-length-2 : tie.Need-same-length-2
-same-length-2 c = search needs
-
-returns : tie.Need-returns
-returns c = search needs
-
-same-length-3 : tie.Need-same-length-3
-same-length-3 c = search needs
-
 returns-2 : tie.Need-returns-2
 returns-2 c = let a = c .before .before .before .before .before .before .before .before .before .args in
     let t = sizes (c .before .before .before .before .before) in
@@ -52,9 +40,9 @@ humtrellis-plain-transfer-spec =
     (tie.spec
     plain-transfer-requires
     put-refusal-requires
-    same-length
-    same-length-2
-    returns
-    same-length-3
+    (λ c. search needs)
+    (λ c. search needs)
+    (λ c. search needs)
+    (λ c. search needs)
     returns-2
     returns-3)

@@ -16,20 +16,11 @@ use Rattle.cabi.proofs.humtrellis_power_on.Tie as tie
 sizes : (c : tie.Then1) → let a = c .before .before .before .before .args in (length (now (a .registers)) ≡ 18) × (length (now (a .answer)) ≡ 5)
 sizes c = let a = c .before .before .before .before .args in both-sized (length (now (a .registers))) (length (now (a .answer))) 18 5 (c .if1 .taken)
 
-power-on-requires : tie.Need-power-on-requires
-power-on-requires c κs = search needs
-
 put-both-requires : tie.Need-put-both-requires
 put-both-requires c κs = sizes (c .before .before .before) .0
 
 put-check-requires : tie.Need-put-check-requires
 put-check-requires c κs = sizes (c .before .before .before .before .before .before .before) .1
-
-same-length : tie.Need-same-length
-same-length c = search needs
-
-same-length-2 : tie.Need-same-length-2
-same-length-2 c = search needs
 
 returns : tie.Need-returns
 unfolding powerOnC
@@ -50,10 +41,10 @@ pub humtrellis-power-on-spec : {M : Type 1} → statement M
 humtrellis-power-on-spec =
     tie.close
     (tie.spec
-    power-on-requires
+    (λ c κs. search needs)
     put-both-requires
     put-check-requires
-    same-length
-    same-length-2
+    (λ c. search needs)
+    (λ c. search needs)
     returns
     returns-2)

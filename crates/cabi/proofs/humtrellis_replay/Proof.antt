@@ -6,24 +6,12 @@ use borrow.Author.Needs.{needs}
 use Rattle.cabi.proofs.humtrellis_replay.Statement.{statement}
 use Rattle.cabi.proofs.humtrellis_replay.Tie as tie
 
-replay-requires : tie.Need-replay-requires
-replay-requires c κs = search needs
-
-enum-known-length : tie.Need-enum-known-length
-enum-known-length c = search needs
-
 enum-told : tie.Need-enum-told
 enum-told c = search needs
-
-same-length : tie.Need-same-length
-same-length c = search needs
 
 returns : tie.Need-returns
 returns c = let r = c .before .before .before .before .before .replay in
     (ap replayNumber (sym (c .before .length .given .1) ∙ r .ensures .1), r .ensures .0)
-
-same-length-2 : tie.Need-same-length-2
-same-length-2 c = search needs
 
 returns-2 : tie.Need-returns-2
 returns-2 c = let r = c .before .before .before .before .replay in
@@ -33,10 +21,10 @@ pub humtrellis-replay-spec : {M : Type 1} → statement M
 humtrellis-replay-spec =
     tie.close
     (tie.spec
-    replay-requires
-    enum-known-length
+    (λ c κs. search needs)
+    (λ c. search needs)
     enum-told
-    same-length
+    (λ c. search needs)
     returns
-    same-length-2
+    (λ c. search needs)
     returns-2)

@@ -21,23 +21,11 @@ sizes c = let a = c .before .before .before .before .before .args in both-sized 
 both-of-requires : tie.Need-both-of-requires
 both-of-requires c κs = sizes (c .before) .0
 
-transfer-requires : tie.Need-transfer-requires
-transfer-requires c κs = search needs
-
 put-both-requires : tie.Need-put-both-requires
 put-both-requires c κs = sizes (c .before .before .before .before .before .before .before .before) .0
 
 put-answer-requires : tie.Need-put-answer-requires
 put-answer-requires c κs = sizes (c .before .before .before .before .before .before .before .before .before .before .before .before) .1
-
-same-length : tie.Need-same-length
-same-length c = search needs
-
-same-length-2 : tie.Need-same-length-2
-same-length-2 c = search needs
-
-same-length-3 : tie.Need-same-length-3
-same-length-3 c = search needs
 
 returns : tie.Need-returns
 unfolding transferC
@@ -65,11 +53,11 @@ humtrellis-transfer-spec =
     tie.close
     (tie.spec
     both-of-requires
-    transfer-requires
+    (λ c κs. search needs)
     put-both-requires
     put-answer-requires
-    same-length
-    same-length-2
-    same-length-3
+    (λ c. search needs)
+    (λ c. search needs)
+    (λ c. search needs)
     returns
     returns-2)

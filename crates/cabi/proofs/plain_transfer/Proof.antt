@@ -25,30 +25,9 @@ bench c =
 bench-of-requires : tie.Need-bench-of-requires
 bench-of-requires c κs = search needs
 
-transfer-bench-requires : tie.Need-transfer-bench-requires
-transfer-bench-requires c κs = search needs
-
-enum-known-said : tie.Need-enum-known-said
-enum-known-said c = search needs
-
 put-bench-requires : tie.Need-put-bench-requires
 put-bench-requires c κs = let f = bench (c .before .before .before .before .before) in
     (bench-of-requires (c .before .before .before .before .before .before .before) (c .before .before .before .before .before .before .bench-of .lifetimes) .0 ∙ ap (λ (k : ℕ). 171 * k) (sym (f .count)), omega (arith, f .count, c .before .before .before .before .before .before .before .before .before .before .before .pre .1), f .size)
-
-put-numbers-requires : tie.Need-put-numbers-requires
-put-numbers-requires c κs = search needs
-
-enum-known-said-2 : tie.Need-enum-known-said-2
-enum-known-said-2 c = search needs
-
-put-refusal-requires : tie.Need-put-refusal-requires
-put-refusal-requires c κs = search needs
-
-same-length : tie.Need-same-length
-same-length c = search needs
-
-same-length-2 : tie.Need-same-length-2
-same-length-2 c = search needs
 
 returns : tie.Need-returns
 returns c = let a = c .before .before .before .before .before .before .before .before .before .before .before .before .before .before .before .before .before .before .args in
@@ -60,12 +39,6 @@ returns c = let a = c .before .before .before .before .before .before .before .b
         c .before .before .put-numbers .ensures .1 ∙ sym (ap (λ (k : PlainCalled). k .answer) after),
       ),
     )
-
-same-length-3 : tie.Need-same-length-3
-same-length-3 c = search needs
-
-same-length-4 : tie.Need-same-length-4
-same-length-4 c = search needs
 
 returns-2 : tie.Need-returns-2
 returns-2 c = let a = c .before .before .before .before .before .before .before .before .before .before .before .before .before .before .args in
@@ -80,15 +53,15 @@ plain-transfer-spec =
     tie.close
     (tie.spec
     bench-of-requires
-    transfer-bench-requires
-    enum-known-said
+    (λ c κs. search needs)
+    (λ c. search needs)
     put-bench-requires
-    put-numbers-requires
-    enum-known-said-2
-    put-refusal-requires
-    same-length
-    same-length-2
+    (λ c κs. search needs)
+    (λ c. search needs)
+    (λ c κs. search needs)
+    (λ c. search needs)
+    (λ c. search needs)
     returns
-    same-length-3
-    same-length-4
+    (λ c. search needs)
+    (λ c. search needs)
     returns-2)

@@ -5,12 +5,9 @@ use borrow.Author.Needs.{needs}
 use Rattle.checks.proofs.check_chips.Statement.{statement}
 use Rattle.checks.proofs.check_chips.Tie as tie
 
-unless-requires : tie.Need-unless-requires
-unless-requires c κs = search needs
-
 returns : tie.Need-returns
 unfolding checkChips
 returns c = c .unless .ensures
 
 pub check-chips-spec : {M : Type 1} → statement M
-check-chips-spec = tie.close (tie.spec unless-requires returns)
+check-chips-spec = tie.close (tie.spec (λ c κs. search needs) returns)

@@ -18,17 +18,8 @@ unfolding highestOf overIn
 none-over i [] h = refl
 none-over i (q ∷ qs) h = rw (le-ltb 15 q (omega arith)) (none-over (suc i) qs (omega arith))
 
-highest-requires : tie.Need-highest-requires
-highest-requires c κs = search needs
-
-search-over-requires : tie.Need-search-over-requires
-search-over-requires c κs = search needs
-
 returns : tie.Need-returns
 returns c = sym (none-over 0 (now (c .before .before .before .args .columns)) (omega (arith, c .before .highest .ensures, c .if1 .taken)))
 
-returns-2 : tie.Need-returns-2
-returns-2 c = search needs
-
 pub first-over-spec : {M : Type 1} → statement M
-first-over-spec = tie.close (tie.spec highest-requires search-over-requires returns returns-2)
+first-over-spec = tie.close (tie.spec (λ c κs. search needs) (λ c κs. search needs) returns (λ c. search needs))

@@ -28,18 +28,6 @@ abbrev μ-loop : tie.MeasureT-loop
 loop-holds : tie.Need-loop-holds Inv-loop μ-loop
 loop-holds c = omega arith
 
-shared-slice-read-higher : tie.Need-shared-slice-read-higher Inv-loop μ-loop
-shared-slice-read-higher c = search needs
-
-higher-requires : tie.Need-higher-requires Inv-loop μ-loop
-higher-requires c κs = search needs
-
-add-i : tie.Need-add-i Inv-loop μ-loop
-add-i c = search needs
-
-loop-less : tie.Need-loop-less Inv-loop μ-loop
-loop-less c = search needs
-
 loop-again : tie.Need-loop-again Inv-loop μ-loop
 loop-again c = let p = c .before .before .before in
     let l = p .before .before .args .columns .now in
@@ -57,9 +45,9 @@ highest-spec =
     Inv-loop
     μ-loop
     loop-holds
-    shared-slice-read-higher
-    higher-requires
-    add-i
-    loop-less
+    (λ c. search needs)
+    (λ c κs. search needs)
+    (λ c. search needs)
+    (λ c. search needs)
     loop-again
     returns)

@@ -25,20 +25,11 @@ mul-last c = omega (arith, range (c .before .before) .a-in)
 add-last : tie.Need-add-last
 add-last c = let h = range (c .before .before .before) in omega (arith, h .a-in, h .p-in)
 
-backplanes-requires : tie.Need-backplanes-requires
-backplanes-requires c κs = search needs
-
 div-last : tie.Need-div-last
 div-last c = rw (c .backplanes .ensures) (planes-pos _)
 
 add-last-2 : tie.Need-add-last-2
 add-last-2 c = let h = range (c .before .before .before .before) in omega (arith, h .a-in, h .p-in, div-le-self 7 (c .backplanes .result))
-
-least-requires : tie.Need-least-requires
-least-requires c κs = search needs
-
-cast-result : tie.Need-cast-result
-cast-result c = search needs
 
 returns : tie.Need-returns
 unfolding chipAcknowledges position atPosition
@@ -56,9 +47,9 @@ acknowledges-data-spec =
     (tie.spec
     mul-last
     add-last
-    backplanes-requires
+    (λ c κs. search needs)
     div-last
     add-last-2
-    least-requires
-    cast-result
+    (λ c κs. search needs)
+    (λ c. search needs)
     returns)

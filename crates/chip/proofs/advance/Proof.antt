@@ -7,18 +7,6 @@ use Rattle.sheet.specs.Places.{advanced}
 use Rattle.chip.proofs.advance.Statement.{statement}
 use Rattle.chip.proofs.advance.Tie as tie
 
-add-if1 : tie.Need-add-if1
-add-if1 c = search needs
-
-add-least : tie.Need-add-least
-add-least c = search needs
-
-least-requires : tie.Need-least-requires
-least-requires c κs = search needs
-
-add-registers : tie.Need-add-registers
-add-registers c = search needs
-
 returns : tie.Need-returns
 unfolding advanced
 returns c = let r = c .before .before .before .before .args .registers in
@@ -30,4 +18,4 @@ returns-2 c = rw (ne-eqb _ _ (c .before .if1 .left))
 
 pub advance-spec : {M : Type 1} → statement M
 advance-spec =
-    tie.close (tie.spec add-if1 add-least least-requires add-registers returns returns-2)
+    tie.close (tie.spec (λ c. search needs) (λ c. search needs) (λ c κs. search needs) (λ c. search needs) returns returns-2)

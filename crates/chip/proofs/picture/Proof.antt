@@ -23,12 +23,6 @@ passes c = sym (c .before .before .check-picture .ensures) ∙ c .enum-told .giv
 known : (c : tie.After-enum-told) → let a = c .before .before .before .before .args in (inRange 160 4 (a .chip .registers) ≡ true) × (length (a .out .now) ≡ 160)
 known c = picture-passes 160 4 _ _ _ (passes c)
 
-check-picture-requires : tie.Need-check-picture-requires
-check-picture-requires c κs = search needs
-
-enum-known-refusal : tie.Need-enum-known-refusal
-enum-known-refusal c = search needs
-
 enum-told : tie.Need-enum-told
 enum-told c = search needs
 
@@ -42,9 +36,6 @@ returns : tie.Need-returns
 unfolding chipPictureCall
 returns c = rw (sym (c .before .before .before .check-picture .ensures) ∙ c .before .refusal .given .1) (refl, (refl, refl))
 
-same-length : tie.Need-same-length
-same-length c = search needs
-
 returns-2 : tie.Need-returns-2
 unfolding chipPictureCall
 returns-2 c =
@@ -55,11 +46,11 @@ pub picture-spec : {M : Type 1} → statement M
 picture-spec =
     tie.close
     (tie.spec
-    check-picture-requires
-    enum-known-refusal
+    (λ c κs. search needs)
+    (λ c. search needs)
     enum-told
     slice-aggregate-show
     show-requires
     returns
-    same-length
+    (λ c. search needs)
     returns-2)

@@ -12,15 +12,6 @@ use Rattle.sheet.specs.Plain.{chipPowerOn}
 use Rattle.chip.proofs.power_on.Statement.{statement}
 use Rattle.chip.proofs.power_on.Tie as tie
 
-columns-fit-requires : tie.Need-columns-fit-requires
-columns-fit-requires c κs = search needs
-
-power-on-requires : tie.Need-power-on-requires
-power-on-requires c κs = search needs
-
-unless-requires : tie.Need-unless-requires
-unless-requires c κs = search needs
-
 returns : tie.Need-returns
 unfolding chipPowerOn
 returns c = let chip = c .before .before .before .before .before .before .args .chip in
@@ -28,4 +19,4 @@ returns c = let chip = c .before .before .before .before .before .before .args .
     (λ i. record { check = e i; chip = withRegisters (c .before .power-on .ensures i) chip }, ap checkNumbers e)
 
 pub power-on-spec : {M : Type 1} → statement M
-power-on-spec = tie.close (tie.spec columns-fit-requires power-on-requires unless-requires returns)
+power-on-spec = tie.close (tie.spec (λ c κs. search needs) (λ c κs. search needs) (λ c κs. search needs) returns)

@@ -11,15 +11,9 @@ use Rattle.chip.proofs.put_row.Tie as tie
 returns : tie.Need-returns
 returns c = rw (le-ltb (c .before .args .k) 8 (c .if1 .taken))
 
-bit-of-requires : tie.Need-bit-of-requires
-bit-of-requires c κs = search needs
-
-with-row-requires : tie.Need-with-row-requires
-with-row-requires c κs = search needs
-
 returns-2 : tie.Need-returns-2
 returns-2 c = let a = c .before .before .before .args in
     rw (lt-ltb (a .k) 8 (c .before .before .if1 .left)) (c .with-row .ensures ∙ ap (λ (t : ℕ). withRow (a .row) t (a .column)) (c .before .bit-of .ensures))
 
 pub put-row-spec : {M : Type 1} → statement M
-put-row-spec = tie.close (tie.spec returns bit-of-requires with-row-requires returns-2)
+put-row-spec = tie.close (tie.spec returns (λ c κs. search needs) (λ c κs. search needs) returns-2)

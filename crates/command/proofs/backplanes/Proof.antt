@@ -6,9 +6,6 @@ use borrow.Author.Needs.{needs}
 use Rattle.command.proofs.backplanes.Statement.{statement}
 use Rattle.command.proofs.backplanes.Tie as tie
 
-cast-result : tie.Need-cast-result
-cast-result c = search needs
-
 returns : tie.Need-returns
 unfolding backplanes
 returns c = rw (eq-eqb _ _ (c .if1 .taken))
@@ -18,4 +15,4 @@ unfolding backplanes
 returns-2 c = rw (ne-eqb _ _ (c .before .if1 .left))
 
 pub backplanes-spec : {M : Type 1} → statement M
-backplanes-spec = tie.close (tie.spec cast-result returns returns-2)
+backplanes-spec = tie.close (tie.spec (λ c. search needs) returns returns-2)

@@ -6,9 +6,6 @@ use borrow.Author.Needs.{needs}
 use Rattle.command.proofs.bank_row.Statement.{statement}
 use Rattle.command.proofs.bank_row.Tie as tie
 
-mul-result : tie.Need-mul-result
-mul-result c = search needs
-
 returns : tie.Need-returns
 unfolding bankRow
 returns c = rw (lt-ltb _ _ (c .if1 .taken))
@@ -18,4 +15,4 @@ unfolding bankRow
 returns-2 c = rw (le-ltb _ _ (c .if1 .left))
 
 pub bank-row-spec : {M : Type 1} → statement M
-bank-row-spec = tie.close (tie.spec mul-result returns returns-2)
+bank-row-spec = tie.close (tie.spec (λ c. search needs) returns returns-2)

@@ -7,9 +7,6 @@ use borrow.Author.Needs.{needs}
 use Rattle.command.proofs.is_defined.Statement.{statement}
 use Rattle.command.proofs.is_defined.Tie as tie
 
-decode-requires : tie.Need-decode-requires
-decode-requires c κs = search needs
-
 enum-told : tie.Need-enum-told
 enum-told c = search needs
 
@@ -20,4 +17,4 @@ returns-2 : tie.Need-returns-2
 returns-2 c = none-else (c .before .decode .result) (c .match .keys2) ∙ ap defined (c .before .decode .ensures)
 
 pub is-defined-spec : {M : Type 1} → statement M
-is-defined-spec = tie.close (tie.spec decode-requires enum-told returns returns-2)
+is-defined-spec = tie.close (tie.spec (λ c κs. search needs) enum-told returns returns-2)

@@ -9,20 +9,8 @@ use borrow.Author.Needs.{needs}
 use Rattle.long.proofs.check_commands.Statement.{statement}
 use Rattle.long.proofs.check_commands.Tie as tie
 
-byte-at-requires : tie.Need-byte-at-requires
-byte-at-requires c κs = search needs
-
-heard-by-requires : tie.Need-heard-by-requires
-heard-by-requires c κs = search needs
-
 enum-told : tie.Need-enum-told
 enum-told c = search needs
-
-first-undefined-requires : tie.Need-first-undefined-requires
-first-undefined-requires c κs = search needs
-
-enum-told-2 : tie.Need-enum-told-2
-enum-told-2 c = search needs
 
 returns : tie.Need-returns
 returns c = let a = c .before .before .before .before .before .before .args in
@@ -38,10 +26,10 @@ pub check-commands-spec : {M : Type 1} → statement M
 check-commands-spec =
     tie.close
     (tie.spec
-    byte-at-requires
-    heard-by-requires
+    (λ c κs. search needs)
+    (λ c κs. search needs)
     enum-told
-    first-undefined-requires
-    enum-told-2
+    (λ c κs. search needs)
+    (λ c. search needs)
     returns
     returns-2)

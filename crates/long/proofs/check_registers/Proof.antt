@@ -8,19 +8,10 @@ use borrow.Author.Needs.{needs}
 use Rattle.long.proofs.check_registers.Statement.{statement}
 use Rattle.long.proofs.check_registers.Tie as tie
 
-in-range-requires : tie.Need-in-range-requires
-in-range-requires c κs = search needs
-
-in-range-requires-2 : tie.Need-in-range-requires-2
-in-range-requires-2 c κs = search needs
-
-unless-requires : tie.Need-unless-requires
-unless-requires c κs = search needs
-
 returns : tie.Need-returns
 unfolding checkRegisters
 returns c = c .unless .ensures ∙ ap₂ (λ (s t : Bool). unless (s && t) Register) (c .before .before .in-range .ensures) (c .before .in-range2 .ensures)
 
 pub check-registers-spec : {M : Type 1} → statement M
 check-registers-spec =
-    tie.close (tie.spec in-range-requires in-range-requires-2 unless-requires returns)
+    tie.close (tie.spec (λ c κs. search needs) (λ c κs. search needs) (λ c κs. search needs) returns)

@@ -17,21 +17,6 @@ use borrow.Author.Needs.{needs}
 use Rattle.long.proofs.deliver.Statement.{statement}
 use Rattle.long.proofs.deliver.Tie as tie
 
-start-of-requires : tie.Need-start-of-requires
-start-of-requires c κs = search needs
-
-end-of-requires : tie.Need-end-of-requires
-end-of-requires c κs = search needs
-
-registers-of-requires : tie.Need-registers-of-requires
-registers-of-requires c κs = search needs
-
-sub-hear : tie.Need-sub-hear
-sub-hear c = search needs
-
-part-hear-start : tie.Need-part-hear-start
-part-hear-start c = search needs
-
 part-hear-end : tie.Need-part-hear-end
 part-hear-end c = let s = c .before .before .before .before .before in
     let a = s .args in
@@ -43,12 +28,6 @@ hear-requires c κs = let s = c .before .before .before .before .before .before 
     let f = fits-of 160 4 (a .chips) (a .registers) (now (a .ram)) (s .pre .0) in
     let part = part-taken (a .chips) (a .registers) (now (a .ram)) (a .group) f (c .before .before .before .start-of .result) (c .before .before .end-of .result) (c .before .before .before .start-of .ensures) (c .before .before .end-of .ensures) in
     (rw (c .before .registers-of .ensures) (in-range 160 4 _ (part-in (a .chips) (a .registers) (now (a .ram)) (a .group) f)), omega (arith, ap length part, part-long (a .chips) (a .registers) (now (a .ram)) (a .group) f, part-few (a .chips) (a .registers) (now (a .ram)) (a .group) f), s .pre .1, s .pre .2, ap (overIn 0) part ∙ part-passes (a .chips) (a .registers) (now (a .ram)) (a .group) f)
-
-replaced-requires : tie.Need-replaced-requires
-replaced-requires c κs = search needs
-
-same-length : tie.Need-same-length
-same-length c = search needs
 
 returns : tie.Need-returns
 returns c = let s = c .before .before .before .before .before .before .before .before .before .before .before .before in
@@ -69,13 +48,13 @@ pub deliver-spec : {M : Type 1} → statement M
 deliver-spec =
     tie.close
     (tie.spec
-    start-of-requires
-    end-of-requires
-    registers-of-requires
-    sub-hear
-    part-hear-start
+    (λ c κs. search needs)
+    (λ c κs. search needs)
+    (λ c κs. search needs)
+    (λ c. search needs)
+    (λ c. search needs)
     part-hear-end
     hear-requires
-    replaced-requires
-    same-length
+    (λ c κs. search needs)
+    (λ c. search needs)
     returns)

@@ -6,25 +6,10 @@ use borrow.Author.Needs.{needs}
 use Rattle.long.proofs.end_of.Statement.{statement}
 use Rattle.long.proofs.end_of.Tie as tie
 
-start-of-requires : tie.Need-start-of-requires
-start-of-requires c κs = search needs
-
-chips-in-requires : tie.Need-chips-in-requires
-chips-in-requires c κs = search needs
-
-cast-result : tie.Need-cast-result
-cast-result c = search needs
-
-mul-result : tie.Need-mul-result
-mul-result c = search needs
-
 add-result : tie.Need-add-result
 add-result c = omega (arith, c .before .start-of .ensures, start-few (c .before .before .args .chips) (c .before .before .args .group), c .chips-in .ensures, chips-few (c .before .before .args .chips) (c .before .before .args .group), c .before .before .good)
-
-returns : tie.Need-returns
-returns c = search needs
 
 pub end-of-spec : {M : Type 1} → statement M
 end-of-spec =
     tie.close
-    (tie.spec start-of-requires chips-in-requires cast-result mul-result add-result returns)
+    (tie.spec (λ c κs. search needs) (λ c κs. search needs) (λ c. search needs) (λ c. search needs) add-result (λ c. search needs))

@@ -35,29 +35,8 @@ sized c = let a = c .before .before .before .before .before .args in picture-pas
 part : (c : tie.After-end-of) → let a = c .before .before .before .before .before .before .before .args in take (c .end-of .result - c .before .start-of .result) (drop (c .before .start-of .result) (now (a .ram))) ≡ partOf 160 (a .chips) (a .group) (now (a .ram))
 part c = let a = c .before .before .before .before .before .before .before .args in part-taken (a .chips) (a .registers) (now (a .ram)) (a .group) (fitting (c .before .before)) (c .before .start-of .result) (c .end-of .result) (c .before .start-of .ensures) (c .end-of .ensures)
 
-check-picture-requires : tie.Need-check-picture-requires
-check-picture-requires c κs = search needs
-
-enum-known-refusal : tie.Need-enum-known-refusal
-enum-known-refusal c = search needs
-
 enum-told : tie.Need-enum-told
 enum-told c = search needs
-
-start-of-requires : tie.Need-start-of-requires
-start-of-requires c κs = search needs
-
-end-of-requires : tie.Need-end-of-requires
-end-of-requires c κs = search needs
-
-registers-of-requires : tie.Need-registers-of-requires
-registers-of-requires c κs = search needs
-
-sub-show : tie.Need-sub-show
-sub-show c = search needs
-
-part-show-start : tie.Need-part-show-start
-part-show-start c = search needs
 
 part-show-end : tie.Need-part-show-end
 part-show-end c = let a = c .before .before .before .before .before .before .before .before .args in
@@ -73,9 +52,6 @@ returns : tie.Need-returns
 unfolding pictureCall
 returns c = rw (sym (c .before .before .before .check-picture .ensures) ∙ c .before .refusal .given .1) (refl, (refl, refl))
 
-same-length : tie.Need-same-length
-same-length c = search needs
-
 returns-2 : tie.Need-returns-2
 unfolding pictureCall
 returns-2 c = let a = c .before .before .before .before .before .before .before .before .before .before .before .before .before .args in
@@ -87,16 +63,16 @@ pub picture-spec : {M : Type 1} → statement M
 picture-spec =
     tie.close
     (tie.spec
-    check-picture-requires
-    enum-known-refusal
+    (λ c κs. search needs)
+    (λ c. search needs)
     enum-told
-    start-of-requires
-    end-of-requires
-    registers-of-requires
-    sub-show
-    part-show-start
+    (λ c κs. search needs)
+    (λ c κs. search needs)
+    (λ c κs. search needs)
+    (λ c. search needs)
+    (λ c. search needs)
     part-show-end
     show-requires
     returns
-    same-length
+    (λ c. search needs)
     returns-2)

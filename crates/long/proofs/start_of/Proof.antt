@@ -5,12 +5,6 @@ use borrow.Author.Needs.{needs}
 use Rattle.long.proofs.start_of.Statement.{statement}
 use Rattle.long.proofs.start_of.Tie as tie
 
-cast-result : tie.Need-cast-result
-cast-result c = search needs
-
-mul-result : tie.Need-mul-result
-mul-result c = search needs
-
 returns : tie.Need-returns
 returns c = rw (eq-eqb _ _ (c .if1 .taken))
 
@@ -18,4 +12,4 @@ returns-2 : tie.Need-returns-2
 returns-2 c = rw (ne-eqb _ _ (c .before .if1 .left))
 
 pub start-of-spec : {M : Type 1} → statement M
-start-of-spec = tie.close (tie.spec cast-result mul-result returns returns-2)
+start-of-spec = tie.close (tie.spec (λ c. search needs) (λ c. search needs) returns returns-2)

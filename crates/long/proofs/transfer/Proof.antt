@@ -20,37 +20,13 @@ use Rattle.long.proofs.transfer.Tie as tie
 numbered : {ram after : List ℕ} {r t : Transferred} → ram ≡ after → r ≡ t → (ram ≡ after) × ((r ≡ t) × (numbers (r .answer) ≡ numbers (t .answer)))
 numbered e f = (e, (f, ap (λ (k : Transferred). numbers (k .answer)) f))
 
-check-transfer-requires : tie.Need-check-transfer-requires
-check-transfer-requires c κs = search needs
-
-enum-known-refusal : tie.Need-enum-known-refusal
-enum-known-refusal c = search needs
-
 enum-told : tie.Need-enum-told
 enum-told c = search needs
-
-byte-at-requires : tie.Need-byte-at-requires
-byte-at-requires c κs = search needs
-
-heard-by-requires : tie.Need-heard-by-requires
-heard-by-requires c κs = search needs
-
-enum-known-group : tie.Need-enum-known-group
-enum-known-group c = search needs
 
 deliver-requires : tie.Need-deliver-requires
 deliver-requires c κs = let a = c .before .before .before .before .before .before .before .before .before .before .before .before .args in
     let p = transfer-passed (a .chips) (a .registers) (now (a .ram)) (now (a .bytes)) (sym (c .before .before .before .before .before .before .before .before .check-transfer .ensures) ∙ c .before .before .before .before .before .before .enum-told .given .1) in
     (p .0, p .1 .0, p .1 .1)
-
-enum-told-2 : tie.Need-enum-told-2
-enum-told-2 c = search needs
-
-unheard-requires : tie.Need-unheard-requires
-unheard-requires c κs = search needs
-
-same-length : tie.Need-same-length
-same-length c = search needs
 
 returns : tie.Need-returns
 unfolding transferCall
@@ -58,9 +34,6 @@ returns c = let a = c .before .before .before .before .before .before .before .a
     let told = sym (c .before .before .before .check-transfer .ensures) ∙ c .before .refusal .given .1 in
     let e = ap (λ (k : Check). answered k (a .registers) (now (a .ram)) (taken 160 4 (a .chips) (a .registers) (now (a .ram)) (now (a .bytes)) (heardBy (a .chips) (getD (now (a .bytes)) 0 0)))) told in
     numbered (sym (ap (λ (t : After). t .ram) e)) (sym (ap (λ (t : After). t .result) e))
-
-same-length-2 : tie.Need-same-length-2
-same-length-2 c = search needs
 
 returns-2 : tie.Need-returns-2
 unfolding transferCall
@@ -70,9 +43,6 @@ returns-2 c = let a = c .before .before .before .before .before .before .before 
     let e = ap (λ (k : Check). answered k (a .registers) (now (a .ram)) (taken 160 4 (a .chips) (a .registers) (now (a .ram)) (now (a .bytes)) (heardBy (a .chips) (getD (now (a .bytes)) 0 0)))) told
     ∙ ap (λ (k : Addressed). taken 160 4 (a .chips) (a .registers) (now (a .ram)) (now (a .bytes)) k) heard in
     numbered (c .before .before .deliver .ensures .0 ∙ sym (ap (λ (t : After). t .ram) e)) (c .before .before .deliver .ensures .1 ∙ sym (ap (λ (t : After). t .result) e))
-
-same-length-3 : tie.Need-same-length-3
-same-length-3 c = search needs
 
 returns-3 : tie.Need-returns-3
 unfolding transferCall
@@ -87,18 +57,18 @@ pub transfer-spec : {M : Type 1} → statement M
 transfer-spec =
     tie.close
     (tie.spec
-    check-transfer-requires
-    enum-known-refusal
+    (λ c κs. search needs)
+    (λ c. search needs)
     enum-told
-    byte-at-requires
-    heard-by-requires
-    enum-known-group
+    (λ c κs. search needs)
+    (λ c κs. search needs)
+    (λ c. search needs)
     deliver-requires
-    enum-told-2
-    unheard-requires
-    same-length
+    (λ c. search needs)
+    (λ c κs. search needs)
+    (λ c. search needs)
     returns
-    same-length-2
+    (λ c. search needs)
     returns-2
-    same-length-3
+    (λ c. search needs)
     returns-3)

@@ -11,8 +11,5 @@ returns c = rw (c .before .if1 .taken) (omega arith)
 returns-2 : tie.Need-returns-2
 returns-2 c = rw (c .before .if1 .taken) (omega arith)
 
-returns-3 : tie.Need-returns-3
-returns-3 c = search needs
-
 pub bank-shown-spec : {M : Type 1} → statement M
-bank-shown-spec = tie.close (tie.spec returns returns-2 returns-3)
+bank-shown-spec = tie.close (tie.spec returns returns-2 (λ c. search needs))

@@ -38,17 +38,11 @@ abbrev μ-loop : tie.MeasureT-loop
 loop-holds : tie.Need-loop-holds Inv-loop μ-loop
 loop-holds c = record { small = omega arith; rest = zero-add _ }
 
-shared-slice-read-total : tie.Need-shared-slice-read-total Inv-loop μ-loop
-shared-slice-read-total c = search needs
-
 cast-total : tie.Need-cast-total Inv-loop μ-loop
 cast-total c = omega (arith, ones-le 8 _ (c .shared-slice-known .given (c .before .before .loop .i) .fits))
 
 add-total : tie.Need-add-total Inv-loop μ-loop
 add-total c = omega (arith, ones-le 8 _ (c .shared-slice-known .given (c .before .before .loop .i) .fits), c .before .before .loop .inv .small, c .before .before .before .pre)
-
-add-i : tie.Need-add-i Inv-loop μ-loop
-add-i c = search needs
 
 loop-less : tie.Need-loop-less Inv-loop μ-loop
 loop-less c = omega arith
@@ -67,10 +61,10 @@ count-spec =
     Inv-loop
     μ-loop
     loop-holds
-    shared-slice-read-total
+    (λ c. search needs)
     cast-total
     add-total
-    add-i
+    (λ c. search needs)
     loop-less
     loop-again
     returns)

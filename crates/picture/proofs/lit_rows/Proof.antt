@@ -13,18 +13,6 @@ use Rattle.picture.proofs.lit_rows.Tie as tie
 kept : (k : ℕ) → k < 8 → (1 * 2 ^ k) % 256 ≡ 2 ^ k
 kept k h = rw (shl-exact {a = 1} 1 k 8 (omega arith) (omega arith)) (omega arith)
 
-cast-result : tie.Need-cast-result
-cast-result c = search needs
-
-shr-result : tie.Need-shr-result
-shr-result c = search needs
-
-cast-result-2 : tie.Need-cast-result-2
-cast-result-2 c = search needs
-
-shl-result : tie.Need-shl-result
-shl-result c = search needs
-
 sub-result : tie.Need-sub-result
 sub-result c = rw (kept (c .args .height) (c .pre .1)) (pow-pos (c .args .height))
 
@@ -33,4 +21,4 @@ returns c = rw (kept (c .args .height) (c .pre .1)) (and-mask _ (c .args .height
 
 pub lit-rows-spec : {M : Type 1} → statement M
 lit-rows-spec =
-    tie.close (tie.spec cast-result shr-result cast-result-2 shl-result sub-result returns)
+    tie.close (tie.spec (λ c. search needs) (λ c. search needs) (λ c. search needs) (λ c. search needs) sub-result returns)

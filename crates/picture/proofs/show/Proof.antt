@@ -6,17 +6,8 @@ use borrow.Author.Needs.{needs}
 use Rattle.picture.proofs.show.Statement.{statement}
 use Rattle.picture.proofs.show.Tie as tie
 
-write-requires : tie.Need-write-requires
-write-requires c κs = search needs
-
-count-requires : tie.Need-count-requires
-count-requires c κs = search needs
-
-same-length : tie.Need-same-length
-same-length c = search needs
-
 returns : tie.Need-returns
 returns c = (c .before .before .before .before .write .ensures, (c .count .ensures ∙ ap litIn (c .before .before .before .before .write .ensures)))
 
 pub show-spec : {M : Type 1} → statement M
-show-spec = tie.close (tie.spec write-requires count-requires same-length returns)
+show-spec = tie.close (tie.spec (λ c κs. search needs) (λ c κs. search needs) (λ c. search needs) returns)

@@ -9,15 +9,6 @@ returns : tie.Need-returns
 unfolding shown
 returns c = rw (c .if1 .taken)
 
-backplanes-requires : tie.Need-backplanes-requires
-backplanes-requires c κs = search needs
-
-bank-shown-requires : tie.Need-bank-shown-requires
-bank-shown-requires c κs = search needs
-
-bank-row-requires : tie.Need-bank-row-requires
-bank-row-requires c κs = search needs
-
 returns-2 : tie.Need-returns-2
 unfolding shown
 returns-2 c = rw (c .before .before .before .if1 .left, c .bank-row .ensures, c .before .before .backplanes .ensures, c .before .bank-shown .ensures)
@@ -25,4 +16,4 @@ returns-2 c = rw (c .before .before .before .if1 .left, c .bank-row .ensures, c 
 pub shown-spec : {M : Type 1} → statement M
 shown-spec =
     tie.close
-    (tie.spec returns backplanes-requires bank-shown-requires bank-row-requires returns-2)
+    (tie.spec returns (λ c κs. search needs) (λ c κs. search needs) (λ c κs. search needs) returns-2)

@@ -8,32 +8,14 @@ use borrow.Author.Needs.{needs}
 use Rattle.picture.proofs.write.Statement.{statement}
 use Rattle.picture.proofs.write.Tie as tie
 
-shown-requires : tie.Need-shown-requires
-shown-requires c κs = search needs
-
 enum-told : tie.Need-enum-told
 enum-told c = search needs
-
-write-rows-requires : tie.Need-write-rows-requires
-write-rows-requires c κs = search needs
-
-enum-known-first : tie.Need-enum-known-first
-enum-known-first c = search needs
-
-backplanes-requires : tie.Need-backplanes-requires
-backplanes-requires c κs = search needs
 
 write-rows-requires-2 : tie.Need-write-rows-requires-2
 write-rows-requires-2 c κs = let h = rows-in _ _ _ (c .before .before .before .before .before .before .before .before .pre .1) (sym (c .before .before .before .before .before .shown .ensures) ∙ c .before .before .before .first .given .1) in omega (arith, c .before .backplanes .ensures, c .before .before .before .before .before .before .before .before .pre .0)
 
-same-length : tie.Need-same-length
-same-length c = search needs
-
 returns : tie.Need-returns
 returns c = c .before .before .write-rows .ensures ∙ dark-picture _ _ _ (sym (c .before .before .before .before .before .before .shown .ensures) ∙ c .before .before .before .before .enum-told .given .1)
-
-same-length-2 : tie.Need-same-length-2
-same-length-2 c = search needs
 
 returns-2 : tie.Need-returns-2
 unfolding pictureOf
@@ -43,13 +25,13 @@ pub write-spec : {M : Type 1} → statement M
 write-spec =
     tie.close
     (tie.spec
-    shown-requires
+    (λ c κs. search needs)
     enum-told
-    write-rows-requires
-    enum-known-first
-    backplanes-requires
+    (λ c κs. search needs)
+    (λ c. search needs)
+    (λ c κs. search needs)
     write-rows-requires-2
-    same-length
+    (λ c. search needs)
     returns
-    same-length-2
+    (λ c. search needs)
     returns-2)

@@ -20,17 +20,8 @@ abbrev μ-loop : tie.MeasureT-loop
 loop-holds : tie.Need-loop-holds Inv-loop μ-loop
 loop-holds c = record { size = c .before .before .pre .0; so-far = refl }
 
-shared-slice-read-lit-rows : tie.Need-shared-slice-read-lit-rows Inv-loop μ-loop
-shared-slice-read-lit-rows c = search needs
-
-lit-rows-requires : tie.Need-lit-rows-requires Inv-loop μ-loop
-lit-rows-requires c κs = search needs
-
 slice-write-out : tie.Need-slice-write-out Inv-loop μ-loop
 slice-write-out c = omega (arith, c .before .before .before .loop .inv .size)
-
-add-i : tie.Need-add-i Inv-loop μ-loop
-add-i c = search needs
 
 loop-less : tie.Need-loop-less Inv-loop μ-loop
 loop-less c = omega arith
@@ -51,10 +42,10 @@ write-rows-spec =
     Inv-loop
     μ-loop
     loop-holds
-    shared-slice-read-lit-rows
-    lit-rows-requires
+    (λ c. search needs)
+    (λ c κs. search needs)
     slice-write-out
-    add-i
+    (λ c. search needs)
     loop-less
     loop-again
     same-length

@@ -10,9 +10,6 @@ use Rattle.plain.proofs.answer.Tie as tie
 enum-told : tie.Need-enum-told
 enum-told c = search needs
 
-enum-known-check : tie.Need-enum-known-check
-enum-known-check c = search needs
-
 returns : tie.Need-returns
 returns c = sym (ap (λ (k : Check). answerOf k (c .before .before .args .acknowledged)) (c .enum-told .given .1))
 
@@ -20,4 +17,4 @@ returns-2 : tie.Need-returns-2
 returns-2 c = sym (ap (λ (k : Check). answerOf k (c .before .before .before .args .acknowledged)) (c .before .check .given .1))
 
 pub answer-spec : {M : Type 1} → statement M
-answer-spec = tie.close (tie.spec enum-told enum-known-check returns returns-2)
+answer-spec = tie.close (tie.spec enum-told (λ c. search needs) returns returns-2)

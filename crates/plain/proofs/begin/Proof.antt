@@ -15,18 +15,6 @@ use Rattle.plain.specs.Starts.{checkOf, turnAt, startOf}
 use Rattle.plain.proofs.begin.Statement.{statement}
 use Rattle.plain.proofs.begin.Tie as tie
 
-check-transfer-requires : tie.Need-check-transfer-requires
-check-transfer-requires c κs = search needs
-
-passes-requires : tie.Need-passes-requires
-passes-requires c κs = search needs
-
-turn-at-requires : tie.Need-turn-at-requires
-turn-at-requires c κs = search needs
-
-turn-at-requires-2 : tie.Need-turn-at-requires-2
-turn-at-requires-2 c κs = search needs
-
 -- the check and its test have been made, and the test has come out as b
 started : (bytes : List ℕ) (count misfit hearer : ℕ) (check : Check) (p b : Bool) (t : Turn) → check ≡ checkOf bytes count misfit hearer → p ≡ passed check → (p && ltb hearer count) ≡ b
     → t ≡ cond b (turnAt bytes 1 1) (turnAt bytes (length bytes) 0) → record { check = check; turn = t } ≡ startOf bytes count misfit hearer
@@ -47,9 +35,9 @@ pub begin-spec : {M : Type 1} → statement M
 begin-spec =
     tie.close
     (tie.spec
-    check-transfer-requires
-    passes-requires
-    turn-at-requires
-    turn-at-requires-2
+    (λ c κs. search needs)
+    (λ c κs. search needs)
+    (λ c κs. search needs)
+    (λ c κs. search needs)
     returns
     returns-2)

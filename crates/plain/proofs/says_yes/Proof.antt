@@ -11,21 +11,6 @@ use Rattle.plain.proofs.says_yes.Tie as tie
 enum-told : tie.Need-enum-told
 enum-told c = search needs
 
-fits-requires : tie.Need-fits-requires
-fits-requires c κs = search needs
-
-enum-known-question : tie.Need-enum-known-question
-enum-known-question c = search needs
-
-hears-requires : tie.Need-hears-requires
-hears-requires c κs = search needs
-
-enum-known-question-2 : tie.Need-enum-known-question-2
-enum-known-question-2 c = search needs
-
-acknowledges-requires : tie.Need-acknowledges-requires
-acknowledges-requires c κs = search needs
-
 returns : tie.Need-returns
 returns c = ap not (c .fits2 .ensures) ∙ sym (ap (λ (q : Question). yes q (c .before .before .before .args .chip)) (c .before .enum-told .given .1))
 
@@ -40,11 +25,11 @@ says-yes-spec =
     tie.close
     (tie.spec
     enum-told
-    fits-requires
-    enum-known-question
-    hears-requires
-    enum-known-question-2
-    acknowledges-requires
+    (λ c κs. search needs)
+    (λ c. search needs)
+    (λ c κs. search needs)
+    (λ c. search needs)
+    (λ c κs. search needs)
     returns
     returns-2
     returns-3)

@@ -8,9 +8,6 @@ use Rattle.plain.specs.declared.BenchTransferred.{BenchTransferred}
 use Rattle.plain.proofs.transfer_bench.Statement.{statement}
 use Rattle.plain.proofs.transfer_bench.Tie as tie
 
-transfer-first-requires : tie.Need-transfer-first-requires
-transfer-first-requires c κs = search needs
-
 returns : tie.Need-returns
 returns c = rw (le-leb (c .before .before .before .before .args .bench .count) 8 (c .before .if1 .taken)) (c .transfer-first .ensures, ap (λ (t : BenchTransferred). plainNumbers (t .answer)) (c .transfer-first .ensures))
 
@@ -18,4 +15,4 @@ returns-2 : tie.Need-returns-2
 returns-2 c = rw (lt-leb (c .before .before .before .args .bench .count) 8 (c .if1 .left)) (refl, refl)
 
 pub transfer-bench-spec : {M : Type 1} → statement M
-transfer-bench-spec = tie.close (tie.spec transfer-first-requires returns returns-2)
+transfer-bench-spec = tie.close (tie.spec (λ c κs. search needs) returns returns-2)

@@ -4,14 +4,8 @@ use borrow.Author.Needs.{needs}
 use Rattle.plain.proofs.turn_at.Statement.{statement}
 use Rattle.plain.proofs.turn_at.Tie as tie
 
-byte-at-requires : tie.Need-byte-at-requires
-byte-at-requires c κs = search needs
-
-byte-at-requires-2 : tie.Need-byte-at-requires-2
-byte-at-requires-2 c κs = search needs
-
 returns : tie.Need-returns
 returns c = rw (c .before .byte-at .ensures, c .byte-at2 .ensures)
 
 pub turn-at-spec : {M : Type 1} → statement M
-turn-at-spec = tie.close (tie.spec byte-at-requires byte-at-requires-2 returns)
+turn-at-spec = tie.close (tie.spec (λ c κs. search needs) (λ c κs. search needs) returns)

@@ -20,18 +20,9 @@ abbrev μ-loop : tie.MeasureT-loop
 loop-holds : tie.Need-loop-holds Inv-loop μ-loop
 loop-holds c = refl
 
-shared-slice-read-byte : tie.Need-shared-slice-read-byte Inv-loop μ-loop
-shared-slice-read-byte c = search needs
-
-is-undefined-requires : tie.Need-is-undefined-requires Inv-loop μ-loop
-is-undefined-requires c κs = search needs
-
 returns : tie.Need-returns Inv-loop μ-loop
 returns c = let p = c .before .before .before .before in
     sym (found (p .loop .expect) (now (p .before .before .args .bytes)) (p .loop .i) (c .before .before .before .loop-test .taken) (sym (c .before .is-undefined .ensures) ∙ c .if1 .taken)) ∙ p .loop .inv
-
-follow-requires : tie.Need-follow-requires Inv-loop μ-loop
-follow-requires c κs = search needs
 
 -- from a byte that passes to the next
 goes-on : (c : tie.After-follow Inv-loop μ-loop) → let p = c .before .before .before .before .before in
@@ -50,12 +41,6 @@ returns-2 c = let p = c .before .before .before .before .before .before .before 
     let bytes = now (p .before .before .args .bytes) in
     sym (ap (λ (e : Expect). undefinedIn e (p .loop .i + 1) (drop (p .loop .i + 1) bytes)) (c .enum-told .given .1) ∙ in-run (p .loop .i + 1) (drop (p .loop .i + 1) bytes)) ∙ goes-on (c .before .before)
 
-add-i : tie.Need-add-i Inv-loop μ-loop
-add-i c = search needs
-
-loop-less : tie.Need-loop-less Inv-loop μ-loop
-loop-less c = search needs
-
 loop-again : tie.Need-loop-again Inv-loop μ-loop
 loop-again c = goes-on (c .before)
 
@@ -70,13 +55,13 @@ first-undefined-spec =
     Inv-loop
     μ-loop
     loop-holds
-    shared-slice-read-byte
-    is-undefined-requires
+    (λ c. search needs)
+    (λ c κs. search needs)
     returns
-    follow-requires
+    (λ c κs. search needs)
     enum-told
     returns-2
-    add-i
-    loop-less
+    (λ c. search needs)
+    (λ c. search needs)
     loop-again
     returns-3)

@@ -34,9 +34,6 @@ Inv-loop ram₀ bytes n listener₀ i₀ ram listener i = Hearing ram₀ bytes (
 abbrev μ-loop : tie.MeasureT-loop
 μ-loop ram₀ bytes n listener₀ i₀ ram listener i = length bytes - i
 
-begun-requires : tie.Need-begun-requires Inv-loop μ-loop
-begun-requires c κs = search needs
-
 loop-holds : tie.Need-loop-holds Inv-loop μ-loop
 loop-holds c = let s = c .before .before .before in
     let ram = now (s .args .ram) in
@@ -47,20 +44,8 @@ loop-holds c = let s = c .before .before .before in
       most = s .pre .2;
     })
 
-add-next : tie.Need-add-next Inv-loop μ-loop
-add-next c = search needs
-
 enum-told : tie.Need-enum-told Inv-loop μ-loop
 enum-told c = search needs
-
-shared-slice-read-control : tie.Need-shared-slice-read-control Inv-loop μ-loop
-shared-slice-read-control c = search needs
-
-control-requires : tie.Need-control-requires Inv-loop μ-loop
-control-requires c κs = search needs
-
-loop-less : tie.Need-loop-less Inv-loop μ-loop
-loop-less c = search needs
 
 loop-again : tie.Need-loop-again Inv-loop μ-loop
 loop-again c = let p = c .before .before .before .before .before in
@@ -68,50 +53,17 @@ loop-again c = let p = c .before .before .before .before .before in
     byte-turn (now (a .ram)) (now (a .bytes)) (p .before .begun .result .registers) (p .loop .ram) (p .loop .listener) (p .loop .i) (c .before .before .before .before .loop-test .taken) (p .loop .inv)
     Control (c .before .before .enum-told .given .1) (p .loop .ram) (c .control .result) (ap (λ (l : Listener). l .expect) (c .control .ensures)) (ap (λ (l : Listener). groupOf l (p .loop .ram)) (c .control .ensures))
 
-enum-told-2 : tie.Need-enum-told-2 Inv-loop μ-loop
-enum-told-2 c = search needs
-
-shared-slice-read-command : tie.Need-shared-slice-read-command Inv-loop μ-loop
-shared-slice-read-command c = search needs
-
-command-requires : tie.Need-command-requires Inv-loop μ-loop
-command-requires c κs = search needs
-
-loop-less-2 : tie.Need-loop-less-2 Inv-loop μ-loop
-loop-less-2 c = search needs
-
 loop-again-2 : tie.Need-loop-again-2 Inv-loop μ-loop
 loop-again-2 c = let p = c .before .before .before .before .before in
     let a = p .before .before .before .before .args in
     byte-turn (now (a .ram)) (now (a .bytes)) (p .before .begun .result .registers) (p .loop .ram) (p .loop .listener) (p .loop .i) (c .before .before .before .before .loop-test .taken) (p .loop .inv)
     OneCommand (c .before .before .enum-told2 .given .1) (p .loop .ram) (c .command .result) (ap (λ (l : Listener). l .expect) (c .command .ensures)) (ap (λ (l : Listener). groupOf l (p .loop .ram)) (c .command .ensures))
 
-enum-told-3 : tie.Need-enum-told-3 Inv-loop μ-loop
-enum-told-3 c = search needs
-
-shared-slice-read-command-2 : tie.Need-shared-slice-read-command-2 Inv-loop μ-loop
-shared-slice-read-command-2 c = search needs
-
-command-requires-2 : tie.Need-command-requires-2 Inv-loop μ-loop
-command-requires-2 c κs = search needs
-
-loop-less-3 : tie.Need-loop-less-3 Inv-loop μ-loop
-loop-less-3 c = search needs
-
 loop-again-3 : tie.Need-loop-again-3 Inv-loop μ-loop
 loop-again-3 c = let p = c .before .before .before .before .before in
     let a = p .before .before .before .before .args in
     byte-turn (now (a .ram)) (now (a .bytes)) (p .before .begun .result .registers) (p .loop .ram) (p .loop .listener) (p .loop .i) (c .before .before .before .before .loop-test .taken) (p .loop .inv)
     Commands (c .before .before .enum-told3 .given .1) (p .loop .ram) (c .command2 .result) (ap (λ (l : Listener). l .expect) (c .command2 .ensures)) (ap (λ (l : Listener). groupOf l (p .loop .ram)) (c .command2 .ensures))
-
-shared-slice-read-follow : tie.Need-shared-slice-read-follow Inv-loop μ-loop
-shared-slice-read-follow c = search needs
-
-follow-requires : tie.Need-follow-requires Inv-loop μ-loop
-follow-requires c κs = search needs
-
-data-end-requires : tie.Need-data-end-requires Inv-loop μ-loop
-data-end-requires c κs = search needs
 
 sub-data : tie.Need-sub-data Inv-loop μ-loop
 sub-data c = let p = c .before .before .before .before .before .before in
@@ -159,27 +111,27 @@ hear-spec =
     (tie.spec
     Inv-loop
     μ-loop
-    begun-requires
+    (λ c κs. search needs)
     loop-holds
-    add-next
+    (λ c. search needs)
     enum-told
-    shared-slice-read-control
-    control-requires
-    loop-less
+    (λ c. search needs)
+    (λ c κs. search needs)
+    (λ c. search needs)
     loop-again
-    enum-told-2
-    shared-slice-read-command
-    command-requires
-    loop-less-2
+    (λ c. search needs)
+    (λ c. search needs)
+    (λ c κs. search needs)
+    (λ c. search needs)
     loop-again-2
-    enum-told-3
-    shared-slice-read-command-2
-    command-requires-2
-    loop-less-3
+    (λ c. search needs)
+    (λ c. search needs)
+    (λ c κs. search needs)
+    (λ c. search needs)
     loop-again-3
-    shared-slice-read-follow
-    follow-requires
-    data-end-requires
+    (λ c. search needs)
+    (λ c κs. search needs)
+    (λ c κs. search needs)
     sub-data
     part-data-start
     part-data-end

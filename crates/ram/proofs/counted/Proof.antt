@@ -39,32 +39,8 @@ cut-run t m n left p h =
 as-defined : (t : Counts) (v size m n left : ℕ) → 0 < m → left ≡ size - v → tallied n m left t ≡ countedRun n m v size t
 as-defined t v size m n left p e = rw e (sym (counted-at-once n m v size t p))
 
-div-w : tie.Need-div-w
-div-w c = search needs
-
 add-w : tie.Need-add-w
 add-w c = omega (arith, div-le-self 7 (c .args .m))
-
-columns-from-requires : tie.Need-columns-from-requires
-columns-from-requires c κs = search needs
-
-div-whole : tie.Need-div-whole
-div-whole c = search needs
-
-add-t13 : tie.Need-add-t13
-add-t13 c = search needs
-
-mul-t14 : tie.Need-mul-t14
-mul-t14 c = search needs
-
-add-t15 : tie.Need-add-t15
-add-t15 c = search needs
-
-mul-stored : tie.Need-mul-stored
-mul-stored c = search needs
-
-rem-stored : tie.Need-rem-stored
-rem-stored c = search needs
 
 mul-stored-2 : tie.Need-mul-stored-2
 mul-stored-2 c = omega (arith, rest-lt (c .before .before .args .m) (c .before .columns-from .result) (c .before .before .pre .0))
@@ -72,20 +48,11 @@ mul-stored-2 c = omega (arith, rest-lt (c .before .before .args .m) (c .before .
 add-stored : tie.Need-add-stored
 add-stored c = omega (arith, rest-lt (c .before .before .args .m) (c .before .columns-from .result) (c .before .before .pre .0))
 
-add-t16 : tie.Need-add-t16
-add-t16 c = search needs
-
 add-t18 : tie.Need-add-t18
 add-t18 c = omega (arith, rest-lt (c .before .before .before .before .args .m) (c .before .before .before .columns-from .result) (c .before .before .before .before .pre .0))
 
-mul-t17 : tie.Need-mul-t17
-mul-t17 c = search needs
-
 sub-t19 : tie.Need-sub-t19
 sub-t19 c = omega (arith, rest-lt (c .before .before .before .before .args .m) (c .before .before .before .columns-from .result) (c .before .before .before .before .pre .0))
-
-add-t20 : tie.Need-add-t20
-add-t20 c = search needs
 
 returns : tie.Need-returns
 returns c = let a = c .before .before .before .before .args in
@@ -101,21 +68,21 @@ pub counted-spec : {M : Type 1} → statement M
 counted-spec =
     tie.close
     (tie.spec
-    div-w
+    (λ c. search needs)
     add-w
-    columns-from-requires
-    div-whole
-    add-t13
-    mul-t14
-    add-t15
-    mul-stored
-    rem-stored
+    (λ c κs. search needs)
+    (λ c. search needs)
+    (λ c. search needs)
+    (λ c. search needs)
+    (λ c. search needs)
+    (λ c. search needs)
+    (λ c. search needs)
     mul-stored-2
     add-stored
-    add-t16
+    (λ c. search needs)
     add-t18
-    mul-t17
+    (λ c. search needs)
     sub-t19
-    add-t20
+    (λ c. search needs)
     returns
     returns-2)

@@ -21,18 +21,9 @@ unfolding bankRow
 rows-fit m bank hm hb =
     leb→le (bankRow m bank + m) 4 (all-at 2 (λ i. leb (bankRow m i + m) 4) (all-at 5 (λ n. all 2 (λ i. leb (bankRow n i + n) 4)) tt m hm) bank hb)
 
-bank-row-requires : tie.Need-bank-row-requires
-bank-row-requires c κs = search needs
-
-shared-slice-read-put-bits : tie.Need-shared-slice-read-put-bits
-shared-slice-read-put-bits c = search needs
-
 put-bits-requires : tie.Need-put-bits-requires
 put-bits-requires c κs = let s = c .before .before .before .before .before .before in
     (s .pre .0, rw (c .before .before .bank-row .ensures) (rows-fit (s .args .m) (s .args .bank) (s .pre .1) (s .pre .2)), s .pre .3)
-
-same-length : tie.Need-same-length
-same-length c = search needs
 
 returns : tie.Need-returns
 returns c = let s = c .before .before .before .before .before .before .before .before .before in
@@ -53,9 +44,9 @@ pub cut-byte-spec : {M : Type 1} → statement M
 cut-byte-spec =
     tie.close
     (tie.spec
-    bank-row-requires
-    shared-slice-read-put-bits
+    (λ c κs. search needs)
+    (λ c. search needs)
     put-bits-requires
-    same-length
+    (λ c. search needs)
     returns
     returns-2)

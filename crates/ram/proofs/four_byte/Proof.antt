@@ -19,20 +19,8 @@ overwritten : (c f : ℕ) (ram : List ℕ) → Nibbles ram → set ram c f ≡ c
 unfolding changed withRows
 overwritten c f ram w = ap (λ (q : ℕ). set ram c q) (omega (arith, w c))
 
-reversed-requires : tie.Need-reversed-requires
-reversed-requires c κs = search needs
-
-slice-write-ram : tie.Need-slice-write-ram
-slice-write-ram c = search needs
-
-add-ram : tie.Need-add-ram
-add-ram c = search needs
-
 slice-write-ram-2 : tie.Need-slice-write-ram-2
 slice-write-ram-2 c = simp length-set (omega arith)
-
-same-length : tie.Need-same-length
-same-length c = search needs
 
 returns : tie.Need-returns
 returns c = let a = c .before .before .args in
@@ -47,4 +35,4 @@ returns c = let a = c .before .before .args in
 pub four-byte-spec : {M : Type 1} → statement M
 four-byte-spec =
     tie.close
-    (tie.spec reversed-requires slice-write-ram add-ram slice-write-ram-2 same-length returns)
+    (tie.spec (λ c κs. search needs) (λ c. search needs) (λ c. search needs) slice-write-ram-2 (λ c. search needs) returns)

@@ -19,27 +19,12 @@ abbrev μ-loop : tie.MeasureT-loop
 loop-holds : tie.Need-loop-holds Inv-loop μ-loop
 loop-holds c = begun _ _ _ _ _
 
-mul-four-byte : tie.Need-mul-four-byte Inv-loop μ-loop
-mul-four-byte c = search needs
-
-add-four-byte : tie.Need-add-four-byte Inv-loop μ-loop
-add-four-byte c = search needs
-
-shared-slice-read-four-byte : tie.Need-shared-slice-read-four-byte Inv-loop μ-loop
-shared-slice-read-four-byte c = search needs
-
 four-byte-requires : tie.Need-four-byte-requires Inv-loop μ-loop
 four-byte-requires c κs = let p = c .before .before .before in
     let s = p .before .before .before in (
       omega (arith, p .loop .inv .long, c .before .before .loop-test .taken),
       check-nibbles 0 (p .loop .ram) (small 4 0 (s .args .v) (now (s .args .bytes)) (now (s .args .ram)) (p .loop .ram) (p .loop .i) (omega arith) (omega arith) (s .pre .1) (p .loop .inv)),
     )
-
-add-i : tie.Need-add-i Inv-loop μ-loop
-add-i c = search needs
-
-loop-less : tie.Need-loop-less Inv-loop μ-loop
-loop-less c = search needs
 
 loop-again : tie.Need-loop-again Inv-loop μ-loop
 loop-again c = let p = c .before .before .before .before .before .before in
@@ -61,12 +46,12 @@ four-run-spec =
     Inv-loop
     μ-loop
     loop-holds
-    mul-four-byte
-    add-four-byte
-    shared-slice-read-four-byte
+    (λ c. search needs)
+    (λ c. search needs)
+    (λ c. search needs)
     four-byte-requires
-    add-i
-    loop-less
+    (λ c. search needs)
+    (λ c. search needs)
     loop-again
     same-length
     returns)

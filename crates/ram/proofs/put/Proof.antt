@@ -29,32 +29,14 @@ whole c =
     let s = c .before in
     new-lt (getD (now (s .args .ram)) (s .args .at) 0) (s .args .low) (s .args .high) (s .args .f) (c .slice-known .given (s .args .at) .fits) (s .pre .1) (s .pre .2) (s .pre .3)
 
-slice-read-q : tie.Need-slice-read-q
-slice-read-q c = search needs
-
-div-ram : tie.Need-div-ram
-div-ram c = search needs
-
 mul-ram : tie.Need-mul-ram
 mul-ram c = omega (arith, whole c)
-
-mul-ram-2 : tie.Need-mul-ram-2
-mul-ram-2 c = search needs
-
-rem-ram : tie.Need-rem-ram
-rem-ram c = search needs
 
 add-ram : tie.Need-add-ram
 add-ram c = omega (arith, whole c)
 
 add-ram-2 : tie.Need-add-ram-2
 add-ram-2 c = omega (arith, whole c)
-
-slice-write-ram : tie.Need-slice-write-ram
-slice-write-ram c = search needs
-
-same-length : tie.Need-same-length
-same-length c = search needs
 
 returns : tie.Need-returns
 unfolding changed
@@ -64,13 +46,13 @@ pub put-spec : {M : Type 1} → statement M
 put-spec =
     tie.close
     (tie.spec
-    slice-read-q
-    div-ram
+    (λ c. search needs)
+    (λ c. search needs)
     mul-ram
-    mul-ram-2
-    rem-ram
+    (λ c. search needs)
+    (λ c. search needs)
     add-ram
     add-ram-2
-    slice-write-ram
-    same-length
+    (λ c. search needs)
+    (λ c. search needs)
     returns)

@@ -41,29 +41,14 @@ loop-holds : tie.Need-loop-holds Inv-loop μ-loop
 unfolding putBits
 loop-holds c = record { so-far = refl; long = refl; most = omega arith }
 
-bit-of-requires : tie.Need-bit-of-requires Inv-loop μ-loop
-bit-of-requires c κs = search needs
-
-div-put-row : tie.Need-div-put-row Inv-loop μ-loop
-div-put-row c = search needs
-
 add-put-row : tie.Need-add-put-row Inv-loop μ-loop
 add-put-row c = omega (arith, div-le-self (c .before .before .before .loop .k) (c .before .before .before .before .before .args .m))
-
-rem-put-row : tie.Need-rem-put-row Inv-loop μ-loop
-rem-put-row c = search needs
 
 add-put-row-2 : tie.Need-add-put-row-2 Inv-loop μ-loop
 add-put-row-2 c = omega (arith, mod-lt (c .before .before .before .loop .k) (c .before .before .before .before .before .pre .0))
 
 put-row-requires : tie.Need-put-row-requires Inv-loop μ-loop
 put-row-requires c κs = (omega (arith, mod-lt (c .before .before .before .loop .k) (c .before .before .before .before .before .pre .0)), omega arith)
-
-add-k : tie.Need-add-k Inv-loop μ-loop
-add-k c = search needs
-
-loop-less : tie.Need-loop-less Inv-loop μ-loop
-loop-less c = search needs
 
 loop-again : tie.Need-loop-again Inv-loop μ-loop
 loop-again c = let p = c .before .before .before .before .before .before in
@@ -86,14 +71,14 @@ put-bits-spec =
     Inv-loop
     μ-loop
     loop-holds
-    bit-of-requires
-    div-put-row
+    (λ c κs. search needs)
+    (λ c. search needs)
     add-put-row
-    rem-put-row
+    (λ c. search needs)
     add-put-row-2
     put-row-requires
-    add-k
-    loop-less
+    (λ c. search needs)
+    (λ c. search needs)
     loop-again
     same-length
     returns)

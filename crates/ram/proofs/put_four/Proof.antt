@@ -18,44 +18,14 @@ as-laid : (w at : ℕ) (ram : List ℕ)
 unfolding laid columnOf
 as-laid w at ram = rw (add-zero at, div-one w)
 
-four-columns-requires : tie.Need-four-columns-requires
-four-columns-requires c κs = search needs
-
-cast-ram : tie.Need-cast-ram
-cast-ram c = search needs
-
-slice-write-ram : tie.Need-slice-write-ram
-slice-write-ram c = search needs
-
-cast-ram-2 : tie.Need-cast-ram-2
-cast-ram-2 c = search needs
-
-add-ram : tie.Need-add-ram
-add-ram c = search needs
-
 slice-write-ram-2 : tie.Need-slice-write-ram-2
 slice-write-ram-2 c = simp length-set (omega arith)
-
-cast-ram-3 : tie.Need-cast-ram-3
-cast-ram-3 c = search needs
-
-add-ram-2 : tie.Need-add-ram-2
-add-ram-2 c = search needs
 
 slice-write-ram-3 : tie.Need-slice-write-ram-3
 slice-write-ram-3 c = simp length-set (omega arith)
 
-cast-ram-4 : tie.Need-cast-ram-4
-cast-ram-4 c = search needs
-
-add-ram-3 : tie.Need-add-ram-3
-add-ram-3 c = search needs
-
 slice-write-ram-4 : tie.Need-slice-write-ram-4
 slice-write-ram-4 c = simp length-set (omega arith)
-
-same-length : tie.Need-same-length
-same-length c = search needs
 
 returns : tie.Need-returns
 unfolding mixed
@@ -69,17 +39,17 @@ pub put-four-spec : {M : Type 1} → statement M
 put-four-spec =
     tie.close
     (tie.spec
-    four-columns-requires
-    cast-ram
-    slice-write-ram
-    cast-ram-2
-    add-ram
+    (λ c κs. search needs)
+    (λ c. search needs)
+    (λ c. search needs)
+    (λ c. search needs)
+    (λ c. search needs)
     slice-write-ram-2
-    cast-ram-3
-    add-ram-2
+    (λ c. search needs)
+    (λ c. search needs)
     slice-write-ram-3
-    cast-ram-4
-    add-ram-3
+    (λ c. search needs)
+    (λ c. search needs)
     slice-write-ram-4
-    same-length
+    (λ c. search needs)
     returns)

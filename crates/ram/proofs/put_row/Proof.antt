@@ -10,18 +10,6 @@ use borrow.Author.Needs.{needs}
 use Rattle.ram.proofs.put_row.Statement.{statement}
 use Rattle.ram.proofs.put_row.Tie as tie
 
-slice-read-with-row : tie.Need-slice-read-with-row
-slice-read-with-row c = search needs
-
-with-row-requires : tie.Need-with-row-requires
-with-row-requires c κs = search needs
-
-slice-write-ram : tie.Need-slice-write-ram
-slice-write-ram c = search needs
-
-same-length : tie.Need-same-length
-same-length c = search needs
-
 returns : tie.Need-returns
 unfolding changed
 returns c = ap (λ (q : ℕ). set (now (c .before .before .before .before .args .ram)) (c .before .before .before .before .args .at) q) (c .with-row .ensures)
@@ -32,4 +20,4 @@ returns-2 c = sym (changed-past (withRow (c .before .before .args .row) (c .befo
 pub put-row-spec : {M : Type 1} → statement M
 put-row-spec =
     tie.close
-    (tie.spec slice-read-with-row with-row-requires slice-write-ram same-length returns returns-2)
+    (tie.spec (λ c. search needs) (λ c κs. search needs) (λ c. search needs) (λ c. search needs) returns returns-2)

@@ -49,9 +49,6 @@ add-nibbles : tie.Need-add-nibbles
 unfolding pairs nibbles
 add-nibbles c = omega (arith, others (c .args .x) (c .fits .x .fits) .0)
 
-mul-result : tie.Need-mul-result
-mul-result c = search needs
-
 add-result : tie.Need-add-result
 unfolding pairs nibbles
 add-result c = omega (arith, others (c .args .x) (c .fits .x .fits) .0)
@@ -62,4 +59,4 @@ returns c = others (c .args .x) (c .fits .x .fits) .1
 
 pub reversed-spec : {M : Type 1} → statement M
 reversed-spec =
-    tie.close (tie.spec mul-pairs add-pairs mul-nibbles add-nibbles mul-result add-result returns)
+    tie.close (tie.spec mul-pairs add-pairs mul-nibbles add-nibbles (λ c. search needs) add-result returns)

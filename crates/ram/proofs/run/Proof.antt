@@ -40,20 +40,8 @@ joined m b v whole bytes ram first h e =
     ∙ sym (run-append m b v (take whole bytes) (drop whole bytes) ram)
     ∙ ap (λ (xs : List ℕ). putRun m b v xs ram) (take-append-drop whole bytes)
 
-div-w : tie.Need-div-w
-div-w c = search needs
-
 add-w : tie.Need-add-w
 add-w c = omega (arith, div-le-self 7 (c .before .before .args .m))
-
-columns-from-requires : tie.Need-columns-from-requires
-columns-from-requires c κs = search needs
-
-div-least : tie.Need-div-least
-div-least c = search needs
-
-least-requires : tie.Need-least-requires
-least-requires c κs = search needs
 
 slice-aggregate-whole-bytes : tie.Need-slice-aggregate-whole-bytes
 slice-aggregate-whole-bytes c = sym (length-take-le (c .before .before .least .result) (now (c .before .before .before .before .before .before .args .bytes)) (omega arith))
@@ -72,15 +60,6 @@ mul-cut-byte c = omega (arith, near (c .before .before .before .before .before .
 add-cut-byte : tie.Need-add-cut-byte
 add-cut-byte c = omega (arith, near (c .before .before .before .before .before .before .before .before .before .before .args .m) (c .before .before .before .before .before .before .least .result))
 
-sub-cut-byte : tie.Need-sub-cut-byte
-sub-cut-byte c = search needs
-
-part-cut-byte-start : tie.Need-part-cut-byte-start
-part-cut-byte-start c = search needs
-
-part-cut-byte-end : tie.Need-part-cut-byte-end
-part-cut-byte-end c = search needs
-
 cut-byte-requires : tie.Need-cut-byte-requires
 cut-byte-requires c κs = let s = c .before .before .before .before .before .before .before .before .before .before .before in
     let a = s .args in
@@ -93,9 +72,6 @@ cut-byte-requires c κs = let s = c .before .before .before .before .before .bef
       omega (arith, near (a .m) whole, least .ensures, s .pre .3, s .pre .4),
       λ h. rw (c .before .before .before .before .whole-bytes .kept .0) (edge (a .m) (length (now (a .bytes))) (a .v) (length (now (a .ram))) (from .result) whole (from .ensures) (least .ensures) (some-left (length (now (a .bytes)) - whole) whole (now (a .bytes)) h)),
     )
-
-counted-requires : tie.Need-counted-requires
-counted-requires c κs = search needs
 
 same-length : tie.Need-same-length
 same-length c = c .before .before .before .cut-byte .kept .0 ∙ c .before .before .before .before .before .before .before .before .whole-bytes .kept .0
@@ -118,19 +94,19 @@ pub run-spec : {M : Type 1} → statement M
 run-spec =
     tie.close
     (tie.spec
-    div-w
+    (λ c. search needs)
     add-w
-    columns-from-requires
-    div-least
-    least-requires
+    (λ c κs. search needs)
+    (λ c. search needs)
+    (λ c κs. search needs)
     slice-aggregate-whole-bytes
     whole-bytes-requires
     mul-cut-byte
     add-cut-byte
-    sub-cut-byte
-    part-cut-byte-start
-    part-cut-byte-end
+    (λ c. search needs)
+    (λ c. search needs)
+    (λ c. search needs)
     cut-byte-requires
-    counted-requires
+    (λ c κs. search needs)
     same-length
     returns)

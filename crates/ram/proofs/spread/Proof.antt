@@ -30,9 +30,6 @@ word-spread : (x : ℕ) → x < 256 → Spread 2 x 0 (5 * word x)
 unfolding right
 word-spread x h = tested 2 x 0 (5 * word x) (and-right (ltb (5 * word x) 4294967296) (isSpread 2 x 0 (5 * word x)) (all-right x h))
 
-mul-copies : tie.Need-mul-copies
-mul-copies c = search needs
-
 add-word : tie.Need-add-word
 unfolding word
 add-word c = omega (arith, word-lt (c .args .x) (c .fits .x .fits))
@@ -50,4 +47,4 @@ unfolding word
 returns c = word-spread (c .args .x) (c .fits .x .fits)
 
 pub spread-spec : {M : Type 1} → statement M
-spread-spec = tie.close (tie.spec mul-copies add-word mul-result cast-result returns)
+spread-spec = tie.close (tie.spec (λ c. search needs) add-word mul-result cast-result returns)

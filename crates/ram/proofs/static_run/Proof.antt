@@ -36,35 +36,11 @@ Inv-loop ram₀ v bank bytes tbl rows i₀ ram i = Running 1 (2 * bank) v bytes 
 abbrev μ-loop : tie.MeasureT-loop
 μ-loop ram₀ v bank bytes tbl rows i₀ ram i = length bytes - i
 
-wide-requires : tie.Need-wide-requires Inv-loop μ-loop
-wide-requires c κs = search needs
-
-mul-rows : tie.Need-mul-rows Inv-loop μ-loop
-mul-rows c = search needs
-
-add-rows : tie.Need-add-rows Inv-loop μ-loop
-add-rows c = search needs
-
-mul-rows-2 : tie.Need-mul-rows-2 Inv-loop μ-loop
-mul-rows-2 c = search needs
-
 loop-holds : tie.Need-loop-holds Inv-loop μ-loop
 loop-holds c = begun _ _ _ _ _
 
-mul-at : tie.Need-mul-at Inv-loop μ-loop
-mul-at c = search needs
-
-add-at : tie.Need-add-at Inv-loop μ-loop
-add-at c = search needs
-
-shared-slice-read-high : tie.Need-shared-slice-read-high Inv-loop μ-loop
-shared-slice-read-high c = search needs
-
 cast-high : tie.Need-cast-high Inv-loop μ-loop
 cast-high c = omega (arith, c .shared-slice-known2 .given (c .before .before .loop .i))
-
-shared-slice-read-low : tie.Need-shared-slice-read-low Inv-loop μ-loop
-shared-slice-read-low c = search needs
 
 cast-low : tie.Need-cast-low Inv-loop μ-loop
 cast-low c = omega (arith, c .shared-slice-known3 .given (c .before .before .before .loop .i))
@@ -74,27 +50,6 @@ mul-put-four c = omega (arith, c .before .shared-slice-known3 .given (c .before 
 
 array-read-put-four : tie.Need-array-read-put-four Inv-loop μ-loop
 array-read-put-four c = omega (arith, c .before .shared-slice-known3 .given (c .before .before .before .before .loop .i))
-
-put-four-requires : tie.Need-put-four-requires Inv-loop μ-loop
-put-four-requires c κs = search needs
-
-add-put-four : tie.Need-add-put-four Inv-loop μ-loop
-add-put-four c = search needs
-
-mul-put-four-2 : tie.Need-mul-put-four-2 Inv-loop μ-loop
-mul-put-four-2 c = search needs
-
-array-read-put-four-2 : tie.Need-array-read-put-four-2 Inv-loop μ-loop
-array-read-put-four-2 c = search needs
-
-put-four-requires-2 : tie.Need-put-four-requires-2 Inv-loop μ-loop
-put-four-requires-2 c κs = search needs
-
-add-i : tie.Need-add-i Inv-loop μ-loop
-add-i c = search needs
-
-loop-less : tie.Need-loop-less Inv-loop μ-loop
-loop-less c = search needs
 
 loop-again : tie.Need-loop-again Inv-loop μ-loop
 unfolding table withRows columnOf mixed
@@ -128,26 +83,26 @@ static-run-spec =
     (tie.spec
     Inv-loop
     μ-loop
-    wide-requires
-    mul-rows
-    add-rows
-    mul-rows-2
+    (λ c κs. search needs)
+    (λ c. search needs)
+    (λ c. search needs)
+    (λ c. search needs)
     loop-holds
-    mul-at
-    add-at
-    shared-slice-read-high
+    (λ c. search needs)
+    (λ c. search needs)
+    (λ c. search needs)
     cast-high
-    shared-slice-read-low
+    (λ c. search needs)
     cast-low
     mul-put-four
     array-read-put-four
-    put-four-requires
-    add-put-four
-    mul-put-four-2
-    array-read-put-four-2
-    put-four-requires-2
-    add-i
-    loop-less
+    (λ c κs. search needs)
+    (λ c. search needs)
+    (λ c. search needs)
+    (λ c. search needs)
+    (λ c κs. search needs)
+    (λ c. search needs)
+    (λ c. search needs)
     loop-again
     same-length
     returns)

@@ -9,27 +9,6 @@ use borrow.Author.Needs.{needs}
 use Rattle.ram.proofs.three_byte.Statement.{statement}
 use Rattle.ram.proofs.three_byte.Tie as tie
 
-reversed-requires : tie.Need-reversed-requires
-reversed-requires c κs = search needs
-
-put-requires : tie.Need-put-requires
-put-requires c κs = search needs
-
-add-put : tie.Need-add-put
-add-put c = search needs
-
-put-requires-2 : tie.Need-put-requires-2
-put-requires-2 c κs = search needs
-
-add-put-2 : tie.Need-add-put-2
-add-put-2 c = search needs
-
-put-requires-3 : tie.Need-put-requires-3
-put-requires-3 c κs = search needs
-
-same-length : tie.Need-same-length
-same-length c = search needs
-
 returns : tie.Need-returns
 unfolding withRows
 returns c = let a = c .before .before .before .before .before .before .before .before .before .before .before .before .before .before .args in
@@ -42,11 +21,11 @@ pub three-byte-spec : {M : Type 1} → statement M
 three-byte-spec =
     tie.close
     (tie.spec
-    reversed-requires
-    put-requires
-    add-put
-    put-requires-2
-    add-put-2
-    put-requires-3
-    same-length
+    (λ c κs. search needs)
+    (λ c κs. search needs)
+    (λ c. search needs)
+    (λ c κs. search needs)
+    (λ c. search needs)
+    (λ c κs. search needs)
+    (λ c. search needs)
     returns)

@@ -17,24 +17,6 @@ abbrev μ-loop : tie.MeasureT-loop
 loop-holds : tie.Need-loop-holds Inv-loop μ-loop
 loop-holds c = begun _ _ _ _ _
 
-mul-three-byte : tie.Need-mul-three-byte Inv-loop μ-loop
-mul-three-byte c = search needs
-
-add-three-byte : tie.Need-add-three-byte Inv-loop μ-loop
-add-three-byte c = search needs
-
-shared-slice-read-three-byte : tie.Need-shared-slice-read-three-byte Inv-loop μ-loop
-shared-slice-read-three-byte c = search needs
-
-three-byte-requires : tie.Need-three-byte-requires Inv-loop μ-loop
-three-byte-requires c κs = search needs
-
-add-i : tie.Need-add-i Inv-loop μ-loop
-add-i c = search needs
-
-loop-less : tie.Need-loop-less Inv-loop μ-loop
-loop-less c = search needs
-
 loop-again : tie.Need-loop-again Inv-loop μ-loop
 loop-again c = let p = c .before .before .before .before .before .before in
     let a = p .before .before .before .args in
@@ -55,12 +37,12 @@ three-run-spec =
     Inv-loop
     μ-loop
     loop-holds
-    mul-three-byte
-    add-three-byte
-    shared-slice-read-three-byte
-    three-byte-requires
-    add-i
-    loop-less
+    (λ c. search needs)
+    (λ c. search needs)
+    (λ c. search needs)
+    (λ c κs. search needs)
+    (λ c. search needs)
+    (λ c. search needs)
     loop-again
     same-length
     returns)

@@ -30,32 +30,20 @@ four-run-requires : tie.Need-four-run-requires
 four-run-requires c κs = let s = c .before .before .before .before in
     (as-wide 4 (s .args .m) (length (now (s .args .bytes))) (length (now (s .args .ram)) - s .args .v) (omega (arith, c .before .match .rest)) (s .pre .3), s .pre .4)
 
-same-length : tie.Need-same-length
-same-length c = search needs
-
 returns : tie.Need-returns
 unfolding bankRow
 returns c = let a = c .before .before .before .before .before .before .before .args in
     c .before .before .static-run .ensures ∙ ap (λ (m : ℕ). putRun m (bankRow m (a .bank)) (a .v) (now (a .bytes)) (now (a .ram))) (sym (c .before .before .before .before .match .keys1))
-
-same-length-2 : tie.Need-same-length-2
-same-length-2 c = search needs
 
 returns-2 : tie.Need-returns-2
 unfolding bankRow
 returns-2 c = let a = c .before .before .before .before .before .before .before .args in
     c .before .before .two-run .ensures ∙ ap (λ (m : ℕ). putRun m (bankRow m (a .bank)) (a .v) (now (a .bytes)) (now (a .ram))) (sym (c .before .before .before .before .match .keys2))
 
-same-length-3 : tie.Need-same-length-3
-same-length-3 c = search needs
-
 returns-3 : tie.Need-returns-3
 unfolding bankRow
 returns-3 c = let a = c .before .before .before .before .before .before .before .args in
     c .before .before .three-run .ensures ∙ ap (λ (m : ℕ). putRun m (bankRow m (a .bank)) (a .v) (now (a .bytes)) (now (a .ram))) (sym (c .before .before .before .before .match .keys3))
-
-same-length-4 : tie.Need-same-length-4
-same-length-4 c = search needs
 
 returns-4 : tie.Need-returns-4
 unfolding bankRow
@@ -71,11 +59,11 @@ whole-bytes-spec =
     two-run-requires
     three-run-requires
     four-run-requires
-    same-length
+    (λ c. search needs)
     returns
-    same-length-2
+    (λ c. search needs)
     returns-2
-    same-length-3
+    (λ c. search needs)
     returns-3
-    same-length-4
+    (λ c. search needs)
     returns-4)

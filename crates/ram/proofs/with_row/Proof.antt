@@ -28,12 +28,6 @@ made (suc (suc (suc (suc row)))) bit q h t l = omega arith
 made-here : (c : tie.Start) → Made (c .args .row) (c .args .bit) (c .args .column) (1 * 2 ^ (c .args .row) % 256)
 made-here c = made _ _ _ (c .pre .0) (c .pre .1) (c .fits .column .fits)
 
-cast-low : tie.Need-cast-low
-cast-low c = search needs
-
-shl-low : tie.Need-shl-low
-shl-low c = search needs
-
 mul-high : tie.Need-mul-high
 mul-high c = omega (arith, made-here c .room)
 
@@ -62,8 +56,8 @@ pub with-row-spec : {M : Type 1} → statement M
 with-row-spec =
     tie.close
     (tie.spec
-    cast-low
-    shl-low
+    (λ c. search needs)
+    (λ c. search needs)
     mul-high
     div-result
     mul-result

@@ -10,26 +10,8 @@ use borrow.Author.Needs.{needs}
 use Rattle.cabi.proofs.answers.put_numbers.Statement.{statement}
 use Rattle.cabi.proofs.answers.put_numbers.Tie as tie
 
-slice-write-out : tie.Need-slice-write-out
-slice-write-out c = search needs
-
-slice-write-out-2 : tie.Need-slice-write-out-2
-slice-write-out-2 c = search needs
-
-slice-write-out-3 : tie.Need-slice-write-out-3
-slice-write-out-3 c = search needs
-
-slice-write-out-4 : tie.Need-slice-write-out-4
-slice-write-out-4 c = search needs
-
 slice-write-out-5 : tie.Need-slice-write-out-5
 slice-write-out-5 c = simp length-set (omega arith)
-
-cast-result : tie.Need-cast-result
-cast-result c = search needs
-
-same-length : tie.Need-same-length
-same-length c = search needs
 
 returns : tie.Need-returns
 returns c = let a = c .args in (refl, filled (a .number ∷ a .place ∷ a .first ∷ a .second ∷ a .third ∷ []) (now (a .out)) (c .pre .0))
@@ -38,11 +20,11 @@ pub put-numbers-spec : {M : Type 1} → statement M
 put-numbers-spec =
     tie.close
     (tie.spec
-    slice-write-out
-    slice-write-out-2
-    slice-write-out-3
-    slice-write-out-4
+    (λ c. search needs)
+    (λ c. search needs)
+    (λ c. search needs)
+    (λ c. search needs)
     slice-write-out-5
-    cast-result
-    same-length
+    (λ c. search needs)
+    (λ c. search needs)
     returns)

@@ -27,17 +27,8 @@ few LogHead = omega arith
 few (CutRecord at) = omega arith
 few LongLog = omega arith
 
-number-of-requires : tie.Need-number-of-requires
-number-of-requires c κs = search needs
-
-place-of-requires : tie.Need-place-of-requires
-place-of-requires c κs = search needs
-
 put-numbers-requires : tie.Need-put-numbers-requires
 put-numbers-requires c κs = (c .before .before .before .before .pre, omega (arith, c .before .before .number-of .ensures, few (c .before .before .before .before .args .refusal)))
-
-same-length : tie.Need-same-length
-same-length c = search needs
 
 returns : tie.Need-returns
 returns c = let n = c .before .before .before .before .before .number-of .ensures in
@@ -46,4 +37,4 @@ returns c = let n = c .before .before .before .before .before .number-of .ensure
 pub put-refusal-spec : {M : Type 1} → statement M
 put-refusal-spec =
     tie.close
-    (tie.spec number-of-requires place-of-requires put-numbers-requires same-length returns)
+    (tie.spec (λ c κs. search needs) (λ c κs. search needs) put-numbers-requires (λ c. search needs) returns)

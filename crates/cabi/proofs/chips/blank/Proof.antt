@@ -7,11 +7,8 @@ use borrow.Author.Needs.{needs}
 use Rattle.cabi.proofs.chips.blank.Statement.{statement}
 use Rattle.cabi.proofs.chips.blank.Tie as tie
 
-power-on-requires : tie.Need-power-on-requires
-power-on-requires c κs = search needs
-
 returns : tie.Need-returns
 returns c = ap (λ (r : Registers). record { columns = replicate 160 0; sa0 = 0; subaddress = 0; registers = r }) (c .power-on .ensures)
 
 pub blank-spec : {M : Type 1} → statement M
-blank-spec = tie.close (tie.spec power-on-requires returns)
+blank-spec = tie.close (tie.spec (λ c κs. search needs) returns)

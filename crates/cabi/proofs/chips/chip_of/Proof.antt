@@ -13,29 +13,8 @@ use Rattle.cabi.proofs.chips.chip_of.Tie as tie
 slice-aggregate-copy : tie.Need-slice-aggregate-copy
 slice-aggregate-copy c = simp length-take (omega (arith, c .before .before .pre))
 
-slice-aggregate-copy-2 : tie.Need-slice-aggregate-copy-2
-slice-aggregate-copy-2 c = search needs
-
 copy-requires : tie.Need-copy-requires
 copy-requires c κs = simp length-take (omega (arith, c .before .before .before .pre))
-
-shared-slice-read-t10 : tie.Need-shared-slice-read-t10
-shared-slice-read-t10 c = search needs
-
-shared-slice-read-t12 : tie.Need-shared-slice-read-t12
-shared-slice-read-t12 c = search needs
-
-sub-registers-of : tie.Need-sub-registers-of
-sub-registers-of c = search needs
-
-part-registers-of-start : tie.Need-part-registers-of-start
-part-registers-of-start c = search needs
-
-part-registers-of-end : tie.Need-part-registers-of-end
-part-registers-of-end c = search needs
-
-registers-of-requires : tie.Need-registers-of-requires
-registers-of-requires c κs = search needs
 
 returns : tie.Need-returns
 returns c = let bytes = now (c .before .before .before .before .before .before .before .before .before .args .bytes) in
@@ -47,12 +26,12 @@ chip-of-spec =
     tie.close
     (tie.spec
     slice-aggregate-copy
-    slice-aggregate-copy-2
+    (λ c. search needs)
     copy-requires
-    shared-slice-read-t10
-    shared-slice-read-t12
-    sub-registers-of
-    part-registers-of-start
-    part-registers-of-end
-    registers-of-requires
+    (λ c. search needs)
+    (λ c. search needs)
+    (λ c. search needs)
+    (λ c. search needs)
+    (λ c. search needs)
+    (λ c κs. search needs)
     returns)

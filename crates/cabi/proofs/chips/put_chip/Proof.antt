@@ -13,29 +13,11 @@ use Rattle.cabi.proofs.chips.put_chip.Tie as tie
 slice-aggregate-copy : tie.Need-slice-aggregate-copy
 slice-aggregate-copy c = search needs
 
-slice-relend-prefix-copy : tie.Need-slice-relend-prefix-copy
-slice-relend-prefix-copy c = search needs
-
 slice-aggregate-copy-2 : tie.Need-slice-aggregate-copy-2
 slice-aggregate-copy-2 c = simp length-take (omega (arith, c .before .before .before .before .pre))
 
 copy-requires : tie.Need-copy-requires
 copy-requires c κs = sym (slice-aggregate-copy-2 c) ∙ slice-aggregate-copy (c .before)
-
-sub-put-identity : tie.Need-sub-put-identity
-sub-put-identity c = search needs
-
-part-put-identity-start : tie.Need-part-put-identity-start
-part-put-identity-start c = search needs
-
-part-put-identity-end : tie.Need-part-put-identity-end
-part-put-identity-end c = search needs
-
-put-identity-requires : tie.Need-put-identity-requires
-put-identity-requires c κs = search needs
-
-same-length : tie.Need-same-length
-same-length c = search needs
 
 returns : tie.Need-returns
 returns c = let copied = c .before .before .before .before .before .before .copy .ensures in
@@ -47,12 +29,12 @@ put-chip-spec =
     tie.close
     (tie.spec
     slice-aggregate-copy
-    slice-relend-prefix-copy
+    (λ c. search needs)
     slice-aggregate-copy-2
     copy-requires
-    sub-put-identity
-    part-put-identity-start
-    part-put-identity-end
-    put-identity-requires
-    same-length
+    (λ c. search needs)
+    (λ c. search needs)
+    (λ c. search needs)
+    (λ c κs. search needs)
+    (λ c. search needs)
     returns)

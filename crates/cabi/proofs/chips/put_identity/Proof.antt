@@ -16,20 +16,11 @@ after-two : (out b : List ℕ) (x y : ℕ) → 2 ≤ length out → let s = set 
 after-two out b x y h =
     ap (λ (s : List ℕ). take 2 s ++ (b ++ drop (length s - 2) (drop 2 s))) (sets-eq (x ∷ y ∷ []) out 0 (omega arith)) ∙ end-replaced (x ∷ y ∷ []) (drop 2 out) b 2 refl
 
-slice-write-out : tie.Need-slice-write-out
-slice-write-out c = search needs
-
-slice-write-out-2 : tie.Need-slice-write-out-2
-slice-write-out-2 c = search needs
-
 sub-put-registers : tie.Need-sub-put-registers
 sub-put-registers c = simp length-set (omega (arith, c .before .before .pre))
 
 part-put-registers-start : tie.Need-part-put-registers-start
 part-put-registers-start c = simp length-set (omega (arith, c .before .before .pre))
-
-part-put-registers-end : tie.Need-part-put-registers-end
-part-put-registers-end c = search needs
 
 put-registers-requires : tie.Need-put-registers-requires
 put-registers-requires c κs = simp (length-take, length-drop, length-set) (omega (arith, c .before .before .before .pre))
@@ -46,11 +37,11 @@ pub put-identity-spec : {M : Type 1} → statement M
 put-identity-spec =
     tie.close
     (tie.spec
-    slice-write-out
-    slice-write-out-2
+    (λ c. search needs)
+    (λ c. search needs)
     sub-put-registers
     part-put-registers-start
-    part-put-registers-end
+    (λ c. search needs)
     put-registers-requires
     same-length
     returns)

@@ -16,18 +16,6 @@ slice-aggregate-registers-of c = simp length-take (omega (arith, c .before .befo
 registers-of-requires : tie.Need-registers-of-requires
 registers-of-requires c κs = simp length-take (omega (arith, c .before .before .pre))
 
-sub-registers-of : tie.Need-sub-registers-of
-sub-registers-of c = search needs
-
-part-registers-of-start : tie.Need-part-registers-of-start
-part-registers-of-start c = search needs
-
-part-registers-of-end : tie.Need-part-registers-of-end
-part-registers-of-end c = search needs
-
-registers-of-requires-2 : tie.Need-registers-of-requires-2
-registers-of-requires-2 c κs = search needs
-
 returns : tie.Need-returns
 returns c = let bytes = now (c .before .before .before .before .before .args .bytes) in
     let one = c .registers-of2 .ensures ∙ ap registersIn (part-rest bytes 9) in
@@ -39,8 +27,8 @@ both-of-spec =
     (tie.spec
     slice-aggregate-registers-of
     registers-of-requires
-    sub-registers-of
-    part-registers-of-start
-    part-registers-of-end
-    registers-of-requires-2
+    (λ c. search needs)
+    (λ c. search needs)
+    (λ c. search needs)
+    (λ c κs. search needs)
     returns)

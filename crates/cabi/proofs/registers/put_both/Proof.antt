@@ -11,29 +11,11 @@ use borrow.Author.Needs.{needs}
 use Rattle.cabi.proofs.registers.put_both.Statement.{statement}
 use Rattle.cabi.proofs.registers.put_both.Tie as tie
 
-slice-relend-prefix-put-registers : tie.Need-slice-relend-prefix-put-registers
-slice-relend-prefix-put-registers c = search needs
-
 slice-aggregate-put-registers : tie.Need-slice-aggregate-put-registers
 slice-aggregate-put-registers c = simp length-take (omega (arith, c .before .before .before .before .pre))
 
 put-registers-requires : tie.Need-put-registers-requires
 put-registers-requires c κs = simp length-take (omega (arith, c .before .before .before .before .pre))
-
-sub-put-registers : tie.Need-sub-put-registers
-sub-put-registers c = search needs
-
-part-put-registers-start : tie.Need-part-put-registers-start
-part-put-registers-start c = search needs
-
-part-put-registers-end : tie.Need-part-put-registers-end
-part-put-registers-end c = search needs
-
-put-registers-requires-2 : tie.Need-put-registers-requires-2
-put-registers-requires-2 c κs = search needs
-
-same-length : tie.Need-same-length
-same-length c = search needs
 
 returns : tie.Need-returns
 returns c = let s = c .before .before .before .before .before .before .before .before .before .before .before in
@@ -45,12 +27,12 @@ pub put-both-spec : {M : Type 1} → statement M
 put-both-spec =
     tie.close
     (tie.spec
-    slice-relend-prefix-put-registers
+    (λ c. search needs)
     slice-aggregate-put-registers
     put-registers-requires
-    sub-put-registers
-    part-put-registers-start
-    part-put-registers-end
-    put-registers-requires-2
-    same-length
+    (λ c. search needs)
+    (λ c. search needs)
+    (λ c. search needs)
+    (λ c κs. search needs)
+    (λ c. search needs)
     returns)

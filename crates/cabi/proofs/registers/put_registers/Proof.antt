@@ -9,24 +9,6 @@ use borrow.Author.Needs.{needs}
 use Rattle.cabi.proofs.registers.put_registers.Statement.{statement}
 use Rattle.cabi.proofs.registers.put_registers.Tie as tie
 
-slice-write-out : tie.Need-slice-write-out
-slice-write-out c = search needs
-
-slice-write-out-2 : tie.Need-slice-write-out-2
-slice-write-out-2 c = search needs
-
-slice-write-out-3 : tie.Need-slice-write-out-3
-slice-write-out-3 c = search needs
-
-cast-out : tie.Need-cast-out
-cast-out c = search needs
-
-slice-write-out-4 : tie.Need-slice-write-out-4
-slice-write-out-4 c = search needs
-
-cast-out-2 : tie.Need-cast-out-2
-cast-out-2 c = search needs
-
 slice-write-out-5 : tie.Need-slice-write-out-5
 slice-write-out-5 c = simp length-set (omega arith)
 
@@ -42,9 +24,6 @@ slice-write-out-8 c = simp length-set (omega arith)
 slice-write-out-9 : tie.Need-slice-write-out-9
 slice-write-out-9 c = simp length-set (omega arith)
 
-same-length : tie.Need-same-length
-same-length c = search needs
-
 returns : tie.Need-returns
 returns c = filled (bytesOf (c .before .before .args .registers)) (now (c .before .before .args .out)) (c .before .before .pre)
 
@@ -52,16 +31,16 @@ pub put-registers-spec : {M : Type 1} → statement M
 put-registers-spec =
     tie.close
     (tie.spec
-    slice-write-out
-    slice-write-out-2
-    slice-write-out-3
-    cast-out
-    slice-write-out-4
-    cast-out-2
+    (λ c. search needs)
+    (λ c. search needs)
+    (λ c. search needs)
+    (λ c. search needs)
+    (λ c. search needs)
+    (λ c. search needs)
     slice-write-out-5
     slice-write-out-6
     slice-write-out-7
     slice-write-out-8
     slice-write-out-9
-    same-length
+    (λ c. search needs)
     returns)

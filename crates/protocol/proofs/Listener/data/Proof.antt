@@ -20,9 +20,6 @@ use Rattle.protocol.proofs.Listener.data.Tie as tie
 steps-le : (m n : ℕ) → (7 / m + 1) * n ≤ 8 * n
 steps-le m n = mul-le-mul-right n (omega (arith, div-le-self 7 m))
 
-backplanes-requires : tie.Need-backplanes-requires
-backplanes-requires c κs = search needs
-
 mul-v : tie.Need-mul-v
 mul-v c = omega (arith, range-of 160 4 _ (c .before .before .before .before .before .before .pre .0) .a-in)
 
@@ -49,12 +46,6 @@ run-requires c κs = let s = c .before .before .before .before .before .before .
     let em = c .before .before .before .backplanes .ensures in
     (rw em (fit .0), omega (arith, em, fit .1), h .i-in, omega (arith, h .a-in, h .p-in), s .pre .2, s .pre .3, s .pre .4, s .pre .5, s .pre .6)
 
-moved-requires : tie.Need-moved-requires
-moved-requires c κs = search needs
-
-same-length : tie.Need-same-length
-same-length c = search needs
-
 returns : tie.Need-returns
 unfolding position
 returns c = let s = c .before .before .before .before .before .before .before .before .before .before .before .before in
@@ -77,7 +68,7 @@ pub data-spec : {M : Type 1} → statement M
 data-spec =
     tie.close
     (tie.spec
-    backplanes-requires
+    (λ c κs. search needs)
     mul-v
     add-v
     div-after
@@ -85,6 +76,6 @@ data-spec =
     mul-after
     add-after-2
     run-requires
-    moved-requires
-    same-length
+    (λ c κs. search needs)
+    (λ c. search needs)
     returns)
