@@ -56,5 +56,5 @@ fn longest_and_too_long() {
         "longest",
         &generate::log_of_length(&mut Random::new(6), LOG_LIMIT),
     );
-    compare("records", &run::long_text_log());
+    compare("long_text", &generate::log_of_long_text());
 }

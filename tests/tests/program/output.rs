@@ -1,8 +1,7 @@
 //! Output that cannot be written: never silent, and never status 0.
 
-use crate::run::{
-    command, impatient_pipe, lines, log_file, long_text_log, run, scratch, text_of, Ended,
-};
+use crate::run::{command, impatient_pipe, lines, log_file, run, scratch, text_of, Ended};
+use humtrellis_tests::generate::log_of_long_text;
 use std::io::Read;
 use std::process::{Command, Stdio};
 use std::time::Duration;
@@ -29,7 +28,7 @@ fn closed() {
 /// A pipe that is full and does not wait has a part of the text; the status says so.
 #[test]
 fn does_not_wait() {
-    let log = long_text_log();
+    let log = log_of_long_text();
     let file = log_file("does_not_wait", &log);
     let mut pipe = impatient_pipe("does_not_wait.pipe");
     let mut replay = command(&format!("bin/replay '{file}'"));
@@ -45,7 +44,7 @@ fn does_not_wait() {
 
 #[test]
 fn slow_reader() {
-    let log = long_text_log();
+    let log = log_of_long_text();
     let file = log_file("slow_reader", &log);
     let mut replay = command(&format!("bin/replay '{file}'"));
     let mut child = replay.stdout(Stdio::piped()).spawn().expect("bash");
@@ -60,7 +59,7 @@ fn slow_reader() {
 /// A reader that goes away ends the program by a signal, as any other; nothing wrong is said.
 #[test]
 fn reader_goes_away() {
-    let log = long_text_log();
+    let log = log_of_long_text();
     let file = log_file("reader_goes_away", &log);
     let line = format!("bin/replay '{file}' | head -1; exit ${{PIPESTATUS[0]}}");
     let first = text_of(&log).lines().next().expect("a line").to_string() + "\n";

@@ -1,6 +1,6 @@
 //! A line of bash, run in the repository's root: what it ends with and what it writes.
 
-use humtrellis_tests::model::{log_text, LOG_LIMIT};
+use humtrellis_tests::model::log_text;
 use std::fs::{self, File, OpenOptions};
 use std::os::unix::fs::OpenOptionsExt;
 use std::path::Path;
@@ -94,11 +94,6 @@ pub fn log_file(name: &str, log: &[u8]) -> String {
     let path = scratch(&format!("{name}.log"));
     fs::write(&path, log).expect("a log");
     path
-}
-
-/// A log of empty records, whose text is larger than any pipe's buffer.
-pub fn long_text_log() -> Vec<u8> {
-    [vec![1, 4, 4], vec![0; LOG_LIMIT - 4]].concat()
 }
 
 /// A pipe whose reads and writes do not wait; both ends are the one file.
