@@ -92,6 +92,15 @@ fn not_proved() {
     ended.expect_failure(&said.concat());
 }
 
+/// An `rt` that takes the program for made, though its file is gone.
+#[test]
+fn not_made() {
+    let folder = repository("not_made");
+    let ended = run_in(&folder, "MADE=/dev/null bin/replay log");
+    let message = "bin/replay: rt has proved the program and made none: remove target/stamp/replay and run again";
+    ended.expect_failure(&format!("{BEGUN}{message}"));
+}
+
 /// A PATH with the tools that the script needs, and no `rt`.
 #[test]
 fn no_toolchain() {
