@@ -100,6 +100,14 @@ uint8_t humtrellis_picture(uint8_t chips0, uint8_t chips1, const uint8_t *regist
 uint8_t humtrellis_plain_transfer(uint8_t *chips, size_t chips_length, const uint8_t *bytes, size_t bytes_length,
                                   size_t *answer, size_t answer_length);
 
+/* Power-on of one plain chip: its registers become the power-on ones, taken or refused, and its other bytes stay.
+ * Refusal: 11 with place 0, for SA0, subaddress or a column. */
+uint8_t humtrellis_chip_power_on(uint8_t *chip, size_t chip_length, size_t *answer, size_t answer_length);
+
+/* The lit elements of one plain chip at a blink phase into 160 bytes. Answer: number, place, lit, 0, 0. Refusals: 11 with place 0, 8, 9. */
+uint8_t humtrellis_chip_picture(const uint8_t *chip, size_t chip_length, uint8_t phase,
+                                uint8_t *out, size_t out_length, size_t *answer, size_t answer_length);
+
 /* The text of a bus log (docs/BENCH.md) at the front of `out`; the bytes behind it stay. Returns the text's length, which is never 0;
  * returns 0, and nothing is written, if `out` has under HUMTRELLIS_TEXT bytes. A refused log has a text too, its X line. */
 size_t humtrellis_replay(const uint8_t *log, size_t log_length, uint8_t *out, size_t out_length);

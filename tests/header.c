@@ -31,6 +31,14 @@ static uint8_t send_plain(size_t count, const uint8_t *bytes, size_t length) {
     return humtrellis_plain_transfer(chips, count * HUMTRELLIS_CHIP, bytes, length, answer, HUMTRELLIS_ANSWER);
 }
 
+static uint8_t power_on_chip(size_t length) {
+    return humtrellis_chip_power_on(chips, length, answer, HUMTRELLIS_ANSWER);
+}
+
+static uint8_t show_chip(size_t length, uint8_t phase, size_t out_length) {
+    return humtrellis_chip_picture(chips, length, phase, picture, out_length, answer, HUMTRELLIS_ANSWER);
+}
+
 /* One command to group 1 sets one register, and the others stay 0. */
 static void registers_by_name(void) {
     static const struct { uint8_t command; size_t index; uint8_t value; } set[] = {
@@ -128,6 +136,24 @@ static void plain_chips(void) {
     EXPECT(send_plain(9, data, sizeof data) == HUMTRELLIS_REFUSED_CHIP_LIST);
 }
 
+/* Power-on clears the registers, also bad ones, and keeps the rest; the picture is of 160 bytes. */
+static void one_chip(void) {
+    memset(chips, 0, sizeof chips);
+    chips[3] = 9;
+    chips[HUMTRELLIS_CHIP_SA0] = 1;
+    chips[HUMTRELLIS_CHIP_REGISTERS + HUMTRELLIS_P] = 200;
+    EXPECT(power_on_chip(HUMTRELLIS_CHIP) == HUMTRELLIS_TAKEN);
+    EXPECT(chips[3] == 9 && chips[HUMTRELLIS_CHIP_SA0] == 1 && chips[HUMTRELLIS_CHIP_REGISTERS + HUMTRELLIS_P] == 0);
+    chips[HUMTRELLIS_CHIP_REGISTERS + HUMTRELLIS_E] = 1;
+    EXPECT(show_chip(HUMTRELLIS_CHIP, 0, HUMTRELLIS_COLUMNS) == HUMTRELLIS_TAKEN && answer[HUMTRELLIS_LIT] == 2 && picture[3] == 9);
+    EXPECT(show_chip(HUMTRELLIS_CHIP, 2, HUMTRELLIS_COLUMNS) == HUMTRELLIS_REFUSED_VIEW);
+    EXPECT(show_chip(HUMTRELLIS_CHIP, 0, HUMTRELLIS_COLUMNS - 1) == HUMTRELLIS_REFUSED_OUT_LENGTH);
+    chips[HUMTRELLIS_CHIP_SUBADDRESS] = 4;
+    EXPECT(show_chip(HUMTRELLIS_CHIP, 0, HUMTRELLIS_COLUMNS) == HUMTRELLIS_REFUSED_CHIP);
+    EXPECT(power_on_chip(HUMTRELLIS_CHIP) == HUMTRELLIS_REFUSED_CHIP && chips[HUMTRELLIS_CHIP_REGISTERS + HUMTRELLIS_E] == 0);
+    EXPECT(power_on_chip(HUMTRELLIS_CHIP - 1) == HUMTRELLIS_SIZE && show_chip(HUMTRELLIS_CHIP + 1, 0, HUMTRELLIS_COLUMNS) == HUMTRELLIS_SIZE);
+}
+
 /* The text of a log that is refused at a place. */
 static int refused_log(const uint8_t *log, size_t length, int number, int place) {
     char expected[32];
@@ -152,6 +178,7 @@ int main(void) {
     refusals();
     sizes();
     plain_chips();
+    one_chip();
     logs();
     return failures != 0;
 }
