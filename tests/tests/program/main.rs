@@ -58,3 +58,13 @@ fn longest_and_too_long() {
     );
     compare("long_text", &generate::log_of_long_text());
 }
+
+/// A stack of 1,024 KiB is enough, for the longest text too.
+#[test]
+fn small_stack() {
+    for log in [generate::WORKED_LOG.to_vec(), generate::log_of_long_text()] {
+        let file = log_file("small_stack", &log);
+        let ended = run(&format!("ulimit -s 1024; bin/replay '{file}'"));
+        assert_eq!(ended, Ended::new(0, &text_of(&log), ""));
+    }
+}
