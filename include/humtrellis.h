@@ -1,8 +1,20 @@
-/* PCF8532 drivers on one I2C bus: the proved model, for C. Link target/staticlib/libcabi.a, made by `rt staticlib cabi`.
+/* PCF8532 drivers on one I2C bus: the proved model, for C and C++. Link target/staticlib/libcabi.a, made by `rt staticlib cabi`.
  *
- * Every buffer comes with its length. Registers are 18 bytes, group 0's nine and then group 1's, in the order E B M P A I O AB BF.
- * An answer is five numbers. Each call returns answer[0]: 0 for taken, else the refusal's number (docs/CONTRACTS.md);
- * a refused call changes no other buffer. HUMTRELLIS_SIZE is returned, and nothing is written, if registers are not 18 bytes or an answer is not five numbers.
+ * Group 0 (SA0 = 0) has the address byte 0x70 and group 1 (SA0 = 1) 0x72; each has 0 to 4 chips, at subaddresses 0, 1, 2, 3 without a gap.
+ *
+ * RAM         160 bytes a chip: group 0's chips in order, then group 1's. A byte is a column, 0 to 15; bit r is row r.
+ * Registers   18 bytes: group 0's nine, then group 1's, each in the order of enum humtrellis_register.
+ * Plain chip  171 bytes: its 160 columns, SA0 (0 or 1), subaddress (0 to 3) and nine registers.
+ * Picture     160 bytes for each chip of the group shown. A byte is a column; bit r is the element on backplane r.
+ * Answer      five numbers, in the order of enum humtrellis_answer.
+ *
+ * Every call but humtrellis_replay returns its answer's first number: 0 for taken, else the refusal.
+ * A refused call writes its answer and nothing else; a refused power-on writes the power-on registers too.
+ * HUMTRELLIS_SIZE comes before every refusal and nothing at all is written: registers, chips or an answer of another size.
+ *
+ * Each buffer comes with its length, in bytes, or in numbers for an answer. No pointer may be NULL, also where the length is 0.
+ * A buffer that a call writes must not overlap any other buffer of that call.
+ * The library keeps no state and allocates nothing: several threads may call it at once, each with its own buffers.
  */
 #ifndef HUMTRELLIS_H
 #define HUMTRELLIS_H
@@ -10,33 +22,98 @@
 #include <stddef.h>
 #include <stdint.h>
 
+#define HUMTRELLIS_COLUMNS 160 /* of a chip: its bytes in the RAM and in a picture */
+#define HUMTRELLIS_SET 9       /* registers of a group or a chip; group 1's begin at this index */
 #define HUMTRELLIS_REGISTERS 18
 #define HUMTRELLIS_ANSWER 5
 #define HUMTRELLIS_SIZE 255
-#define HUMTRELLIS_CHIP 171
-#define HUMTRELLIS_TEXT 1300000
+#define HUMTRELLIS_TEXT 1300000 /* bytes that hold the text of any log */
 
-/* Power-on: writes the power-on registers, taken or refused; the RAM (160 bytes a chip) is only read. Answer: number, place, 0, 0, 0. */
+#define HUMTRELLIS_CHIP 171
+#define HUMTRELLIS_CHIP_SA0 160 /* indices in a plain chip, after its columns */
+#define HUMTRELLIS_CHIP_SUBADDRESS 161
+#define HUMTRELLIS_CHIP_REGISTERS 162 /* its first register, E */
+
+/* The index of each register in a set of nine, and its range. Power-on: all 0. */
+enum humtrellis_register {
+    HUMTRELLIS_E = 0,  /* 0, 1: the display is on */
+    HUMTRELLIS_B = 1,  /* 0, 1: bias; kept, without effect here */
+    HUMTRELLIS_M = 2,  /* 0 to 3: binary 01, 10, 11, 00 are 1, 2, 3, 4 backplanes */
+    HUMTRELLIS_P = 3,  /* 0 to 159: pointer, a column */
+    HUMTRELLIS_A = 4,  /* 0 to 4: counter, a subaddress; 4 is past the end */
+    HUMTRELLIS_I = 5,  /* 0, 1: input bank */
+    HUMTRELLIS_O = 6,  /* 0, 1: output bank */
+    HUMTRELLIS_AB = 7, /* 0, 1: blink mode; 1 alternates the banks */
+    HUMTRELLIS_BF = 8  /* 0 to 3: blink frequency; 0 is no blinking */
+};
+
+/* The index of each number in an answer. A number that its call does not give is 0. */
+enum humtrellis_answer {
+    HUMTRELLIS_NUMBER = 0,       /* what the call returns too */
+    HUMTRELLIS_PLACE = 1,        /* of a refusal; 0 unless said */
+    HUMTRELLIS_ACKNOWLEDGED = 2, /* bytes; a transfer and a plain transfer */
+    HUMTRELLIS_LIT = 2,          /* elements; a picture */
+    HUMTRELLIS_STORED = 3,       /* bits; a transfer */
+    HUMTRELLIS_DISCARDED = 4     /* bits past the group's last chip; a transfer */
+};
+
+/* What a call returns. */
+enum humtrellis_refusal {
+    HUMTRELLIS_TAKEN = 0,
+    HUMTRELLIS_REFUSED_EMPTY_TRANSFER = 1,
+    HUMTRELLIS_REFUSED_LONG_TRANSFER = 2, /* over 4,096 bytes */
+    HUMTRELLIS_REFUSED_CHIP_COUNT = 3,    /* over 4 in a group */
+    HUMTRELLIS_REFUSED_RAM_LENGTH = 4,    /* not 160 bytes for each chip of both groups */
+    HUMTRELLIS_REFUSED_COLUMN = 5,        /* a RAM byte over 15; place: the first */
+    HUMTRELLIS_REFUSED_REGISTER = 6,      /* out of range, in either group */
+    HUMTRELLIS_REFUSED_COMMAND = 7,       /* undefined, in a transfer that a chip hears; place: the first, the address is byte 0 */
+    HUMTRELLIS_REFUSED_VIEW = 8,          /* group or phase over 1 */
+    HUMTRELLIS_REFUSED_OUT_LENGTH = 9,    /* not 160 bytes for each chip shown */
+    HUMTRELLIS_REFUSED_CHIP_LIST = 10,    /* more than 8 plain chips */
+    HUMTRELLIS_REFUSED_CHIP = 11,         /* a field or column of a plain chip out of range; place: the first such chip */
+    HUMTRELLIS_REFUSED_LOG = 12,          /* under 3 bytes or version not 1; this and the next two stand in a log's text */
+    HUMTRELLIS_REFUSED_RECORD = 13,       /* cut short; place: the offset of its length field */
+    HUMTRELLIS_REFUSED_LOG_LENGTH = 14    /* over 65,536 bytes */
+};
+
+#ifdef __cplusplus
+extern "C" {
+#endif
+
+/* Power-on: the registers become the power-on ones, taken or refused; the RAM is only read. Refusals: 3, 4, 5. */
 uint8_t humtrellis_power_on(uint8_t chips0, uint8_t chips1, const uint8_t *ram, size_t ram_length,
                             uint8_t *registers, size_t registers_length, size_t *answer, size_t answer_length);
 
-/* One transfer, START to STOP, address byte first. Answer: number, place, acknowledged bytes, stored bits, discarded bits. */
+/* One transfer, START to STOP, address byte first: changes registers and RAM. Answer: number, place, acknowledged, stored, discarded.
+ * Refusals: 3, 6, 4, 5, 1, 2, 7. */
 uint8_t humtrellis_transfer(uint8_t chips0, uint8_t chips1, uint8_t *registers, size_t registers_length,
                             uint8_t *ram, size_t ram_length, const uint8_t *bytes, size_t bytes_length,
                             size_t *answer, size_t answer_length);
 
-/* The lit elements of a group at a blink phase: a byte a column, bit r for backplane r. Answer: number, place, lit elements, 0, 0. */
+/* The lit elements of a group (0 or 1) at a blink phase (0 or 1) into `out`. Answer: number, place, lit, 0, 0. Refusals: 3, 6, 4, 5, 8, 9. */
 uint8_t humtrellis_picture(uint8_t chips0, uint8_t chips1, const uint8_t *registers, size_t registers_length,
                            const uint8_t *ram, size_t ram_length, uint8_t group, uint8_t phase,
                            uint8_t *out, size_t out_length, size_t *answer, size_t answer_length);
 
-/* One transfer to at most eight chips, each of which follows every byte by itself: 171 bytes a chip, its 160 columns, SA0, subaddress, E B M P A I O AB BF.
- * Answer: number, place, acknowledged bytes, 0, 0. HUMTRELLIS_SIZE also if the chips are not 171 bytes each. */
+/* One transfer to a list of 0 to 8 plain chips, each of which follows every byte by itself; gaps and repeated subaddresses are allowed.
+ * Answer: number, place, acknowledged (a byte counts once), 0, 0. Refusals: 10, 11, 1, 2, 7. */
 uint8_t humtrellis_plain_transfer(uint8_t *chips, size_t chips_length, const uint8_t *bytes, size_t bytes_length,
                                   size_t *answer, size_t answer_length);
 
-/* The text of a bus log (docs/BENCH.md), written from the start of a buffer of at least HUMTRELLIS_TEXT bytes, which hold any text.
- * Returns its length; 0, and nothing is written, for a smaller buffer. A refused log has a text too, its X line. */
+/* Power-on of one plain chip: its registers become the power-on ones, taken or refused, and its other bytes stay.
+ * Refusal: 11 with place 0, for SA0, subaddress or a column. */
+uint8_t humtrellis_chip_power_on(uint8_t *chip, size_t chip_length, size_t *answer, size_t answer_length);
+
+/* The lit elements of one plain chip at a blink phase into 160 bytes. Answer: number, place, lit, 0, 0. Refusals: 11 with place 0, 8, 9. */
+uint8_t humtrellis_chip_picture(const uint8_t *chip, size_t chip_length, uint8_t phase,
+                                uint8_t *out, size_t out_length, size_t *answer, size_t answer_length);
+
+/* The text of a bus log (docs/BENCH.md) at the front of `out`; the bytes behind it stay. Returns the text's length, which is never 0;
+ * returns 0, and nothing is written, if `out` has under HUMTRELLIS_TEXT bytes. A refused log has a text too, its X line. */
 size_t humtrellis_replay(const uint8_t *log, size_t log_length, uint8_t *out, size_t out_length);
+
+#ifdef __cplusplus
+}
+#endif
 
 #endif

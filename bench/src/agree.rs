@@ -1,7 +1,8 @@
 //! Before anything is timed: all ways must give the same answers, registers, columns and pictures.
 
+use crate::library::Numbers;
 use crate::samples::{self, Bus, MODES};
-use crate::ways::{Numbers, Way, WAYS};
+use crate::ways::{Way, WAYS};
 use humtrellis_tests::generate;
 use humtrellis_tests::model::COLUMNS;
 use humtrellis_tests::random::Random;

@@ -1,7 +1,11 @@
 //! (a): the proved library, through the calls of include/humtrellis.h.
 
-use crate::ways::{Numbers, RegisterBytes};
-use humtrellis_tests::model::View;
+use humtrellis_tests::model::{View, REGISTERS};
+
+/// Both groups' registers as bytes.
+pub type RegisterBytes = [u8; REGISTERS];
+/// Refusal number, place and three counts.
+pub type Numbers = [usize; 5];
 
 #[rustfmt::skip]
 extern "C" {

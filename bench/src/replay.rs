@@ -3,11 +3,9 @@
 use crate::samples::{self, TURNS};
 use crate::timing::{figures, Call, Figure};
 use crate::{library, report};
+use humtrellis_tests::header::text_room;
 use humtrellis_tests::model;
 use std::hint::black_box;
-
-/// Room for the text of any log.
-const ROOM: usize = 1_300_000;
 
 /// Both must write the same text before either is timed.
 fn check(logs: &[Vec<u8>], out: &mut [u8]) -> Result<(), String> {
@@ -32,7 +30,7 @@ fn measure(logs: &[Vec<u8>], out: &mut [u8]) -> [Figure; 2] {
 
 pub fn run() -> Result<(), String> {
     let logs = samples::logs();
-    let mut out = vec![0; ROOM];
+    let mut out = vec![0; text_room()];
     check(&logs, &mut out)?;
     report::replay(logs[0].len(), measure(&logs, &mut out));
     Ok(())

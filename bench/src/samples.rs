@@ -1,6 +1,6 @@
 //! The inputs: transfers that fill four chips, buses to show, and logs; the same in every run.
 
-use crate::ways::RegisterBytes;
+use crate::library::RegisterBytes;
 use humtrellis_tests::generate::commands_then_data;
 use humtrellis_tests::model::{Registers, View, COLUMNS, REGISTERS, SET};
 use humtrellis_tests::random::Random;

@@ -1,12 +1,8 @@
 //! The three ways to carry out a call, behind one signature each, so that all are called alike.
 
-use crate::{library, table_loop};
-use humtrellis_tests::model::{self, View, REGISTERS};
-
-/// Both groups' registers as bytes.
-pub type RegisterBytes = [u8; REGISTERS];
-/// Refusal number, place and three counts.
-pub type Numbers = [usize; 5];
+use crate::library::{self, Numbers, RegisterBytes};
+use crate::table_loop;
+use humtrellis_tests::model::{self, View};
 
 pub struct Way {
     pub name: &'static str,

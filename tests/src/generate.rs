@@ -286,3 +286,11 @@ pub fn log(random: &mut Random) -> Vec<u8> {
 pub fn too_long_log(random: &mut Random) -> Vec<u8> {
     log_of_length(random, LOG_LIMIT + 1)
 }
+
+/// A log of about the longest text: every column lit by two transfers, then empty records.
+pub fn log_of_long_text() -> Vec<u8> {
+    let lit = [0x70, 0x72].map(|address| commands_then_data(address, &[0xC9], &[0xFF; 80]));
+    let mut log = log_of(4, 4, &lit);
+    log.resize(LOG_LIMIT - (LOG_LIMIT - log.len()) % 2, 0);
+    log
+}

@@ -1,5 +1,6 @@
 //! An independent model of paper 01, and generators of inputs for it.
 
 pub mod generate;
+pub mod header;
 pub mod model;
 pub mod random;

@@ -1,6 +1,6 @@
 //! The calls of include/humtrellis.h, over buffers with a fence on both sides.
 
-/// Returned, with nothing written, for registers or an answer of another size.
+/// Returned, with nothing written, for registers, chips or an answer of another size.
 pub const SIZE: u8 = 255;
 
 #[rustfmt::skip]
@@ -24,6 +24,15 @@ extern "C" {
 
     fn humtrellis_plain_transfer(
         chips: *mut u8, chips_length: usize, bytes: *const u8, bytes_length: usize,
+        answer: *mut usize, answer_length: usize,
+    ) -> u8;
+
+    fn humtrellis_chip_power_on(
+        chip: *mut u8, chip_length: usize, answer: *mut usize, answer_length: usize,
+    ) -> u8;
+
+    fn humtrellis_chip_picture(
+        chip: *const u8, chip_length: usize, phase: u8, out: *mut u8, out_length: usize,
         answer: *mut usize, answer_length: usize,
     ) -> u8;
 
@@ -176,6 +185,36 @@ pub fn plain_transfer(chips: &mut [u8], sent: &mut [u8], answer: &mut [usize]) -
     };
     c.back(chips);
     b.back(sent);
+    a.back(answer);
+    number
+}
+
+pub fn chip_power_on(chip: &mut [u8], answer: &mut [usize]) -> u8 {
+    let (mut c, mut a) = (bytes(chip), numbers(answer));
+    // Safety: each pointer goes with the length of the buffer that it points to.
+    let number =
+        unsafe { humtrellis_chip_power_on(c.pointer(), c.length(), a.pointer(), a.length()) };
+    c.back(chip);
+    a.back(answer);
+    number
+}
+
+pub fn chip_picture(chip: &mut [u8], phase: u8, out: &mut [u8], answer: &mut [usize]) -> u8 {
+    let (mut c, mut o, mut a) = (bytes(chip), bytes(out), numbers(answer));
+    // Safety: each pointer goes with the length of the buffer that it points to.
+    let number = unsafe {
+        humtrellis_chip_picture(
+            c.pointer(),
+            c.length(),
+            phase,
+            o.pointer(),
+            o.length(),
+            a.pointer(),
+            a.length(),
+        )
+    };
+    c.back(chip);
+    o.back(out);
     a.back(answer);
     number
 }

@@ -5,6 +5,7 @@
 compile_error!("target/staticlib/libcabi.a is missing: run rt staticlib cabi first");
 
 mod case;
+mod chip;
 mod fault;
 mod library;
 mod orders;

@@ -5,16 +5,17 @@ use crate::{fault, for_seeds};
 use humtrellis_tests::model::{self, Chip, Registers, COLUMNS};
 use humtrellis_tests::random::Random;
 
-const CHIP: usize = 171;
+/// Bytes of a chip.
+pub const CHIP: usize = 171;
 
-fn chip_of(bytes: &[u8]) -> Chip {
+pub fn chip_of(bytes: &[u8]) -> Chip {
     let mut chip = Chip::new(bytes[COLUMNS], bytes[COLUMNS + 1]);
     chip.columns.copy_from_slice(&bytes[..COLUMNS]);
     chip.registers = Registers::from_bytes(&bytes[COLUMNS + 2..]);
     chip
 }
 
-fn bytes_of(chip: &Chip) -> Vec<u8> {
+pub fn bytes_of(chip: &Chip) -> Vec<u8> {
     let registers = chip.registers.to_bytes();
     [&chip.columns[..], &[chip.sa0, chip.subaddress], &registers].concat()
 }
@@ -33,7 +34,7 @@ fn by_model(chips: &mut [u8], sent: &[u8], answer: &mut [usize]) -> u8 {
 }
 
 /// Makes the call both ways on `chips` and holds all results together.
-fn compare(chips: &mut [u8], sent: &[u8], answer_length: usize) -> u8 {
+pub fn compare(chips: &mut [u8], sent: &[u8], answer_length: usize) -> u8 {
     let given = chips.to_vec();
     let mut others = chips.to_vec();
     let mut answer = vec![77; answer_length];
@@ -57,7 +58,7 @@ fn chip(random: &mut Random, set: &[u8]) -> Vec<u8> {
 }
 
 /// Chips with equal registers or each with its own; gaps and repeated subaddresses.
-fn chips(random: &mut Random, count: usize) -> Vec<u8> {
+pub fn chips(random: &mut Random, count: usize) -> Vec<u8> {
     let common = fault::registers(random);
     let equal = random.one_in(2);
     let mut chips = Vec::new();

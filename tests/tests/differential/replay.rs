@@ -2,15 +2,13 @@
 
 use crate::{for_seeds, library};
 use humtrellis_tests::generate;
+use humtrellis_tests::header::text_room;
 use humtrellis_tests::model::{log_text, LOG_LIMIT};
 use humtrellis_tests::random::Random;
 
-/// The room that the header asks for: the text of any log.
-const ROOM: usize = 1_300_000;
-
 /// Replays a log into a buffer with room enough and holds the text to the model's; the rest of the buffer stays.
 fn compare(log: &[u8]) {
-    let mut out = vec![0xEE; ROOM + 1];
+    let mut out = vec![0xEE; text_room() + 1];
     let mut lent = log.to_vec();
     let length = library::replay(&mut lent, &mut out);
     let expected = log_text(log);
@@ -35,12 +33,12 @@ fn replay_paper() {
 #[test]
 fn replay_small_buffer() {
     for log in [&generate::WORKED_LOG[..], &[], &[1, 0, 0]] {
-        for room in [0, 1, 100, ROOM - 1] {
+        for room in [0, 1, 100, text_room() - 1] {
             let mut out = vec![0xEE; room];
             assert_eq!(library::replay(&mut log.to_vec(), &mut out), 0);
             assert!(out.iter().all(|&byte| byte == 0xEE));
         }
-        let mut out = vec![0xEE; ROOM];
+        let mut out = vec![0xEE; text_room()];
         let length = library::replay(&mut log.to_vec(), &mut out);
         assert_eq!(out[..length], log_text(log));
     }
@@ -58,6 +56,5 @@ fn replay_long() {
         compare(&generate::log_of_length(&mut random, length));
         compare(&vec![1; length]);
     }
-    let empty_records = [vec![1, 4, 4], vec![0; LOG_LIMIT - 4]].concat();
-    compare(&empty_records);
+    compare(&generate::log_of_long_text());
 }

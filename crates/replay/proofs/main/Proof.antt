@@ -1,56 +1,44 @@
--- `replay::main` is safe: what was replayed is a count of bytes of the buffer.
+-- `replay::main` is safe: what was read is a count of bytes of the buffer.
 -- Assumes nothing.
-use mathlib.Core.Path.{sym, _∙_}
-use Prim.Native.Nat.{_≤_}
-use native.Mathlib.Omega.{arith}
-use lib.ListN.{length}
-use lib.Seq.{length-take-le}
-use Rattle.buslog.proofs.Room.{count-few}
+use mathlib.Core.Path.{subst}
+use Rattle.io.specs.Counts.{Counts}
 use borrow.Author.Needs.{needs}
+use Rattle.replay.specs.Reads.{Within}
 use Rattle.replay.proofs.main.Statement.{statement}
 use Rattle.replay.proofs.main.Tie as tie
 
-counted : (c : tie.After-count) → c .count .given .0 .0 ≤ length (c .before .before .before .replay .last .1 .0)
-counted c = let d = c .before .before .before in omega (arith, count-few _ _ _ (sym (d .replay .ensures .1) ∙ c .count .given .1), d .replay .kept .1 .0)
+counted : (c : tie.After-count) → Counts (c .count .given .0 .0) (c .before .before .before .read-input .last .0)
+counted c = subst (λ input. Within input (c .before .before .before .read-input .last .0)) (c .count .given .1) (c .before .before .before .read-input .ensures)
 
 log-buffer-requires : tie.Need-log-buffer-requires
 log-buffer-requires c κs = search needs
 
-slice-aggregate-read-full : tie.Need-slice-aggregate-read-full
-slice-aggregate-read-full c = search needs
+slice-aggregate-read-input : tie.Need-slice-aggregate-read-input
+slice-aggregate-read-input c = search needs
 
-read-full-requires : tie.Need-read-full-requires
-read-full-requires c κs = search needs
-
-text-buffer-requires : tie.Need-text-buffer-requires
-text-buffer-requires c κs = search needs
-
-array-share-prefix-log : tie.Need-array-share-prefix-log
-array-share-prefix-log c = search needs
-
-slice-aggregate-replay : tie.Need-slice-aggregate-replay
-slice-aggregate-replay c = search needs
-
-slice-aggregate-replay-2 : tie.Need-slice-aggregate-replay-2
-slice-aggregate-replay-2 c = search needs
-
-replay-requires : tie.Need-replay-requires
-replay-requires c κs = search needs
+read-input-requires : tie.Need-read-input-requires
+read-input-requires c κs = search needs
 
 enum-known-count : tie.Need-enum-known-count
 enum-known-count c = search needs
 
-array-share-prefix-out : tie.Need-array-share-prefix-out
-array-share-prefix-out c = counted (c .before)
+array-share-prefix-log : tie.Need-array-share-prefix-log
+array-share-prefix-log c = counted (c .before) .0
 
-slice-aggregate-write-all : tie.Need-slice-aggregate-write-all
-slice-aggregate-write-all c = sym (length-take-le _ _ (counted (c .before .before)))
+slice-aggregate-replay-log : tie.Need-slice-aggregate-replay-log
+slice-aggregate-replay-log c = counted (c .before .before) .1
 
-write-all-requires : tie.Need-write-all-requires
-write-all-requires c κs = search needs
+replay-log-requires : tie.Need-replay-log-requires
+replay-log-requires c κs = search needs
 
 enum-told : tie.Need-enum-told
 enum-told c = search needs
+
+slice-aggregate-fail : tie.Need-slice-aggregate-fail
+slice-aggregate-fail c = search needs
+
+fail-requires : tie.Need-fail-requires
+fail-requires c κs = search needs
 
 returns : tie.Need-returns
 returns c = search needs
@@ -63,17 +51,14 @@ main-spec =
     tie.close
     (tie.spec
     log-buffer-requires
-    slice-aggregate-read-full
-    read-full-requires
-    text-buffer-requires
-    array-share-prefix-log
-    slice-aggregate-replay
-    slice-aggregate-replay-2
-    replay-requires
+    slice-aggregate-read-input
+    read-input-requires
     enum-known-count
-    array-share-prefix-out
-    slice-aggregate-write-all
-    write-all-requires
+    array-share-prefix-log
+    slice-aggregate-replay-log
+    replay-log-requires
     enum-told
+    slice-aggregate-fail
+    fail-requires
     returns
     returns-2)

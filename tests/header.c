@@ -1,0 +1,184 @@
+/* Every name of include/humtrellis.h against the library, compiled as C and as C++. What is expected comes from the paper. */
+#include <stdio.h>
+#include <string.h>
+
+#include "../include/humtrellis.h"
+
+static int failures = 0;
+
+#define EXPECT(fact) ((fact) ? (void)0 : (void)(failures++, printf("tests/header.c:%d: not so: %s\n", __LINE__, #fact)))
+
+/* A bus of one chip in each group. */
+enum { RAM = 2 * HUMTRELLIS_COLUMNS };
+static uint8_t registers[HUMTRELLIS_REGISTERS], ram[RAM], picture[HUMTRELLIS_COLUMNS], chips[9 * HUMTRELLIS_CHIP], text[HUMTRELLIS_TEXT];
+static uint8_t many[65537];
+static size_t answer[HUMTRELLIS_ANSWER];
+
+static uint8_t power_on(void) {
+    memset(ram, 0, sizeof ram);
+    return humtrellis_power_on(1, 1, ram, sizeof ram, registers, sizeof registers, answer, HUMTRELLIS_ANSWER);
+}
+
+static uint8_t send(const uint8_t *bytes, size_t length) {
+    return humtrellis_transfer(1, 1, registers, sizeof registers, ram, sizeof ram, bytes, length, answer, HUMTRELLIS_ANSWER);
+}
+
+static uint8_t show(uint8_t group, uint8_t phase, size_t length) {
+    return humtrellis_picture(1, 1, registers, sizeof registers, ram, sizeof ram, group, phase, picture, length, answer, HUMTRELLIS_ANSWER);
+}
+
+static uint8_t send_plain(size_t count, const uint8_t *bytes, size_t length) {
+    return humtrellis_plain_transfer(chips, count * HUMTRELLIS_CHIP, bytes, length, answer, HUMTRELLIS_ANSWER);
+}
+
+static uint8_t power_on_chip(size_t length) {
+    return humtrellis_chip_power_on(chips, length, answer, HUMTRELLIS_ANSWER);
+}
+
+static uint8_t show_chip(size_t length, uint8_t phase, size_t out_length) {
+    return humtrellis_chip_picture(chips, length, phase, picture, out_length, answer, HUMTRELLIS_ANSWER);
+}
+
+/* One command to group 1 sets one register, and the others stay 0. */
+static void registers_by_name(void) {
+    static const struct { uint8_t command; size_t index; uint8_t value; } set[] = {
+        {0xC8, HUMTRELLIS_E, 1}, {0xC4, HUMTRELLIS_B, 1}, {0xC2, HUMTRELLIS_M, 2},  {0x09, HUMTRELLIS_P, 144}, {0xE3, HUMTRELLIS_A, 3},
+        {0xFA, HUMTRELLIS_I, 1}, {0xF9, HUMTRELLIS_O, 1}, {0xF4, HUMTRELLIS_AB, 1}, {0xF2, HUMTRELLIS_BF, 2},
+    };
+    for (size_t i = 0; i < HUMTRELLIS_SET; i++) {
+        const uint8_t bytes[] = {0x72, 0x00, set[i].command};
+        EXPECT(power_on() == HUMTRELLIS_TAKEN);
+        EXPECT(send(bytes, sizeof bytes) == HUMTRELLIS_TAKEN);
+        for (size_t index = 0; index < HUMTRELLIS_REGISTERS; index++)
+            EXPECT(registers[index] == (index == HUMTRELLIS_SET + set[i].index ? set[i].value : 0));
+    }
+}
+
+/* The greatest value of each register is taken, and one more refused. */
+static void ranges(void) {
+    static const struct { size_t index; uint8_t greatest; } range[] = {
+        {HUMTRELLIS_E, 1}, {HUMTRELLIS_B, 1}, {HUMTRELLIS_M, 3},  {HUMTRELLIS_P, 159}, {HUMTRELLIS_A, 4},
+        {HUMTRELLIS_I, 1}, {HUMTRELLIS_O, 1}, {HUMTRELLIS_AB, 1}, {HUMTRELLIS_BF, 3},
+    };
+    const uint8_t address[] = {0x70};
+    for (size_t i = 0; i < HUMTRELLIS_SET; i++) {
+        power_on();
+        registers[range[i].index] = range[i].greatest;
+        EXPECT(send(address, 1) == HUMTRELLIS_TAKEN);
+        registers[range[i].index]++;
+        EXPECT(send(address, 1) == HUMTRELLIS_REFUSED_REGISTER);
+    }
+}
+
+/* A data byte covers 8, 4, 3, 2 columns for 1, 2, 3, 4 backplanes. */
+static void modes(void) {
+    static const struct { uint8_t mode, columns; } width[] = {{1, 8}, {2, 4}, {3, 3}, {0, 2}};
+    const uint8_t data[] = {0x70, 0x40, 0xFF};
+    for (size_t i = 0; i < 4; i++) {
+        power_on();
+        registers[HUMTRELLIS_M] = width[i].mode;
+        EXPECT(send(data, sizeof data) == HUMTRELLIS_TAKEN);
+        EXPECT(registers[HUMTRELLIS_P] == width[i].columns);
+    }
+}
+
+/* 1:3, one chip, pointer 159, FF: 3 bits stored, 5 discarded, the data byte not acknowledged. */
+static void answers(void) {
+    const uint8_t past_the_end[] = {0x70, 0x80, 0xCB, 0x80, 0x09, 0x80, 0x4F, 0x40, 0xFF};
+    const uint8_t group1[] = {0x72, 0x80, 0xC8, 0x40, 0xA5};
+    EXPECT(power_on() == HUMTRELLIS_TAKEN);
+    EXPECT(send(past_the_end, sizeof past_the_end) == HUMTRELLIS_TAKEN);
+    EXPECT(answer[HUMTRELLIS_ACKNOWLEDGED] == 8 && answer[HUMTRELLIS_STORED] == 3 && answer[HUMTRELLIS_DISCARDED] == 5);
+    EXPECT(ram[HUMTRELLIS_COLUMNS - 1] == 7 && ram[HUMTRELLIS_COLUMNS] == 0);
+    EXPECT(send(group1, sizeof group1) == HUMTRELLIS_TAKEN);
+    EXPECT(ram[HUMTRELLIS_COLUMNS] == 5 && ram[HUMTRELLIS_COLUMNS + 1] == 10);
+    EXPECT(show(1, 0, sizeof picture) == HUMTRELLIS_TAKEN);
+    EXPECT(answer[HUMTRELLIS_LIT] == 4 && picture[0] == 5 && picture[1] == 10);
+}
+
+static void refusals(void) {
+    const uint8_t undefined[] = {0x70, 0x00, 0x00, 0xFC};
+    EXPECT(power_on() == HUMTRELLIS_TAKEN);
+    EXPECT(send(undefined, 0) == HUMTRELLIS_REFUSED_EMPTY_TRANSFER);
+    EXPECT(send(many, 4097) == HUMTRELLIS_REFUSED_LONG_TRANSFER);
+    EXPECT(send(undefined, sizeof undefined) == HUMTRELLIS_REFUSED_COMMAND);
+    EXPECT(answer[HUMTRELLIS_NUMBER] == HUMTRELLIS_REFUSED_COMMAND && answer[HUMTRELLIS_PLACE] == 3);
+    EXPECT(show(2, 0, sizeof picture) == HUMTRELLIS_REFUSED_VIEW && show(0, 2, sizeof picture) == HUMTRELLIS_REFUSED_VIEW);
+    EXPECT(show(0, 0, sizeof picture - 1) == HUMTRELLIS_REFUSED_OUT_LENGTH);
+    EXPECT(humtrellis_power_on(5, 0, ram, 0, registers, sizeof registers, answer, HUMTRELLIS_ANSWER) == HUMTRELLIS_REFUSED_CHIP_COUNT);
+    EXPECT(humtrellis_power_on(1, 0, ram, 0, registers, sizeof registers, answer, HUMTRELLIS_ANSWER) == HUMTRELLIS_REFUSED_RAM_LENGTH);
+    ram[7] = 16;
+    registers[HUMTRELLIS_E] = 1;
+    EXPECT(humtrellis_power_on(1, 1, ram, RAM, registers, sizeof registers, answer, HUMTRELLIS_ANSWER) == HUMTRELLIS_REFUSED_COLUMN);
+    EXPECT(answer[HUMTRELLIS_PLACE] == 7 && registers[HUMTRELLIS_E] == 0);
+}
+
+static void sizes(void) {
+    EXPECT(humtrellis_power_on(1, 1, ram, RAM, registers, HUMTRELLIS_REGISTERS - 1, answer, HUMTRELLIS_ANSWER) == HUMTRELLIS_SIZE);
+    EXPECT(humtrellis_power_on(1, 1, ram, RAM, registers, HUMTRELLIS_REGISTERS, answer, HUMTRELLIS_ANSWER - 1) == HUMTRELLIS_SIZE);
+    EXPECT(humtrellis_plain_transfer(chips, HUMTRELLIS_CHIP - 1, ram, 1, answer, HUMTRELLIS_ANSWER) == HUMTRELLIS_SIZE);
+}
+
+/* Two chips at one place: SA0 1, subaddress 2. A byte that both acknowledge counts once. */
+static void plain_chips(void) {
+    const uint8_t data[] = {0x72, 0x80, 0xE2, 0x40, 0xA5};
+    uint8_t *second = chips + HUMTRELLIS_CHIP;
+    memset(chips, 0, sizeof chips);
+    chips[HUMTRELLIS_CHIP_SA0] = second[HUMTRELLIS_CHIP_SA0] = 1;
+    chips[HUMTRELLIS_CHIP_SUBADDRESS] = second[HUMTRELLIS_CHIP_SUBADDRESS] = 2;
+    second[HUMTRELLIS_CHIP_REGISTERS + HUMTRELLIS_P] = 7;
+    EXPECT(send_plain(2, data, sizeof data) == HUMTRELLIS_TAKEN);
+    EXPECT(answer[HUMTRELLIS_ACKNOWLEDGED] == 5);
+    EXPECT(chips[0] == 5 && chips[1] == 10 && second[7] == 5 && second[8] == 10);
+    EXPECT(second[HUMTRELLIS_CHIP_REGISTERS + HUMTRELLIS_P] == 9);
+    second[HUMTRELLIS_CHIP_SUBADDRESS] = 4;
+    EXPECT(send_plain(2, data, sizeof data) == HUMTRELLIS_REFUSED_CHIP && answer[HUMTRELLIS_PLACE] == 1);
+    EXPECT(send_plain(9, data, sizeof data) == HUMTRELLIS_REFUSED_CHIP_LIST);
+}
+
+/* Power-on clears the registers, also bad ones, and keeps the rest; the picture is of 160 bytes. */
+static void one_chip(void) {
+    memset(chips, 0, sizeof chips);
+    chips[3] = 9;
+    chips[HUMTRELLIS_CHIP_SA0] = 1;
+    chips[HUMTRELLIS_CHIP_REGISTERS + HUMTRELLIS_P] = 200;
+    EXPECT(power_on_chip(HUMTRELLIS_CHIP) == HUMTRELLIS_TAKEN);
+    EXPECT(chips[3] == 9 && chips[HUMTRELLIS_CHIP_SA0] == 1 && chips[HUMTRELLIS_CHIP_REGISTERS + HUMTRELLIS_P] == 0);
+    chips[HUMTRELLIS_CHIP_REGISTERS + HUMTRELLIS_E] = 1;
+    EXPECT(show_chip(HUMTRELLIS_CHIP, 0, HUMTRELLIS_COLUMNS) == HUMTRELLIS_TAKEN && answer[HUMTRELLIS_LIT] == 2 && picture[3] == 9);
+    EXPECT(show_chip(HUMTRELLIS_CHIP, 2, HUMTRELLIS_COLUMNS) == HUMTRELLIS_REFUSED_VIEW);
+    EXPECT(show_chip(HUMTRELLIS_CHIP, 0, HUMTRELLIS_COLUMNS - 1) == HUMTRELLIS_REFUSED_OUT_LENGTH);
+    chips[HUMTRELLIS_CHIP_SUBADDRESS] = 4;
+    EXPECT(show_chip(HUMTRELLIS_CHIP, 0, HUMTRELLIS_COLUMNS) == HUMTRELLIS_REFUSED_CHIP);
+    EXPECT(power_on_chip(HUMTRELLIS_CHIP) == HUMTRELLIS_REFUSED_CHIP && chips[HUMTRELLIS_CHIP_REGISTERS + HUMTRELLIS_E] == 0);
+    EXPECT(power_on_chip(HUMTRELLIS_CHIP - 1) == HUMTRELLIS_SIZE && show_chip(HUMTRELLIS_CHIP + 1, 0, HUMTRELLIS_COLUMNS) == HUMTRELLIS_SIZE);
+}
+
+/* The text of a log that is refused at a place. */
+static int refused_log(const uint8_t *log, size_t length, int number, int place) {
+    char expected[32];
+    const int count = snprintf(expected, sizeof expected, "X %d %d\n", number, place);
+    return humtrellis_replay(log, length, text, sizeof text) == (size_t)count && memcmp(text, expected, (size_t)count) == 0;
+}
+
+static void logs(void) {
+    const uint8_t cut[] = {1, 1, 0, 0, 1, 0x70, 0, 2, 0x70}, crowded[] = {1, 0, 5};
+    EXPECT(refused_log(cut, 2, HUMTRELLIS_REFUSED_LOG, 0));
+    EXPECT(refused_log(crowded, sizeof crowded, HUMTRELLIS_REFUSED_CHIP_COUNT, 0));
+    EXPECT(refused_log(cut, sizeof cut, HUMTRELLIS_REFUSED_RECORD, 6));
+    EXPECT(refused_log(many, sizeof many, HUMTRELLIS_REFUSED_LOG_LENGTH, 0));
+    EXPECT(humtrellis_replay(cut, sizeof cut, text, HUMTRELLIS_TEXT - 1) == 0);
+}
+
+int main(void) {
+    registers_by_name();
+    ranges();
+    modes();
+    answers();
+    refusals();
+    sizes();
+    plain_chips();
+    one_chip();
+    logs();
+    return failures != 0;
+}

@@ -1,0 +1,232 @@
+//! One plain chip: power-on and picture.
+
+use crate::library::{self, SIZE};
+use crate::plain::{bytes_of, chip_of, chips, CHIP};
+use crate::{fault, for_seeds, plain};
+use humtrellis_tests::model::{self, COLUMNS};
+use humtrellis_tests::random::Random;
+
+/// A call, with the bytes of its chip first.
+#[derive(Clone, Debug, PartialEq)]
+struct Call {
+    chip: Vec<u8>,
+    phase: u8,
+    out: Vec<u8>,
+    answer: Vec<usize>,
+}
+
+impl Call {
+    fn new(chip: &[u8]) -> Self {
+        Call {
+            chip: chip.to_vec(),
+            phase: 0,
+            out: vec![0xEE; COLUMNS],
+            answer: vec![77; 5],
+        }
+    }
+
+    fn sizes_fit(&self) -> bool {
+        self.chip.len() == CHIP && self.answer.len() == 5
+    }
+
+    fn power_on_by_model(&mut self) -> u8 {
+        if !self.sizes_fit() {
+            return SIZE;
+        }
+        let mut chip = chip_of(&self.chip);
+        let answer = model::plain_power_on(&mut chip);
+        self.chip = bytes_of(&chip);
+        self.answer = answer.numbers().to_vec();
+        answer.number as u8
+    }
+
+    fn picture_by_model(&mut self) -> u8 {
+        if !self.sizes_fit() {
+            return SIZE;
+        }
+        let answer = model::plain_picture(&chip_of(&self.chip), self.phase, &mut self.out);
+        self.answer = answer.numbers().to_vec();
+        answer.number as u8
+    }
+
+    /// Holds a call's number and buffers to the model's.
+    fn hold(&self, what: &str, given: &Call, number: u8, other: &Call, expected: u8) {
+        assert!(
+            number == expected && self == other,
+            "{what} differs\n given {given:?}\n library {number} {self:?}\n model {expected} {other:?}"
+        );
+    }
+
+    /// Powers the chip on both ways.
+    fn power_on(&mut self) -> u8 {
+        let (given, mut other) = (self.clone(), self.clone());
+        let number = library::chip_power_on(&mut self.chip, &mut self.answer);
+        let expected = other.power_on_by_model();
+        self.hold("chip power-on", &given, number, &other, expected);
+        number
+    }
+
+    /// Shows the chip both ways.
+    fn picture(&mut self) -> u8 {
+        let (given, mut other) = (self.clone(), self.clone());
+        let (out, answer) = (&mut self.out, &mut self.answer);
+        let number = library::chip_picture(&mut self.chip, self.phase, out, answer);
+        let expected = other.picture_by_model();
+        self.hold("chip picture", &given, number, &other, expected);
+        number
+    }
+
+    /// Both calls, each on a copy.
+    fn both(&self) -> [u8; 2] {
+        [self.clone().power_on(), self.clone().picture()]
+    }
+}
+
+/// A chip whose columns have every value.
+fn patterned() -> Vec<u8> {
+    let mut chip = vec![0; CHIP];
+    for (place, column) in chip[..COLUMNS].iter_mut().enumerate() {
+        *column = (place * 7 % 16) as u8;
+    }
+    chip
+}
+
+/// The greatest value of each byte of a chip: columns, SA0, subaddress, E B M P A I O AB BF.
+fn limits() -> Vec<u8> {
+    [&[15; COLUMNS][..], &[1, 3], &[1, 1, 3, 159, 4, 1, 1, 1, 3]].concat()
+}
+
+/// Power-on, then transfers with the state carried over, and both phases between.
+#[test]
+fn chip_sequences() {
+    for_seeds(1500, |random| {
+        let mut call = Call::new(&chips(random, 1));
+        assert_eq!(call.power_on(), 0);
+        for _ in 0..30 {
+            plain::compare(&mut call.chip, &fault::transfer(random), 5);
+            for phase in 0..2 {
+                call.phase = phase;
+                assert_eq!(call.picture(), 0);
+            }
+        }
+    });
+}
+
+/// Any bytes changed, any sizes, any phase.
+#[test]
+fn chip_damaged() {
+    for_seeds(30_000, |random| {
+        let mut call = Call::new(&chips(random, 1));
+        for _ in 0..random.below(4) {
+            let any = random.below(CHIP);
+            let field = COLUMNS + random.below(11);
+            call.chip[random.pick(&[any, field])] = random.byte();
+        }
+        call.phase = random.pick(&[0, 0, 0, 1, 1, 1, 2, 255]);
+        let out = about(random, COLUMNS);
+        call.out = random.bytes(out);
+        call.chip.resize(about(random, CHIP), 1);
+        call.answer.resize(about(random, 5), 3);
+        call.both();
+    });
+}
+
+/// Mostly the right length, now and then another.
+fn about(random: &mut Random, right: usize) -> usize {
+    match random.one_in(6) {
+        true => random.pick(&[0, right - 1, right + 1, 2 * right]),
+        false => right,
+    }
+}
+
+/// Every value of every byte of a chip: power-on refuses identity and columns alone, a picture the registers too.
+#[test]
+fn chip_every_field() {
+    for (place, limit) in limits().into_iter().enumerate() {
+        for value in 0..=255 {
+            let mut chip = patterned();
+            chip[COLUMNS + 2] = 1;
+            chip[place] = value;
+            let wrong = value > limit;
+            let on = if wrong && place < COLUMNS + 2 { 11 } else { 0 };
+            let shown = if wrong { 11 } else { 0 };
+            assert_eq!(Call::new(&chip).both(), [on, shown]);
+        }
+    }
+}
+
+/// Power-on, taken and refused, of a chip whose registers are all out of range: they become 0, the rest stays.
+#[test]
+fn chip_power_on_registers() {
+    for (sa0, number) in [(1, 0), (2, 11)] {
+        let mut chip = patterned();
+        chip[COLUMNS..].fill(255);
+        chip[COLUMNS] = sa0;
+        chip[COLUMNS + 1] = 2;
+        let mut call = Call::new(&chip);
+        assert_eq!(call.power_on(), number);
+        assert_eq!(call.chip[..COLUMNS + 2], chip[..COLUMNS + 2]);
+        assert_eq!(call.chip[COLUMNS + 2..], [0; 9]);
+        assert_eq!(call.answer, [number as usize, 0, 0, 0, 0]);
+    }
+}
+
+/// Every mode, bank and blink setting, on and off, at both phases.
+#[test]
+fn chip_every_picture() {
+    for state in 0..2 * 2 * 4 * 2 * 2 * 2 * 4 {
+        let (e, b, m) = (state % 2, state / 2 % 2, state / 4 % 4);
+        let (i, o) = (state / 16 % 2, state / 32 % 2);
+        let (ab, bf) = (state / 64 % 2, state / 128);
+        let mut call = Call::new(&patterned());
+        let set = [e, b, m, state % 160, state % 5, i, o, ab, bf];
+        call.chip[COLUMNS + 2..].copy_from_slice(&set.map(|value| value as u8));
+        for phase in 0..2 {
+            call.phase = phase;
+            assert_eq!(call.clone().picture(), 0);
+        }
+    }
+}
+
+/// Every set of faults at once: 11, 8, 9; a register out of range matters to a picture alone.
+#[test]
+fn chip_orders() {
+    let fields = [
+        (0, 0, [0, 0]),
+        (0, 16, [11, 11]),
+        (159, 255, [11, 11]),
+        (160, 2, [11, 11]),
+        (161, 4, [11, 11]),
+        (165, 160, [0, 11]),
+        (170, 4, [0, 11]),
+    ];
+    for (place, value, [on, misfit]) in fields {
+        for (phase, view) in [(0, 0), (1, 0), (2, 8), (255, 8)] {
+            for (length, room) in [(160, 0), (0, 9), (159, 9), (161, 9), (320, 9)] {
+                let mut call = Call::new(&patterned());
+                call.chip[place] = value;
+                call.phase = phase;
+                call.out = vec![0xEE; length];
+                let first = [misfit, view, room].into_iter().find(|&number| number != 0);
+                assert_eq!(call.both(), [on, first.unwrap_or(0)]);
+            }
+        }
+    }
+}
+
+/// A chip or an answer of a wrong size comes before every refusal, and nothing is written.
+#[test]
+fn chip_sizes() {
+    for chip in 0..=2 * CHIP + 1 {
+        for answer in [0, 4, 5, 6, 10] {
+            for (value, phase, out) in [(0, 0, COLUMNS), (255, 2, 0)] {
+                let mut call = Call::new(&vec![value; chip]);
+                (call.phase, call.out) = (phase, vec![0xEE; out]);
+                call.answer = vec![77; answer];
+                if (chip, answer) != (CHIP, 5) {
+                    assert_eq!(call.both(), [SIZE; 2]);
+                }
+            }
+        }
+    }
+}

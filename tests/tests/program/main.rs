@@ -1,0 +1,70 @@
+//! The program as a user runs it: its text, its statuses, and that it loses no input and no output silently.
+
+mod build;
+mod input;
+mod output;
+mod run;
+mod usage;
+
+use humtrellis_tests::model::LOG_LIMIT;
+use humtrellis_tests::{generate, random::Random};
+use run::{lines, log_file, run, text_of, Ended};
+
+/// Replays a log by name and on standard input, and holds text and status to the model.
+fn compare(name: &str, log: &[u8]) {
+    let file = log_file(name, log);
+    let text = text_of(log);
+    let (status, err) = match text.starts_with('X') {
+        true => (1, "replay: the log is refused\n"),
+        false => (0, ""),
+    };
+    let expected = Ended::new(status, &text, err);
+    assert_eq!(run(&format!("bin/replay '{file}'")), expected);
+    assert_eq!(run(&format!("bin/replay <'{file}'")), expected);
+}
+
+#[test]
+fn examples() {
+    for name in ["minus", "minus-lost"] {
+        let text = lines(&format!("examples/{name}.txt"));
+        let expected = Ended::new(0, &text, "");
+        assert_eq!(run(&format!("bin/replay examples/{name}.log")), expected);
+        assert_eq!(run(&format!("bin/replay <examples/{name}.log")), expected);
+    }
+}
+
+#[test]
+fn generated_logs() {
+    for seed in 0..20 {
+        compare("generated", &generate::log(&mut Random::new(seed)));
+    }
+}
+
+#[test]
+fn every_cut() {
+    for length in 0..=generate::WORKED_LOG.len() {
+        compare("cut", &generate::WORKED_LOG[..length]);
+    }
+}
+
+#[test]
+fn longest_and_too_long() {
+    for length in [LOG_LIMIT, LOG_LIMIT + 1, 3 * LOG_LIMIT] {
+        compare("zeros", &vec![0; length]);
+    }
+    compare(
+        "longest",
+        &generate::log_of_length(&mut Random::new(6), LOG_LIMIT),
+    );
+    compare("long_text", &generate::log_of_long_text());
+}
+
+/// A stack of 1,024 KiB is enough, for the longest text too.
+#[test]
+fn small_stack() {
+    for log in [generate::WORKED_LOG.to_vec(), generate::log_of_long_text()] {
+        let file = log_file("small_stack", &log);
+        let ended = run(&format!("ulimit -s 1024; bin/replay '{file}'"));
+        assert_eq!(ended, Ended::new(0, &text_of(&log), ""));
+    }
+}

@@ -1,0 +1,69 @@
+//! Help, wrong usage, and the program called by a link.
+
+use crate::run::{lines, run, scratch, Ended, ROOT};
+use std::fs;
+use std::os::unix::fs::symlink;
+
+const USAGE: &str = "usage: bin/replay [FILE]\n";
+
+#[test]
+fn help() {
+    for option in ["-h", "--help"] {
+        let ended = run(&format!("bin/replay {option}"));
+        assert_eq!((ended.status, ended.err.as_str()), (0, ""));
+        assert!(ended.out.starts_with(USAGE), "{}", ended.out);
+    }
+}
+
+#[test]
+fn wrong() {
+    for words in ["one two", "-x", "--", "-", "--help more"] {
+        let ended = run(&format!("bin/replay {words}"));
+        assert_eq!((ended.status, ended.out.as_str()), (2, ""));
+        assert!(ended.err.starts_with(USAGE), "{}", ended.err);
+    }
+}
+
+/// Nobody types a log: a terminal as standard input shows how to call the program.
+#[test]
+fn terminal_as_input() {
+    let ended = run("script -qec bin/replay /dev/null </dev/null");
+    assert_eq!(ended.status, 2);
+    assert!(ended.out.starts_with(USAGE.trim_end()), "{}", ended.out);
+}
+
+/// Links to bin/replay, absolute, relative and to a link, called from another folder.
+#[test]
+fn links() {
+    let folder = scratch("links");
+    let _ = fs::remove_dir_all(&folder);
+    fs::create_dir(&folder).expect("a folder");
+    let program = fs::canonicalize(ROOT).expect("a path").join("bin/replay");
+    symlink(&program, format!("{folder}/absolute")).expect("a link");
+    let from = fs::canonicalize(&folder).expect("a path");
+    let up = "../".repeat(from.components().count() - 1);
+    symlink(
+        format!("{up}{}", program.display()),
+        format!("{folder}/relative"),
+    )
+    .expect("a link");
+    symlink("relative", format!("{folder}/second")).expect("a link");
+    fs::copy(
+        format!("{ROOT}/examples/minus.log"),
+        format!("{folder}/a b.log"),
+    )
+    .expect("a log");
+    let expected = Ended::new(0, &lines("examples/minus.txt"), "");
+    for name in ["absolute", "relative", "second"] {
+        assert_eq!(
+            run(&format!("cd '{folder}' && ./{name} 'a b.log'")),
+            expected
+        );
+        assert_eq!(
+            run(&format!(
+                "cd / && PATH='{folder}':$PATH && {name} <'{folder}/a b.log'"
+            )),
+            expected
+        );
+    }
+}
