@@ -27,7 +27,7 @@
 #define HUMTRELLIS_REGISTERS 18
 #define HUMTRELLIS_ANSWER 5
 #define HUMTRELLIS_SIZE 255
-#define HUMTRELLIS_TEXT 1300000 /* bytes that hold the text of any log */
+#define HUMTRELLIS_TEXT 700000 /* bytes that hold the text of any log */
 
 #define HUMTRELLIS_CHIP 171
 #define HUMTRELLIS_CHIP_SA0 160 /* indices in a plain chip, after its columns */
