@@ -5,38 +5,38 @@ pub const SIZE: u8 = 255;
 
 #[rustfmt::skip]
 extern "C" {
-    fn humtrellis_power_on(
+    pub fn humtrellis_power_on(
         chips0: u8, chips1: u8, ram: *const u8, ram_length: usize,
         registers: *mut u8, registers_length: usize, answer: *mut usize, answer_length: usize,
     ) -> u8;
 
-    fn humtrellis_transfer(
+    pub fn humtrellis_transfer(
         chips0: u8, chips1: u8, registers: *mut u8, registers_length: usize,
         ram: *mut u8, ram_length: usize, bytes: *const u8, bytes_length: usize,
         answer: *mut usize, answer_length: usize,
     ) -> u8;
 
-    fn humtrellis_picture(
+    pub fn humtrellis_picture(
         chips0: u8, chips1: u8, registers: *const u8, registers_length: usize,
         ram: *const u8, ram_length: usize, group: u8, phase: u8,
         out: *mut u8, out_length: usize, answer: *mut usize, answer_length: usize,
     ) -> u8;
 
-    fn humtrellis_plain_transfer(
+    pub fn humtrellis_plain_transfer(
         chips: *mut u8, chips_length: usize, bytes: *const u8, bytes_length: usize,
         answer: *mut usize, answer_length: usize,
     ) -> u8;
 
-    fn humtrellis_chip_power_on(
+    pub fn humtrellis_chip_power_on(
         chip: *mut u8, chip_length: usize, answer: *mut usize, answer_length: usize,
     ) -> u8;
 
-    fn humtrellis_chip_picture(
+    pub fn humtrellis_chip_picture(
         chip: *const u8, chip_length: usize, phase: u8, out: *mut u8, out_length: usize,
         answer: *mut usize, answer_length: usize,
     ) -> u8;
 
-    fn humtrellis_replay(log: *const u8, log_length: usize, out: *mut u8, out_length: usize) -> usize;
+    pub fn humtrellis_replay(log: *const u8, log_length: usize, out: *mut u8, out_length: usize) -> usize;
 }
 
 const FENCE: usize = 24;

@@ -11,6 +11,7 @@ mod library;
 mod orders;
 mod plain;
 mod replay;
+mod stops;
 
 use case::{Call, Case};
 use humtrellis_tests::model::COLUMNS;
