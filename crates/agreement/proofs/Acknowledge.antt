@@ -13,9 +13,9 @@ use borrow.Author.Tests.{eq-eqb, ne-eqb, lt-ltb, le-ltb}
 use Rattle.lemmas.proofs.Order.{lt-or-le}
 use Rattle.sheet.specs.declared.Registers.{Registers}
 use Rattle.sheet.specs.declared.Chip.{Chip}
-use Rattle.sheet.specs.Commands.{backplanes}
+use Rattle.sheet.specs.Registers.{backplanes}
+use Rattle.sheet.specs.Plain.{any, acknowledgesData}
 use Rattle.sheet.specs.Places.{advancedBy, position, atPosition}
-use Rattle.sheet.specs.Plain.{any, chipAcknowledges}
 use Rattle.sheet.specs.Agree.{groupChips}
 use Rattle.laws.proofs.Steps.{many, columns-move}
 use Rattle.agreement.proofs.Chips.{chipAt}
@@ -59,9 +59,9 @@ below C L n u pc l =
 
 -- f says of a chip that it acknowledges
 pub acknowledges : (f : Chip → Bool) (C L x n g : ℕ) (r : Registers) (ram : List ℕ) → r .p < C → r .a ≤ L → n ≤ L
-    → ((i : ℕ) (c : List ℕ) → f (chipAt g i r c) ≡ chipAcknowledges C L x (chipAt g i r c))
+    → ((i : ℕ) (c : List ℕ) → f (chipAt g i r c) ≡ acknowledgesData C L x (chipAt g i r c))
     → any f (groupChips C n g 0 r ram) ≡ ltb (position C r + 7 / backplanes r) (C * n)
-unfolding chipAcknowledges atPosition
+unfolding acknowledgesData atPosition
 acknowledges f C L x n g r ram lp la l e =
     let k : ℕ = 7 / backplanes r in
     let a : ℕ = advancedBy C L k r .a in

@@ -20,8 +20,8 @@ use Rattle.sheet.specs.declared.Expect.the-variants.{Control}
 use Rattle.sheet.specs.declared.Addressed.the-variants.{To, Nobody}
 use Rattle.sheet.specs.Protocol.{addressOf, heardBy, undefinedIn}
 use Rattle.sheet.specs.Checks.{orElse, checkLength, checkCommands, checkTransfer}
-use Rattle.sheet.specs.Plain.{any, hears, chipFits, misfitIn, checkPlain}
 use Rattle.sheet.specs.Long.{State}
+use Rattle.sheet.specs.Plain.{any, hears, chipFits, misfitIn, checkPlain}
 use Rattle.sheet.specs.Agree.{groupChips, groupOf, chipsOf, Valid}
 use Rattle.laws.proofs.Ranges.{InRange, in-range}
 use Rattle.laws.proofs.Nibbles.{Nibbles, check-nibbles, take-nibbles, drop-nibbles}

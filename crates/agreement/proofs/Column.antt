@@ -9,10 +9,10 @@ use lib.Seq.{getD-take, getD-drop, take-set-le, take-set-lt, drop-set-lt, drop-s
 use borrow.Author.Tests.{eq-eqb, ne-eqb}
 use Rattle.sheet.specs.declared.Registers.{Registers}
 use Rattle.sheet.specs.declared.Chip.{Chip}
-use Rattle.sheet.specs.Commands.{backplanes, bankRow}
+use Rattle.sheet.specs.Registers.{backplanes, bankRow}
+use Rattle.sheet.specs.Plain.{putRows, afterColumn}
 use Rattle.sheet.specs.Places.{advanced, position}
 use Rattle.sheet.specs.Data.{changed}
-use Rattle.sheet.specs.Plain.{putRows, column}
 use Rattle.sheet.specs.Agree.{groupChips}
 use Rattle.agreement.proofs.Chips.{chipAt}
 
@@ -42,15 +42,15 @@ rowsOf x j r = putRows (backplanes r) (bankRow (backplanes r) (r .i)) (backplane
 
 module _ (C L x j g : ℕ) (r : Registers) where
   -- chips past the one selected keep their columns
-  past : (n i : ℕ) (columns : List ℕ) → r .a < i → map (column C L x j) (groupChips C n g i r columns) ≡ groupChips C n g i (advanced C L r) columns
-  unfolding groupChips column
+  past : (n i : ℕ) (columns : List ℕ) → r .a < i → map (afterColumn C L x j) (groupChips C n g i r columns) ≡ groupChips C n g i (advanced C L r) columns
+  unfolding groupChips afterColumn
   past zero i columns l = refl
   past (suc n) i columns l = rw (ne-eqb (r .a) i (omega arith)) (ap (λ (cs : List Chip). chipAt g i (advanced C L r) (take C columns) ∷ cs) (past n (suc i) (drop C columns) (omega arith)))
 
   -- from subaddress i on, d chips before the one selected
   from : (n i d : ℕ) (columns : List ℕ) → r .p < C → r .a ≡ i + d
-      → map (column C L x j) (groupChips C n g i r columns) ≡ groupChips C n g i (advanced C L r) (changed (rowsOf x j r) (C * d + r .p) columns)
-  unfolding groupChips column
+      → map (afterColumn C L x j) (groupChips C n g i r columns) ≡ groupChips C n g i (advanced C L r) (changed (rowsOf x j r) (C * d + r .p) columns)
+  unfolding groupChips afterColumn
   from zero i d columns l e = refl
   from (suc n) i zero columns l e =
       rw (eq-eqb (r .a) i (omega arith), here C (r .p))
@@ -72,6 +72,6 @@ module _ (C L x j g : ℕ) (r : Registers) where
 
   -- the change is at the position
   pub one-column : (n : ℕ) (columns : List ℕ) → r .p < C
-      → map (column C L x j) (groupChips C n g 0 r columns) ≡ groupChips C n g 0 (advanced C L r) (changed (rowsOf x j r) (position C r) columns)
+      → map (afterColumn C L x j) (groupChips C n g 0 r columns) ≡ groupChips C n g 0 (advanced C L r) (changed (rowsOf x j r) (position C r) columns)
   unfolding position
   one-column n columns l = from n 0 (r .a) columns l (omega arith)

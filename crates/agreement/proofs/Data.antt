@@ -7,10 +7,10 @@ use native.Mathlib.Nat.{add-zero, add-suc}
 use native.Mathlib.Omega.{arith}
 use lib.ListN.{length}
 use Rattle.sheet.specs.declared.Registers.{Registers}
-use Rattle.sheet.specs.Commands.{backplanes, bankRow}
+use Rattle.sheet.specs.Registers.{backplanes, bankRow}
+use Rattle.sheet.specs.Plain.{afterColumn, afterColumns, chipData}
 use Rattle.sheet.specs.Places.{position, atPosition}
 use Rattle.sheet.specs.Data.{changed, putBits, widthOf}
-use Rattle.sheet.specs.Plain.{column, columns, chipData}
 use Rattle.sheet.specs.Agree.{groupChips}
 use Rattle.laws.proofs.Ranges.{planes-pos}
 use Rattle.laws.proofs.Steps.{one, home, p-at}
@@ -22,19 +22,19 @@ use Rattle.agreement.proofs.Byte.{putColumns, length-columns, by-column
 module _ (C L x g n : ℕ) (r : Registers) (ram : List ℕ) (lp : r .p < C) (la : r .a ≤ L) (ll : length ram ≤ C * L) where
   -- the first k columns of the byte
   by-column : (k : ℕ)
-      → map (columns C L x k) (groupChips C n g 0 r ram)
+      → map (afterColumns C L x k) (groupChips C n g 0 r ram)
       ≡ groupChips C n g 0 (atPosition C L r (position C r + k)) (putColumns k (backplanes r) (bankRow (backplanes r) (r .i)) (position C r) x ram)
-  unfolding columns putColumns atPosition backplanes
+  unfolding afterColumns putColumns atPosition backplanes
   by-column zero =
-      set-alike (columns C L x 0) g r r (λ i c. refl) C n 0 ram
+      set-alike (afterColumns C L x 0) g r r (λ i c. refl) C n 0 ram
       ∙ rw (add-zero (position C r)) (ap (λ (s : Registers). groupChips C n g 0 s ram) (sym (home C L r lp la)))
   by-column (suc k) =
       let u : ℕ = position C r + k in
       let s = atPosition C L r u in
       let t = putColumns k (backplanes r) (bankRow (backplanes r) (r .i)) (position C r) x ram in
       let lt : length t ≤ C * L = rw (length-columns k (backplanes r) (bankRow (backplanes r) (r .i)) (position C r) x ram) ll in
-      sym (map-map (column C L x k) (columns C L x k) (groupChips C n g 0 r ram))
-      ∙ ap (map (column C L x k)) (by-column k)
+      sym (map-map (afterColumn C L x k) (afterColumns C L x k) (groupChips C n g 0 r ram))
+      ∙ ap (map (afterColumn C L x k)) (by-column k)
       ∙ one-column C L x k g s n t (p-at C L u r (omega arith))
       ∙ ap₂ (λ (q : Registers) (c : List ℕ). groupChips C n g 0 q c)
       (one C L u r (omega arith) ∙ ap (λ (v : ℕ). atPosition C L r v) (sym (add-suc (position C r) k)))
@@ -46,7 +46,7 @@ module _ (C L x g n : ℕ) (r : Registers) (ram : List ℕ) (lp : r .p < C) (la 
       ≡ groupChips C n g 0 (atPosition C L r (position C r + widthOf (backplanes r))) (putBits 8 (backplanes r) (bankRow (backplanes r) (r .i)) (position C r) x ram)
   unfolding chipData
   data-agrees =
-      alike (chipData C L x) (columns C L x (widthOf (backplanes r))) g r r (λ i c. refl) C n 0 ram
+      alike (chipData C L x) (afterColumns C L x (widthOf (backplanes r))) g r r (λ i c. refl) C n 0 ram
       ∙ by-column (widthOf (backplanes r))
       ∙ ap (λ (c : List ℕ). groupChips C n g 0 (atPosition C L r (position C r + widthOf (backplanes r))) c)
       (sym (by-columns (backplanes r) (bankRow (backplanes r) (r .i)) (position C r) x ram (planes-pos r)))

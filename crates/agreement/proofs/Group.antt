@@ -9,12 +9,13 @@ use borrow.Author.Tests.{eq-eqb}
 use Rattle.sheet.specs.declared.Chip.{Chip}
 use Rattle.sheet.specs.declared.Expect.{Expect}
 use Rattle.sheet.specs.declared.Expect.the-variants.{Control, OneCommand, Commands, OneData, Run}
-use Rattle.sheet.specs.Commands.{commandOf, obeyed, backplanes}
-use Rattle.sheet.specs.Places.{position}
-use Rattle.sheet.specs.Data.{counted}
+use Rattle.sheet.specs.Registers.{backplanes}
+use Rattle.sheet.specs.Commands.{commandOf, obeyed}
 use Rattle.sheet.specs.Protocol.{addressOf, next}
 use Rattle.sheet.specs.Long.{Group, byte, dataByte, heard}
-use Rattle.sheet.specs.Plain.{any, hears, chipByte, chipAcknowledges, chipAcknowledged, takes, counts, Plain, plainHeard}
+use Rattle.sheet.specs.Plain.{any, hears, chipByte, acknowledgesData, acknowledgesByte, takes, acknowledgedOnce, Plain, plainHeard}
+use Rattle.sheet.specs.Places.{position}
+use Rattle.sheet.specs.Data.{counted}
 use Rattle.sheet.specs.Agree.{groupChips, Keeps}
 use Rattle.laws.proofs.Kept.{Kept, few, byte-keeps}
 use Rattle.agreement.proofs.Chips.{chipAt, alike, set-alike}
@@ -39,27 +40,27 @@ module _ (C L n g : ℕ) (x : ℕ) (s : Group) (l : n ≤ L) (k : Kept C L n s) 
 
   -- a chip hears and acknowledges
   abbrev answers : Expect → Chip → Bool
-  answers e c = hears (addressOf g) c && chipAcknowledged C L e x c
+  answers e c = hears (addressOf g) c && acknowledgesByte C L e x c
 
   -- each chip of the group hears
   each-hears : (b : Bool) → (eqb (addressOf g) (addressOf g) && b) ≡ b
   each-hears b = rw (eq-eqb (addressOf g) (addressOf g) refl)
 
   -- control and command bytes: each chip, and there is one
-  always : (e : Expect) → 0 < n → ((c : List ℕ) → chipAcknowledged C L e x (chipAt g 0 (s .registers) c) ≡ true)
+  always : (e : Expect) → 0 < n → ((c : List ℕ) → acknowledgesByte C L e x (chipAt g 0 (s .registers) c) ≡ true)
       → s .counts .acknowledged + cond (any (answers e) (chipsOfGroup C n g s)) 1 0 ≡ s .counts .acknowledged + 1
   always e pn h =
       ap (λ (t : Bool). s .counts .acknowledged + cond t 1 0)
-      (any-all (answers e) C g (s .registers) n 0 (s .ram) pn (λ c. each-hears (chipAcknowledged C L e x (chipAt g 0 (s .registers) c)) ∙ h c))
+      (any-all (answers e) C g (s .registers) n 0 (s .ram) pn (λ c. each-hears (acknowledgesByte C L e x (chipAt g 0 (s .registers) c)) ∙ h c))
 
   -- data bytes
-  by-last-column : (e : Expect) → ((c : Chip) → chipAcknowledged C L e x c ≡ chipAcknowledges C L x c)
+  by-last-column : (e : Expect) → ((c : Chip) → acknowledgesByte C L e x c ≡ acknowledgesData C L x c)
       → s .counts .acknowledged + cond (any (answers e) (chipsOfGroup C n g s)) 1 0 ≡ dataByte C L x s .counts .acknowledged
   unfolding dataByte counted
   by-last-column e h =
       ap (λ (t : Bool). s .counts .acknowledged + cond t 1 0)
       (acknowledges (answers e) C L x n g (s .registers) (s .ram) (k .range .p-in) (k .range .a-in) l
-      (λ i c. each-hears (chipAcknowledged C L e x (chipAt g i (s .registers) c)) ∙ h (chipAt g i (s .registers) c))
+      (λ i c. each-hears (acknowledgesByte C L e x (chipAt g i (s .registers) c)) ∙ h (chipAt g i (s .registers) c))
       ∙ ap (λ (size : ℕ). ltb (position C (s .registers) + 7 / backplanes (s .registers)) size) (sym (k .size)))
 
   acknowledged-agrees : (e : Expect) → 0 < n → s .counts .acknowledged + cond (any (answers e) (chipsOfGroup C n g s)) 1 0 ≡ byte C L e x s .counts .acknowledged
@@ -89,9 +90,9 @@ module _ (C L n g : ℕ) (keeps : Keeps C L) (pn : 0 < n) (l : n ≤ L) (before 
       (deaf-keep C L (addressOf g) x e after deaf-after))
 
   acknowledge : (e : Expect) (x : ℕ) (s : Group) → Kept C L n s
-      → s .counts .acknowledged + counts C L (addressOf g) e x (before ++ (chipsOfGroup C n g s ++ after)) ≡ byte C L e x s .counts .acknowledged
+      → s .counts .acknowledged + acknowledgedOnce C L (addressOf g) e x (before ++ (chipsOfGroup C n g s ++ after)) ≡ byte C L e x s .counts .acknowledged
   acknowledge e x s k =
-      ap (λ (t : Bool). s .counts .acknowledged + cond t 1 0) (deaf-around (addressOf g) (chipAcknowledged C L e x) before (chipsOfGroup C n g s) after deaf-before deaf-after)
+      ap (λ (t : Bool). s .counts .acknowledged + cond t 1 0) (deaf-around (addressOf g) (acknowledgesByte C L e x) before (chipsOfGroup C n g s) after deaf-before deaf-after)
       ∙ acknowledged-agrees C L n g x s l k e pn
 
   -- the law

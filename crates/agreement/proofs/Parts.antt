@@ -9,7 +9,7 @@ use lib.ListN.{length, take, drop, length-append, length-drop, take-append-drop}
 use lib.Seq.{length-take-le, take-all, drop-at}
 use Rattle.sheet.specs.declared.Chips.{Chips}
 use Rattle.sheet.specs.declared.Chip.{Chip}
-use Rattle.sheet.specs.Long.{Group, begun, registersOf, partOf, State}
+use Rattle.sheet.specs.Long.{Group, begun, registersOf, columnsOf, State}
 use Rattle.sheet.specs.Agree.{groupChips, chipsOf, Valid}
 use Rattle.laws.proofs.Nibbles.{take-nibbles, drop-nibbles, join-nibbles}
 use Rattle.laws.proofs.Kept.{Kept}
@@ -23,7 +23,7 @@ together a b = record { registers = record { zero = a .registers; one = b .regis
 
 -- group g of a state, whose address has been acknowledged
 abbrev pub begunIn : ℕ → Chips → ℕ → State → Group
-begunIn C n g s = begun (registersOf g (s .registers)) (partOf C n g (s .ram))
+begunIn C n g s = begun (registersOf g (s .registers)) (columnsOf C n g (s .ram))
 
 module _ (C L : ℕ) (n : Chips) where
   pub chips-together : (a b : Group) → Kept C L (n .zero) a → chipsOf C n (together a b) ≡ chipsOfGroup C (n .zero) 0 a ++ chipsOfGroup C (n .one) 1 b
@@ -49,7 +49,7 @@ module _ (C L : ℕ) (n : Chips) where
     rest : length (drop (C * n .zero) (s .ram)) ≡ C * n .one
     rest = length-drop (C * n .zero) (s .ram) ∙ omega (arith, f .columns)
 
-    pub rest-one : partOf C n 1 (s .ram) ≡ drop (C * n .zero) (s .ram)
+    pub rest-one : columnsOf C n 1 (s .ram) ≡ drop (C * n .zero) (s .ram)
     rest-one = take-all (C * n .one) (drop (C * n .zero) (s .ram)) (rw rest (le-refl (C * n .one)))
 
     pub kept-zero : Kept C L (n .zero) (begunIn C n 0 s)

@@ -7,7 +7,7 @@ use lib.ListN.{drop}
 use Rattle.sheet.specs.declared.Both.{Both}
 use Rattle.sheet.specs.declared.Chip.{Chip}
 use Rattle.sheet.specs.declared.Chips.{Chips}
-use Rattle.sheet.specs.Commands.{powerOn}
+use Rattle.sheet.specs.Registers.{powerOn}
 use Rattle.sheet.specs.Long.{stateOf, powerOnCall}
 use Rattle.sheet.specs.Plain.{chipPowerOn}
 use Rattle.sheet.specs.Agree.{groupOf, chipsOf, poweredOn}

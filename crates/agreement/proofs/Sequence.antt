@@ -7,8 +7,8 @@ use Rattle.sheet.specs.declared.Chips.{Chips}
 use Rattle.sheet.specs.declared.Chip.{Chip}
 use Rattle.sheet.specs.declared.PlainAnswer.{PlainAnswer}
 use Rattle.sheet.specs.Long.{State, stateAfter, stateAfterAll}
-use Rattle.sheet.specs.Agree.{chipsOf, answerTo, longAnswers, plainAll, plainAnswers, Keeps, Valid, AgreesAll}
 use Rattle.sheet.specs.Plain.{plainCall}
+use Rattle.sheet.specs.Agree.{chipsOf, answerTo, longAnswers, plainAll, plainAnswers, Keeps, Valid, AgreesAll}
 use Rattle.agreement.proofs.Transfer.{transfer}
 use Rattle.agreement.proofs.Show.{show}
 

@@ -15,9 +15,10 @@ use Rattle.sheet.specs.declared.Registers.{Registers}
 use Rattle.sheet.specs.declared.Chip.{Chip}
 use Rattle.sheet.specs.declared.Chips.{Chips}
 use Rattle.sheet.specs.declared.Pictured.{Pictured}
-use Rattle.sheet.specs.Checks.{chipsIn, checkPicture}
-use Rattle.sheet.specs.Pictures.{pictureOf, litIn}
-use Rattle.sheet.specs.Long.{State, Seen, registersOf, partOf, pictureCall}
+use Rattle.sheet.specs.Protocol.{chipsIn}
+use Rattle.sheet.specs.Checks.{checkPicture}
+use Rattle.sheet.specs.Pictures.{pictureOf, litIn, Seen}
+use Rattle.sheet.specs.Long.{State, registersOf, columnsOf, pictureCall}
 use Rattle.sheet.specs.Plain.{chipFits, checkChipPicture, chipPictureCall}
 use Rattle.sheet.specs.Agree.{groupChips, groupOf, chipsOf, Valid, chipSeen, litOf, chipPictures, chipsLit, withAddress, Shows}
 use Rattle.laws.proofs.Ranges.{InRange, in-range}
@@ -76,7 +77,7 @@ module _ (C L g : ℕ) (r : Registers) (phase : ℕ) (pg : g < 2) (pp : phase < 
 
 -- no picture of a valid state is refused
 seen-group : (C L : ℕ) (n : Chips) (s : State) (g phase : ℕ) (out : List ℕ) → Valid C L n s → g < 2 → phase < 2 → length out ≡ C * chipsIn g n
-    → pictureCall C L n (s .registers) (s .ram) g phase out ≡ seenOf (registersOf g (s .registers)) phase (partOf C n g (s .ram))
+    → pictureCall C L n (s .registers) (s .ram) g phase out ≡ seenOf (registersOf g (s .registers)) phase (columnsOf C n g (s .ram))
 unfolding pictureCall checkPicture
 seen-group C L n s g phase out v pg pp e = rw (v, lt-ltb g 2 pg, lt-ltb phase 2 pp, eq-eqb (length out) (C * chipsIn g n) e) refl
 
@@ -113,7 +114,7 @@ with-group C n s (suc (suc g)) pg = absurd (omega arith)
 -- ---- the law
 
 shows : (C L : ℕ) (n : Chips) (s : State) (g phase : ℕ) (out : List ℕ) → Valid C L n s → g < 2 → phase < 2 → length out ≡ C * chipsIn g n
-    → Same C L phase (groupOf C g n s) (registersOf g (s .registers)) (partOf C n g (s .ram)) → Shows C L n s (chipsOf C n s) g phase out
+    → Same C L phase (groupOf C g n s) (registersOf g (s .registers)) (columnsOf C n g (s .ram)) → Shows C L n s (chipsOf C n s) g phase out
 shows C L n s g phase out v pg pp e same =
     let seen = seen-group C L n s g phase out v pg pp e in
     let own = with-group C n s g pg in

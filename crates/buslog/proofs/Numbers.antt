@@ -22,7 +22,7 @@ use Rattle.sheet.specs.Refusals.{numberOf, placeOf, numbers}
 use Rattle.sheet.specs.Commands.{commandOf, defined}
 use Rattle.sheet.specs.Protocol.{heardBy, next, isCommand, undefinedIn}
 use Rattle.sheet.specs.Checks.{unless, orElse, checkChips, checkLength, checkCommands, checkTransfer}
-use Rattle.sheet.specs.Long.{begun, State, Group, byte, heard, acknowledged, taken, answered, transferCall, registersOf, partOf}
+use Rattle.sheet.specs.Long.{begun, State, Group, byte, heard, oneAcknowledged, taken, answered, transferCall, registersOf, columnsOf}
 use Rattle.sheet.specs.Logs.{lengthOf, cutIn, checkLog}
 use Rattle.sheet.specs.Agree.{Valid}
 use Rattle.laws.proofs.Ranges.{InRange}
@@ -122,7 +122,7 @@ module _ (n : Chips) (s : State) (bytes : List ℕ) (v : Valid 160 4 n s) (short
   transfer-taken e (To g) =
       let p = transfer-passed n (s .registers) (s .ram) bytes e in
       let f = fits-of 160 4 n (s .registers) (s .ram) v in
-      heard-few (partOf 160 n g (s .ram)) bytes (registersOf g (s .registers)) (part-in n (s .registers) (s .ram) g f) (nibbles-of 0 _ (part-passes n (s .registers) (s .ram) g f)) (p .1 .0) (p .1 .1)
+      heard-few (columnsOf 160 n g (s .ram)) bytes (registersOf g (s .registers)) (part-in n (s .registers) (s .ram) g f) (nibbles-of 0 _ (part-passes n (s .registers) (s .ram) g f)) (p .1 .0) (p .1 .1)
   transfer-taken e Nobody = omega arith
 
   -- an answer's numbers

@@ -19,10 +19,10 @@ use Rattle.sheet.specs.declared.Shown.the-variants.{Dark, Rows}
 use Rattle.sheet.specs.declared.Check.{Check}
 use Rattle.sheet.specs.declared.Check.the-variants.{Passed, Refused}
 use Rattle.sheet.specs.Refusals.{numberOf, placeOf, numbers}
-use Rattle.sheet.specs.Commands.{backplanes}
+use Rattle.sheet.specs.Registers.{backplanes}
+use Rattle.sheet.specs.Protocol.{chipsIn}
 use Rattle.sheet.specs.Pictures.{shown, lit, pictureOf, litIn}
-use Rattle.sheet.specs.Long.{State, stateAfter, transferCall, registersOf, partOf, startOf, stateAfterAll}
-use Rattle.sheet.specs.Checks.{chipsIn}
+use Rattle.sheet.specs.Long.{State, stateAfter, transferCall, registersOf, columnsOf, startOf, stateAfterAll}
 use Rattle.sheet.specs.Logs.{lengthOf, logChips, recordsIn, checkLog, line, transferLines, columnLines, shownAt, endLines, logStart, logLines, textBy, textOf}
 use Rattle.sheet.specs.Agree.{Valid}
 use Rattle.laws.proofs.Nibbles.{Nibbles, take-nibbles, drop-nibbles}
@@ -130,14 +130,14 @@ module _ (n : Chips) (s : State) (v : Valid 160 4 n s) where
   unfolding pictureOf
   shown-nibbles g =
       let r = registersOf g (s .registers) in
-      picture-nibbles (backplanes r) (shown r 0) (partOf 160 n g (s .ram)) (take-nibbles (160 * chipsIn g n) (drop (startOf 160 n g) (s .ram)) (drop-nibbles (startOf 160 n g) (s .ram) (fits-of 160 4 n (s .registers) (s .ram) v .nibbles)))
+      picture-nibbles (backplanes r) (shown r 0) (columnsOf 160 n g (s .ram)) (take-nibbles (160 * chipsIn g n) (drop (startOf 160 n g) (s .ram)) (drop-nibbles (startOf 160 n g) (s .ram) (fits-of 160 4 n (s .registers) (s .ram) v .nibbles)))
 
   shown-few : (g : ℕ) → length (shownAt n s g) ≤ 640
   unfolding pictureOf
   shown-few g =
       let f = fits-of 160 4 n (s .registers) (s .ram) v in
       let r = registersOf g (s .registers) in
-      omega (arith, length-map (partOf 160 n g (s .ram)) (lit (backplanes r) (shown r 0)), part-long n (s .registers) (s .ram) g f, part-few n (s .registers) (s .ram) g f)
+      omega (arith, length-map (columnsOf 160 n g (s .ram)) (lit (backplanes r) (shown r 0)), part-long n (s .registers) (s .ram) g f, part-few n (s .registers) (s .ram) g f)
 
   group-few : (g : ℕ) → g < 2 → (length (columnLines g 0 (shownAt n s g)) ≤ 12800) × (length (line 71 (g ∷ litIn (shownAt n s g) ∷ [])) ≤ 14)
   group-few g h =

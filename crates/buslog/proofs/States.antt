@@ -9,9 +9,10 @@ use borrow.Author.Tests.{lt-ltb, eq-eqb}
 use Rattle.sheet.specs.declared.Chips.{Chips}
 use Rattle.sheet.specs.declared.Check.the-variants.{Passed}
 use Rattle.sheet.specs.declared.Pictured.{Pictured}
-use Rattle.sheet.specs.Checks.{chipsIn, checkChips, checkPicture}
-use Rattle.sheet.specs.Pictures.{litIn}
-use Rattle.sheet.specs.Long.{State, Seen, pictureCall}
+use Rattle.sheet.specs.Protocol.{chipsIn}
+use Rattle.sheet.specs.Checks.{checkChips, checkPicture}
+use Rattle.sheet.specs.Pictures.{litIn, Seen}
+use Rattle.sheet.specs.Long.{State, pictureCall}
 use Rattle.sheet.specs.Logs.{shownAt, logStart}
 use Rattle.sheet.specs.Agree.{Valid}
 use Rattle.laws.proofs.Nibbles.{Nibbles}

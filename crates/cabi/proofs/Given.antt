@@ -17,7 +17,7 @@ use Rattle.sheet.specs.declared.PlainAnswer.{PlainAnswer}
 use Rattle.sheet.specs.declared.Check.{Check}
 use Rattle.sheet.specs.declared.Check.the-variants.{Passed, Refused}
 use Rattle.sheet.specs.declared.Refusal.{Refusal}
-use Rattle.sheet.specs.Commands.{powerOn}
+use Rattle.sheet.specs.Registers.{powerOn}
 use Rattle.sheet.specs.Protocol.{heardBy}
 use Rattle.sheet.specs.Checks.{checkTransfer}
 use Rattle.sheet.specs.Long.{taken, answered, transferCall}

@@ -5,7 +5,7 @@ use lib.ListN.{getD, take, drop, replicate}
 use Rattle.sheet.specs.declared.Registers.{Registers}
 use Rattle.sheet.specs.declared.Both.{Both}
 use Rattle.sheet.specs.declared.Chip.{Chip}
-use Rattle.sheet.specs.Commands.{powerOn}
+use Rattle.sheet.specs.Registers.{powerOn}
 
 -- nine bytes, in the order E B M P A I O AB BF
 abbrev pub registersIn : List ℕ → Registers

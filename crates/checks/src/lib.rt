@@ -7,8 +7,7 @@ ghost use Prim.Native.Nat.{max};
 ghost use lib.ListN.{getD};
 ghost use Rattle.checks.specs.Highest.{highestOf};
 ghost use Rattle.sheet.specs.Refusals.{numberOf, placeOf};
-ghost use Rattle.sheet.specs.Checks.{unless, overIn, checkChips, checkLength};
-ghost use Rattle.sheet.specs.Plain.{passed};
+ghost use Rattle.sheet.specs.Checks.{unless, overIn, checkChips, checkLength, passed};
 
 // Refused unless a test holds.
 pub fn unless(holds: bool, refusal: Refusal) -> Check

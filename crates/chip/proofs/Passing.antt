@@ -9,11 +9,10 @@ use Rattle.lemmas.proofs.Tests.{both-true}
 use Rattle.sheet.specs.declared.Chip.{Chip}
 use Rattle.sheet.specs.declared.Refusal.the-variants.{ChipField, GroupOrPhase, PictureLength}
 use Rattle.sheet.specs.declared.Check.the-variants.{Passed}
-use Rattle.sheet.specs.Commands.{inRange}
+use Rattle.sheet.specs.Registers.{inRange}
 use Rattle.sheet.specs.Checks.{unless}
-use Rattle.sheet.specs.Plain.{chipFits}
+use Rattle.sheet.specs.Plain.{chipFits, checkChipPicture}
 use Rattle.laws.proofs.Fits.{both-pass, unless-passes}
-use Rattle.sheet.specs.Plain.{checkChipPicture}
 
 -- a chip that fits has registers in range
 pub registers-in : (C L : ℕ) (c : Chip) → chipFits C L c ≡ true → inRange C L (c .registers) ≡ true

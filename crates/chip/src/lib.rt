@@ -11,11 +11,12 @@ ghost use mathlib.Core.Bool.{cond, true};
 ghost use Prim.Native.Nat.{_+_, _*_, _≤_, _<_};
 ghost use lib.Dec.{ltb};
 ghost use Rattle.sheet.specs.Refusals.{pictureNumbers, checkNumbers};
-ghost use Rattle.sheet.specs.Commands.{commandOf, obeyed, inRange, backplanes};
+ghost use Rattle.sheet.specs.Registers.{inRange, backplanes};
+ghost use Rattle.sheet.specs.Commands.{commandOf, obeyed};
+ghost use Rattle.sheet.specs.Checks.{overIn, passed};
+ghost use Rattle.sheet.specs.Plain.{withRegisters, putRows, afterColumn, chipData, acknowledgesData, chipByte, acknowledgesByte, chipStepped, chipAnswers, hears, chipFits, chipPowerOn, checkChipPicture, chipPictureCall};
 ghost use Rattle.sheet.specs.Places.{advanced};
 ghost use Rattle.sheet.specs.Data.{bitOf, withRow};
-ghost use Rattle.sheet.specs.Checks.{overIn};
-ghost use Rattle.sheet.specs.Plain.{withRegisters, putRows, column, chipData, chipAcknowledges, chipByte, chipAcknowledged, chipStepped, chipAnswers, hears, passed, chipFits, chipPowerOn, checkChipPicture, chipPictureCall};
 
 // A column with one row made bit k of a byte. A byte has no bit past 7: then the row stays.
 fn put_row(row: usize, k: usize, byte: u8, column: u8) -> u8
@@ -60,7 +61,7 @@ fn advance(mut registers: Registers) -> Registers
 // The chip's columns after column j of a byte: stored if A is the chip's subaddress.
 fn stored(chip: Chip, byte: u8, j: usize) -> [u8; 160]
     requires { ⌜ (inRange 160 4 (chip .registers) ≡ true) × (backplanes (chip .registers) * j < 8) ⌝ }
-    ensures { λ r. ⌜ r ≡ column 160 4 byte j chip .columns ⌝ }
+    ensures { λ r. ⌜ r ≡ afterColumn 160 4 byte j chip .columns ⌝ }
 {
     let registers = chip.registers;
     let mut columns = chip.columns;
@@ -78,7 +79,7 @@ fn stored(chip: Chip, byte: u8, j: usize) -> [u8; 160]
 // The chip after column j of a byte: P and A move, stored or not.
 fn column(chip: Chip, byte: u8, j: usize) -> Chip
     requires { ⌜ (inRange 160 4 (chip .registers) ≡ true) × (backplanes (chip .registers) * j < 8) ⌝ }
-    ensures { λ r. ⌜ r ≡ column 160 4 byte j chip ⌝ }
+    ensures { λ r. ⌜ r ≡ afterColumn 160 4 byte j chip ⌝ }
 {
     let columns = stored(chip, byte, j);
     Chip {
@@ -149,7 +150,7 @@ pub fn step(chip: Chip, expect: Expect, byte: u8) -> Chip
 // Whether the chip acknowledges a data byte, whatever it holds: A is its subaddress at the byte's last column.
 fn acknowledges_data(chip: Chip, byte: u8) -> bool
     requires { ⌜ inRange 160 4 (chip .registers) ≡ true ⌝ }
-    ensures { λ r. ⌜ r ≡ chipAcknowledges 160 4 byte chip ⌝ }
+    ensures { λ r. ⌜ r ≡ acknowledgesData 160 4 byte chip ⌝ }
 {
     let registers = chip.registers;
     let last = 160 * registers.a + registers.p + 7 / command::backplanes(registers);
@@ -159,7 +160,7 @@ fn acknowledges_data(chip: Chip, byte: u8) -> bool
 // Whether the chip, its registers in range, acknowledges a byte.
 fn answers(chip: Chip, expect: Expect, byte: u8) -> bool
     requires { ⌜ inRange 160 4 (chip .registers) ≡ true ⌝ }
-    ensures { λ r. ⌜ r ≡ chipAcknowledged 160 4 expect byte chip ⌝ }
+    ensures { λ r. ⌜ r ≡ acknowledgesByte 160 4 expect byte chip ⌝ }
 {
     match expect {
         Expect::Control => true,

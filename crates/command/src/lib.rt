@@ -3,7 +3,8 @@ use sheet::Command;
 use sheet::Registers;
 use sheet::Settings;
 ghost use mathlib.Core.Path.{_≡_};
-ghost use Rattle.sheet.specs.Commands.{commandOf, defined, obeyed, powerOn, inRange, backplanes, bankRow};
+ghost use Rattle.sheet.specs.Registers.{powerOn, inRange, backplanes, bankRow};
+ghost use Rattle.sheet.specs.Commands.{commandOf, defined, obeyed};
 
 // The command of a byte, told apart by ranges.
 pub fn decode(byte: u8) -> Command

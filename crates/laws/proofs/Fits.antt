@@ -15,10 +15,9 @@ use Rattle.sheet.specs.declared.Refusal.{Refusal}
 use Rattle.sheet.specs.declared.Refusal.the-variants.{ChipCount, RamLength, Register}
 use Rattle.sheet.specs.declared.Check.{Check}
 use Rattle.sheet.specs.declared.Check.the-variants.{Passed, Refused}
-use Rattle.sheet.specs.Commands.{inRange, powerOn}
-use Rattle.sheet.specs.Checks.{unless, orElse, overIn, checkChips, checkRegisters, checkRam, checkState, checkPowerOn}
+use Rattle.sheet.specs.Registers.{inRange, powerOn}
+use Rattle.sheet.specs.Checks.{unless, orElse, overIn, checkChips, checkRegisters, checkRam, checkState, checkPowerOn, passed}
 use Rattle.sheet.specs.Long.{bothOn}
-use Rattle.sheet.specs.Plain.{passed}
 use Rattle.laws.proofs.Ranges.{InRange, range-of, in-range}
 use Rattle.laws.proofs.Nibbles.{Nibbles, nibbles-of, check-nibbles}
 

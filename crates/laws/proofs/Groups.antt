@@ -19,14 +19,14 @@ use Rattle.sheet.specs.declared.Expect.{Expect}
 use Rattle.sheet.specs.declared.Expect.the-variants.{Control, OneCommand, Commands, OneData, Run}
 use Rattle.sheet.specs.Protocol.{addressOf, heardBy, next}
 use Rattle.sheet.specs.Checks.{checkState, checkTransfer}
-use Rattle.sheet.specs.Long.{Group, After, begun, byte, dataByte, heard, registersOf, partOf, taken, answered, transferCall}
+use Rattle.sheet.specs.Long.{Group, After, begun, byte, dataByte, heard, registersOf, columnsOf, taken, answered, transferCall}
 use Rattle.laws.proofs.Runs.{length-bits}
 use Rattle.laws.proofs.Fits.{Fits, both-pass, fits-of}
 
 -- group g after a call is as it was
 pub record Stays (C : ℕ) (n : Chips) (g : ℕ) (r : Both) (ram : List ℕ) (a : After) : Type 0 where
   pub registers : registersOf g (a .result .registers) ≡ registersOf g r
-  pub columns : partOf C n g (a .ram) ≡ partOf C n g ram
+  pub columns : columnsOf C n g (a .ram) ≡ columnsOf C n g ram
 
 -- ---- a transfer keeps the length of the part it writes
 

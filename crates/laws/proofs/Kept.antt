@@ -8,11 +8,12 @@ use lib.ListN.{length}
 use Rattle.sheet.specs.declared.Registers.{Registers}
 use Rattle.sheet.specs.declared.Expect.{Expect}
 use Rattle.sheet.specs.declared.Expect.the-variants.{Control, OneCommand, Commands, OneData, Run}
-use Rattle.sheet.specs.Commands.{commandOf, obeyed, backplanes, bankRow}
-use Rattle.sheet.specs.Places.{position, atPosition}
-use Rattle.sheet.specs.Data.{widthOf}
+use Rattle.sheet.specs.Registers.{backplanes, bankRow}
+use Rattle.sheet.specs.Commands.{commandOf, obeyed}
 use Rattle.sheet.specs.Protocol.{next}
 use Rattle.sheet.specs.Long.{Group, byte, dataByte, heard}
+use Rattle.sheet.specs.Places.{position, atPosition}
+use Rattle.sheet.specs.Data.{widthOf}
 use Rattle.sheet.specs.Agree.{Keeps}
 use Rattle.laws.proofs.Ranges.{InRange, range-of, in-range, kept, rows-fit}
 use Rattle.laws.proofs.Steps.{stays-in}

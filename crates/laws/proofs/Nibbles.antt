@@ -15,9 +15,8 @@ use borrow.Author.Tests.{le-ltb, ltb-false}
 use Rattle.sheet.specs.declared.Check.{Check}
 use Rattle.sheet.specs.declared.Check.the-variants.{Passed, Refused}
 use Rattle.sheet.specs.declared.Refusal.{Refusal}
-use Rattle.sheet.specs.Checks.{overIn}
+use Rattle.sheet.specs.Checks.{overIn, passed}
 use Rattle.sheet.specs.Data.{bitOf, withRow, changed, putBits, putRun, widthOf}
-use Rattle.sheet.specs.Plain.{passed}
 use Rattle.laws.proofs.Rows.{bit-lt}
 
 -- every column is below 16

@@ -9,7 +9,8 @@ use borrow.Author.Tests.{leb-true, ltb-true, lt-ltb, le-leb}
 use Rattle.lemmas.proofs.Tests.{and-left, and-right, both-true, all, all-at}
 use Rattle.sheet.specs.declared.Registers.{Registers}
 use Rattle.sheet.specs.declared.Command.{Command}
-use Rattle.sheet.specs.Commands.{within, commandOf, obeyed, inRange, backplanes, bankRow}
+use Rattle.sheet.specs.Registers.{inRange, backplanes, bankRow}
+use Rattle.sheet.specs.Commands.{within, commandOf, obeyed}
 
 -- every register in its range, for chips of C columns and the subaddress limit L
 pub record InRange (C L : ℕ) (r : Registers) : Type 0 where

@@ -12,10 +12,10 @@ use borrow.Author.Tests.{le-ltb}
 use Rattle.sheet.specs.declared.Registers.{Registers}
 use Rattle.sheet.specs.declared.Counts.{Counts}
 use Rattle.sheet.specs.declared.Expect.the-variants.{Run}
-use Rattle.sheet.specs.Commands.{backplanes, bankRow}
+use Rattle.sheet.specs.Registers.{backplanes, bankRow}
+use Rattle.sheet.specs.Long.{Group, heard, dataByte}
 use Rattle.sheet.specs.Places.{position, atPosition}
 use Rattle.sheet.specs.Data.{changed, putBits, putRun, widthOf, storedBits, counted, countedRun}
-use Rattle.sheet.specs.Long.{Group, heard, dataByte}
 use Rattle.laws.proofs.Steps.{home, on, many, p-at, a-at, settled}
 
 -- ---- one column changed

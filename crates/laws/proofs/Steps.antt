@@ -10,9 +10,9 @@ use borrow.Author.Tests.{eq-eqb, ne-eqb}
 use Rattle.lemmas.proofs.Order.{lt-or-le}
 use Rattle.sheet.specs.declared.Registers.{Registers}
 use Rattle.sheet.specs.declared.Chip.{Chip}
-use Rattle.sheet.specs.Commands.{atPlace}
+use Rattle.sheet.specs.Registers.{atPlace}
+use Rattle.sheet.specs.Plain.{afterColumn, afterColumns}
 use Rattle.sheet.specs.Places.{advanced, advancedBy, position, atPosition}
-use Rattle.sheet.specs.Plain.{column, columns}
 use Rattle.laws.proofs.Ranges.{InRange}
 
 -- one column on from a position
@@ -84,7 +84,7 @@ stays-in C L u r h = record {
 }
 
 -- stored or not, each column of a data byte moves a chip's P and A on
-pub columns-move : (C L x n : ℕ) (c : Chip) → columns C L x n c .registers ≡ advancedBy C L n (c .registers)
-unfolding columns column advancedBy
+pub columns-move : (C L x n : ℕ) (c : Chip) → afterColumns C L x n c .registers ≡ advancedBy C L n (c .registers)
+unfolding afterColumns afterColumn advancedBy
 columns-move C L x zero c = refl
 columns-move C L x (suc n) c = ap (advanced C L) (columns-move C L x n c)

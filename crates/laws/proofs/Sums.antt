@@ -7,11 +7,11 @@ use native.Mathlib.Omega.{arith}
 use lib.ListN.{length}
 use Rattle.sheet.specs.declared.Expect.{Expect}
 use Rattle.sheet.specs.declared.Expect.the-variants.{Control, OneCommand, Commands, OneData, Run}
-use Rattle.sheet.specs.Commands.{backplanes}
-use Rattle.sheet.specs.Places.{position}
-use Rattle.sheet.specs.Data.{counted}
+use Rattle.sheet.specs.Registers.{backplanes}
 use Rattle.sheet.specs.Protocol.{next}
 use Rattle.sheet.specs.Long.{Group, byte, dataByte, heard}
+use Rattle.sheet.specs.Places.{position}
+use Rattle.sheet.specs.Data.{counted}
 use Rattle.laws.proofs.Ranges.{planes-pos}
 use Rattle.laws.proofs.Counts.{stored-closed}
 

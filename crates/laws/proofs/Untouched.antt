@@ -21,13 +21,13 @@ use Rattle.sheet.specs.declared.Check.the-variants.{Passed, Refused}
 use Rattle.sheet.specs.declared.Addressed.the-variants.{To, Nobody}
 use Rattle.sheet.specs.declared.Expect.{Expect}
 use Rattle.sheet.specs.declared.Expect.the-variants.{Control, OneCommand, Commands, OneData, Run}
-use Rattle.sheet.specs.Commands.{backplanes, bankRow}
-use Rattle.sheet.specs.Places.{position}
-use Rattle.sheet.specs.Data.{bitOf, rowOf, withRow, changed, putBits, widthOf}
+use Rattle.sheet.specs.Registers.{backplanes, bankRow}
 use Rattle.sheet.specs.Protocol.{addressOf, heardBy, next}
 use Rattle.sheet.specs.Checks.{checkTransfer}
-use Rattle.sheet.specs.Long.{Group, After, begun, byte, dataByte, heard, registersOf, partOf, taken, answered, transferCall}
-use Rattle.sheet.specs.Plain.{putRows, column, columns, chipData, chipByte, any, hears, takes, Plain, PlainAfter, plainHeard, plainTaken, plainSaid, plainAnswered, checkPlain, plainCall}
+use Rattle.sheet.specs.Long.{Group, After, begun, byte, dataByte, heard, registersOf, columnsOf, taken, answered, transferCall}
+use Rattle.sheet.specs.Plain.{putRows, afterColumn, afterColumns, chipData, chipByte, any, hears, takes, Plain, PlainAfter, plainHeard, plainTaken, plainSaid, plainAnswered, checkPlain, plainCall}
+use Rattle.sheet.specs.Places.{position}
+use Rattle.sheet.specs.Data.{bitOf, rowOf, withRow, changed, putBits, widthOf}
 use Rattle.sheet.specs.Lands.{bitsOn, byteOn, heardOn, Missed, LongStays, rowsOn, columnOn, columnsOn, chipByteOn, chipHeardOn, PlainStays, Untouched}
 use Rattle.laws.proofs.Rows.{row-other, row-kept, row-stays, changed-other, bit-lt}
 use Rattle.laws.proofs.Fits.{Fits}
@@ -69,10 +69,10 @@ heard-missed C L e (x ∷ xs) g c q h =
 module _ (C L : ℕ) (n : Chips) (r : Both) (ram bytes : List ℕ) where
   -- the group after the bytes
   abbrev after : ℕ → Group
-  after g = heard C L Control (drop 1 bytes) (begun (registersOf g r) (partOf C n g ram))
+  after g = heard C L Control (drop 1 bytes) (begun (registersOf g r) (columnsOf C n g ram))
 
   abbrev RowStays : ℕ → ℕ → ℕ → After → Type 0
-  RowStays g c q a = SameRow c q (partOf C n g (a .ram)) (partOf C n g ram)
+  RowStays g c q a = SameRow c q (columnsOf C n g (a .ram)) (columnsOf C n g ram)
 
   -- by who hears byte 0
   row-zero : (c q : ℕ) → Missed C L n r ram bytes 0 c q → Fits C L n r ram → (t u : Bool) → (t ≡ true → getD bytes 0 0 ≡ addressOf 0)
@@ -87,7 +87,7 @@ module _ (C L : ℕ) (n : Chips) (r : Both) (ram bytes : List ℕ) where
       → RowStays 1 c q (taken C L n r ram bytes (cond t (To 0) (cond u (To 1) Nobody)))
   row-one c q m f true u h = ap (λ (l : List ℕ). rowOf (getD l c 0) q) (one-kept C L n r ram bytes f true .columns)
   row-one c q m f false true h =
-      let before = begun (r .one) (partOf C n 1 ram) in
+      let before = begun (r .one) (columnsOf C n 1 ram) in
       let size : length (after 1 .ram) ≡ C * n .one =
       length-heard C L Control (drop 1 bytes) before ∙ length-take-le (C * n .one) (drop (C * n .zero) ram) (omega (arith, length-drop (C * n .zero) ram, f .columns)) in
       ap (λ (l : List ℕ). rowOf (getD l c 0) q)
@@ -141,8 +141,8 @@ change-missed : (f : ℕ → ℕ) (at p q : ℕ) (t : Bool) (ram : List ℕ) →
 change-missed f at p q t ram e keeps =
     ⊎-elim (λ (h : p ≡ at). row-kept f q (keeps (sym (rw (eq-eqb p at h)) ∙ e)) at p ram) (λ (h : p ≢ at). ap (λ (column : ℕ). rowOf column q) (changed-other f at p ram h)) (equal-or-not p at)
 
-column-missed : (C L x j : ℕ) (c : Chip) (p q : ℕ) → columnOn j c p q ≡ false → SameRow p q (column C L x j c .columns) (c .columns)
-unfolding column
+column-missed : (C L x j : ℕ) (c : Chip) (p q : ℕ) → columnOn j c p q ≡ false → SameRow p q (afterColumn C L x j c .columns) (c .columns)
+unfolding afterColumn
 column-missed C L x j c p q e = stored (eqb (c .registers .a) (c .subaddress)) e
   where
     m : ℕ
@@ -156,12 +156,12 @@ column-missed C L x j c p q e = stored (eqb (c .registers .a) (c .subaddress)) e
     stored true h = change-missed (putRows m b (m * j) x) (c .registers .p) p q (rowsOn m b (m * j) q) (c .columns) h (λ o column. rows-missed m b (m * j) x q column o)
     stored false h = refl
 
-columns-missed : (C L x n : ℕ) (c : Chip) (p q : ℕ) → columnsOn C L x n c p q ≡ false → SameRow p q (columns C L x n c .columns) (c .columns)
-unfolding columnsOn columns
+columns-missed : (C L x n : ℕ) (c : Chip) (p q : ℕ) → columnsOn C L x n c p q ≡ false → SameRow p q (afterColumns C L x n c .columns) (c .columns)
+unfolding columnsOn afterColumns
 columns-missed C L x zero c p q e = refl
 columns-missed C L x (suc n) c p q e =
-    let d = either-false (columnOn n (columns C L x n c) p q) (columnsOn C L x n c p q) e in
-    column-missed C L x n (columns C L x n c) p q (d .0) ∙ columns-missed C L x n c p q (d .1)
+    let d = either-false (columnOn n (afterColumns C L x n c) p q) (columnsOn C L x n c p q) e in
+    column-missed C L x n (afterColumns C L x n c) p q (d .0) ∙ columns-missed C L x n c p q (d .1)
 
 chip-byte-missed : (C L : ℕ) (e : Expect) (x : ℕ) (c : Chip) (p q : ℕ) → chipByteOn C L e x c p q ≡ false → SameRow p q (chipByte C L e x c .columns) (c .columns)
 unfolding chipData

@@ -14,8 +14,9 @@ use Rattle.sheet.specs.declared.Both.{Both}
 use Rattle.sheet.specs.declared.Chips.{Chips}
 use Rattle.sheet.specs.declared.Check.the-variants.{Passed}
 use Rattle.sheet.specs.declared.Refusal.the-variants.{EmptyTransfer, LongTransfer, GroupOrPhase, PictureLength}
-use Rattle.sheet.specs.Checks.{unless, chipsIn, overIn, checkLength, checkState, checkTransfer, checkPicture}
-use Rattle.sheet.specs.Long.{registersOf, startOf, endOf, partOf}
+use Rattle.sheet.specs.Protocol.{chipsIn}
+use Rattle.sheet.specs.Checks.{unless, overIn, checkLength, checkState, checkTransfer, checkPicture}
+use Rattle.sheet.specs.Long.{registersOf, startOf, endOf, columnsOf}
 use Rattle.laws.proofs.Ranges.{InRange}
 use Rattle.laws.proofs.Fits.{Fits, both-pass, unless-passes}
 use Rattle.laws.proofs.Nibbles.{check-nibbles, take-nibbles, drop-nibbles}
@@ -56,15 +57,15 @@ module _ (n : Chips) (r : Both) (ram : List ℕ) (g : ℕ) (f : Fits 160 4 n r r
       go true = f .zero-few
       go false = f .one-few
 
-  pub part-long : length (partOf 160 n g ram) ≡ 160 * chipsIn g n
+  pub part-long : length (columnsOf 160 n g ram) ≡ 160 * chipsIn g n
   part-long = simp (length-take, length-drop) (omega (arith, part-ends))
 
   -- with no column over 15
-  pub part-passes : overIn 0 (partOf 160 n g ram) ≡ Passed
-  part-passes = check-nibbles 0 (partOf 160 n g ram) (take-nibbles (160 * chipsIn g n) (drop (startOf 160 n g) ram) (drop-nibbles (startOf 160 n g) ram (f .nibbles)))
+  pub part-passes : overIn 0 (columnsOf 160 n g ram) ≡ Passed
+  part-passes = check-nibbles 0 (columnsOf 160 n g ram) (take-nibbles (160 * chipsIn g n) (drop (startOf 160 n g) ram) (drop-nibbles (startOf 160 n g) ram (f .nibbles)))
 
   -- the part as the code takes it
-  pub part-taken : (start end : ℕ) → start ≡ startOf 160 n g → end ≡ endOf 160 n g → take (end - start) (drop start ram) ≡ partOf 160 n g ram
+  pub part-taken : (start end : ℕ) → start ≡ startOf 160 n g → end ≡ endOf 160 n g → take (end - start) (drop start ram) ≡ columnsOf 160 n g ram
   part-taken start end es ee = rw (es, ee, add-sub-cancel-left (startOf 160 n g) (160 * chipsIn g n))
 
   -- and the RAM with the part put back

@@ -1,4 +1,4 @@
-// THE LONG ACCOUNT: one register set a group and one long RAM. Every input gets an answer; a refused call changes nothing.
+// THE LONG ACCOUNT: one register set a group and one long RAM. Every input gets an answer; a refused call changes noCounts.
 use sheet::Addressed;
 use sheet::Answer;
 use sheet::Both;
@@ -14,9 +14,9 @@ ghost use mathlib.Core.Path.{_≡_};
 ghost use Prim.Native.Nat.{_*_, _<_};
 ghost use lib.ListN.{length, getD};
 ghost use Rattle.sheet.specs.Refusals.{numbers, pictureNumbers, checkNumbers};
-ghost use Rattle.sheet.specs.Protocol.{heardBy};
-ghost use Rattle.sheet.specs.Checks.{unless, chipsIn, checkRegisters, checkRam, checkCommands, checkState, checkPowerOn, checkTransfer, checkPicture};
-ghost use Rattle.sheet.specs.Long.{nothing, registersOf, replaced, startOf, endOf, taken, powerOnCall, transferCall, pictureCall};
+ghost use Rattle.sheet.specs.Protocol.{heardBy, chipsIn};
+ghost use Rattle.sheet.specs.Checks.{unless, checkRegisters, checkRam, checkCommands, checkState, checkPowerOn, checkTransfer, checkPicture};
+ghost use Rattle.sheet.specs.Long.{noCounts, registersOf, replaced, startOf, endOf, taken, powerOnCall, transferCall, pictureCall};
 
 // ---- the checks, in the order of their numbers in each call; a later one is looked at only if the earlier ones passed
 
@@ -199,7 +199,7 @@ fn deliver(chips: Chips, registers: Both, ram: &mut [u8], bytes: &[u8], group: u
 
 // A transfer that nobody hears.
 fn unheard(registers: Both) -> Transferred
-    ensures { λ r. ⌜ r ≡ record { answer = Answer.Taken nothing; registers = registers } ⌝ }
+    ensures { λ r. ⌜ r ≡ record { answer = Answer.Taken noCounts; registers = registers } ⌝ }
 {
     Transferred {
         answer: Answer::Taken(Counts {

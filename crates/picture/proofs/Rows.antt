@@ -9,7 +9,7 @@ use native.Mathlib.Omega.{arith}
 use lib.Dec.{eqb}
 use Rattle.sheet.specs.declared.Registers.{Registers}
 use Rattle.sheet.specs.declared.Shown.the-variants.{Dark, Rows}
-use Rattle.sheet.specs.Commands.{inRange, backplanes, bankRow}
+use Rattle.sheet.specs.Registers.{inRange, backplanes, bankRow}
 use Rattle.sheet.specs.Pictures.{blinked, shown, lit, pictureOf}
 use Rattle.laws.proofs.Ranges.{range-of, rows-fit}
 

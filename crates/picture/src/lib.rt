@@ -6,7 +6,7 @@ ghost use mathlib.Core.Bool.{cond, true};
 ghost use mathlib.Core.List.{map};
 ghost use Prim.Native.Nat.{_-_, _≤_, _<_};
 ghost use lib.ListN.{length};
-ghost use Rattle.sheet.specs.Commands.{inRange};
+ghost use Rattle.sheet.specs.Registers.{inRange};
 ghost use Rattle.sheet.specs.Pictures.{shown, lit, pictureOf, litIn};
 
 // The bank that is shown: the group's own, or the other one.

@@ -7,9 +7,9 @@ use Prim.Native.Nat.{ℕ}
 use Rattle.sheet.specs.declared.Chip.{Chip}
 use Rattle.sheet.specs.declared.Expect.{Expect}
 use Rattle.sheet.specs.declared.Expect.the-variants.{Control, OneCommand, Commands, OneData, Run}
-use Rattle.sheet.specs.Commands.{inRange, backplanes}
+use Rattle.sheet.specs.Registers.{inRange, backplanes}
+use Rattle.sheet.specs.Plain.{hears, any, takes, chipByte, chipData, acknowledgesByte}
 use Rattle.sheet.specs.Data.{widthOf}
-use Rattle.sheet.specs.Plain.{hears, any, takes, chipByte, chipData, chipAcknowledged}
 use Rattle.laws.proofs.Ranges.{range-of, in-range}
 use Rattle.laws.proofs.Kept.{pcf8532-keeps}
 use Rattle.chip.proofs.Moves.{still-in}
@@ -19,9 +19,9 @@ use Rattle.plain.specs.Asking.{yes, taken}
 use Rattle.plain.specs.Turns.{AllIn}
 
 module _ (h : BusByte) where
-  pub asked : (cs : List Chip) → AllIn cs → any (λ c. hears (h .address) c && chipAcknowledged 160 4 (h .expect) (h .byte) c) cs ≡ any (yes (Acknowledges h)) cs
+  pub asked : (cs : List Chip) → AllIn cs → any (λ c. hears (h .address) c && acknowledgesByte 160 4 (h .expect) (h .byte) c) cs ≡ any (yes (Acknowledges h)) cs
   asked [] i = refl
-  asked (c ∷ cs) i = λ j. (hears (h .address) c && (sym (i .0) j && chipAcknowledged 160 4 (h .expect) (h .byte) c)) || asked cs (i .1) j
+  asked (c ∷ cs) i = λ j. (hears (h .address) c && (sym (i .0) j && acknowledgesByte 160 4 (h .expect) (h .byte) c)) || asked cs (i .1) j
 
   pub all-taken : (cs : List Chip) → AllIn cs → map (takes 160 4 (h .address) (h .expect) (h .byte)) cs ≡ map (taken h) cs
   all-taken [] i = refl

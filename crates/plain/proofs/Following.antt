@@ -11,7 +11,7 @@ use Rattle.lemmas.proofs.Lists.{next as next-of}
 use Rattle.laws.proofs.Counts.{present-le}
 use Rattle.sheet.specs.declared.Chip.{Chip}
 use Rattle.sheet.specs.Protocol.{next}
-use Rattle.sheet.specs.Plain.{Plain, plainHeard, hears, any, chipAcknowledged}
+use Rattle.sheet.specs.Plain.{Plain, plainHeard, hears, any, acknowledgesByte}
 use Rattle.plain.specs.declared.Turn.{Turn}
 use Rattle.plain.specs.declared.Question.the-variants.{Acknowledges}
 use Rattle.plain.specs.Asking.{yes, taken, firstYes}
@@ -43,7 +43,7 @@ module _ (cs₀ : List Chip) (bytes : List ℕ) (t₀ t : Turn) (cs : List Chip)
   stepped l =
       let h = t .heard in
       let i : AllIn cs = s .ready .right l in
-      let counted : any (λ c. hears (h .address) c && chipAcknowledged 160 4 (h .expect) (h .byte) c) cs ≡ ltb found (length cs₀) = asked h cs i ∙ any-first (yes (Acknowledges h)) cs ∙ ap (ltb found) (s .same) in
+      let counted : any (λ c. hears (h .address) c && acknowledgesByte 160 4 (h .expect) (h .byte) c) cs ≡ ltb found (length cs₀) = asked h cs i ∙ any-first (yes (Acknowledges h)) cs ∙ ap (ltb found) (s .same) in
       ap (λ (l : List ℕ). plainHeard 160 4 (h .address) (h .expect) l (record { acknowledged = t .acknowledged; chips = cs })) (next-of bytes (t .at) l ∙ ap (λ (x : ℕ). x ∷ drop (t .at + 1) bytes) (sym (s .ready .byte)))
       ∙ (λ j. plainHeard 160 4 (h .address) (next (h .expect) (h .byte)) (drop (t .at + 1) bytes) (record { acknowledged = t .acknowledged + cond (counted j) 1 0; chips = all-taken h cs i j }))
 

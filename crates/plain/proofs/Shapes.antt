@@ -2,7 +2,7 @@
 -- Assumes nothing.
 use mathlib.Core.List.{[]}
 use Rattle.sheet.specs.declared.Chip.{Chip}
-use Rattle.sheet.specs.Commands.{powerOn}
+use Rattle.sheet.specs.Registers.{powerOn}
 use Rattle.walks.proofs.Data.{Data, struct, enum}
 use Rattle.sheet.proofs.Chip as ChipType
 use Rattle.sheet.proofs.Chip.Laws as ChipLaws

@@ -18,8 +18,8 @@ use Rattle.sheet.specs.declared.Check.{Check}
 use Rattle.sheet.specs.declared.Check.the-variants.{Passed, Refused}
 use Rattle.sheet.specs.declared.PlainAnswer.{PlainAnswer}
 use Rattle.sheet.specs.Protocol.{undefinedIn}
-use Rattle.sheet.specs.Checks.{unless, orElse, checkLength}
-use Rattle.sheet.specs.Plain.{any, hears, passed, chipFits, misfitIn, checkPlain, plainHeard, plainSaid, plainAnswered, plainCall}
+use Rattle.sheet.specs.Checks.{unless, orElse, checkLength, passed}
+use Rattle.sheet.specs.Plain.{any, hears, chipFits, misfitIn, checkPlain, plainHeard, plainSaid, plainAnswered, plainCall}
 use Rattle.laws.proofs.Fits.{both-pass, unless-passes}
 use Rattle.chip.proofs.Passing.{registers-in}
 use Rattle.plain.specs.declared.Start.{Start}

@@ -10,8 +10,7 @@ use Rattle.sheet.specs.declared.Check.{Check}
 use Rattle.sheet.specs.declared.Check.the-variants.{Passed, Refused}
 use Rattle.sheet.specs.declared.PlainAnswer.{PlainAnswer}
 use Rattle.sheet.specs.Protocol.{undefinedIn}
-use Rattle.sheet.specs.Checks.{unless, orElse, checkLength}
-use Rattle.sheet.specs.Plain.{passed}
+use Rattle.sheet.specs.Checks.{unless, orElse, checkLength, passed}
 use Rattle.plain.specs.declared.Turn.{Turn}
 use Rattle.plain.specs.declared.Start.{Start}
 

@@ -6,7 +6,7 @@ use mathlib.Core.List.{List, [], _∷_}
 use lib.Dec.{ltb}
 use lib.ListN.{length, getD, drop}
 use Rattle.sheet.specs.declared.Chip.{Chip}
-use Rattle.sheet.specs.Commands.{inRange}
+use Rattle.sheet.specs.Registers.{inRange}
 use Rattle.sheet.specs.Protocol.{next}
 use Rattle.sheet.specs.Plain.{Plain, plainHeard}
 use Rattle.plain.specs.declared.Turn.{Turn}

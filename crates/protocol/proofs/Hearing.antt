@@ -13,11 +13,11 @@ use Rattle.sheet.specs.declared.Registers.{Registers}
 use Rattle.sheet.proofs.Expect.{the-type}
 use Rattle.sheet.specs.declared.Expect.{Expect}
 use Rattle.sheet.specs.declared.Expect.the-variants.{Control, OneCommand, Commands, OneData, Run}
-use Rattle.sheet.specs.Commands.{backplanes, bankRow}
+use Rattle.sheet.specs.Registers.{backplanes, bankRow}
+use Rattle.sheet.specs.Long.{begun, Group, command, byte, dataByte, heard}
 use Rattle.sheet.specs.Places.{position, atPosition}
 use Rattle.sheet.specs.Data.{counted}
 use Rattle.sheet.specs.Protocol as protocol
-use Rattle.sheet.specs.Long.{begun, Group, command, byte, dataByte, heard}
 use Rattle.laws.proofs.Ranges.{InRange, kept, planes-pos, rows-fit}
 use Rattle.laws.proofs.Counts.{stored-closed, present-le}
 use Rattle.laws.proofs.Steps.{stays-in}

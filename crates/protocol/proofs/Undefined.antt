@@ -12,8 +12,8 @@ use Rattle.sheet.specs.declared.Expect.the-variants.{Run}
 use Rattle.sheet.specs.declared.Refusal.the-variants.{UndefinedCommand}
 use Rattle.sheet.specs.declared.Check.the-variants.{Passed, Refused}
 use Rattle.sheet.specs.Commands.{commandOf, defined}
-use Rattle.sheet.specs.Protocol as protocol
 use Rattle.sheet.specs.Protocol.{isCommand, undefinedIn}
+use Rattle.sheet.specs.Protocol as protocol
 
 module _ (e : Expect) (bytes : List ℕ) (i : ℕ) (h : i < length bytes) where
   pub found : (isCommand e && not (defined (commandOf (getD bytes i 0)))) ≡ true → undefinedIn e i (drop i bytes) ≡ Refused (UndefinedCommand i)

@@ -9,11 +9,12 @@ ghost use mathlib.Core.Bool.{true, _&&_, not};
 ghost use mathlib.Core.List.{[]};
 ghost use Prim.Native.Nat.{_+_, _≤_, _<_, _^_};
 ghost use lib.ListN.{length, drop};
-ghost use Rattle.sheet.specs.Checks.{overIn};
-ghost use Rattle.sheet.specs.Commands.{commandOf, defined, inRange};
-ghost use Rattle.sheet.specs.Places.{atPosition};
+ghost use Rattle.sheet.specs.Registers.{inRange};
+ghost use Rattle.sheet.specs.Commands.{commandOf, defined};
 ghost use Rattle.sheet.specs.Protocol.{controlOf, next, isCommand, undefinedIn};
-ghost use Rattle.sheet.specs.Long.{begun, control, command, heard};
+ghost use Rattle.sheet.specs.Checks.{overIn};
+ghost use Rattle.sheet.specs.Long.{oneAcknowledged, begun, control, command, heard};
+ghost use Rattle.sheet.specs.Places.{atPosition};
 ghost use Rattle.protocol.specs.Listeners.{groupOf, listenerOf, dataEnd, heardOf};
 
 // What follows a control byte.
@@ -105,7 +106,7 @@ pub struct Listener {
 // One byte more is acknowledged.
 fn acknowledged(mut counts: Counts) -> Counts
     requires { ⌜ counts .acknowledged < 2 ^ 32 ⌝ }
-    ensures { λ r. ⌜ r ≡ Rattle.sheet.specs.Long.acknowledged counts ⌝ }
+    ensures { λ r. ⌜ r ≡ oneAcknowledged counts ⌝ }
 {
     counts.acknowledged += 1;
     counts

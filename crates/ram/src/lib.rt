@@ -5,8 +5,8 @@ ghost use mathlib.Core.Path.{_≡_};
 ghost use Prim.Native.Nat.{_+_, _-_, _*_, _/_, _%_, _≤_, _<_, _^_, min};
 ghost use lib.ListN.{length, getD};
 ghost use Rattle.sheet.specs.declared.Check.the-variants.{Passed};
+ghost use Rattle.sheet.specs.Registers.{bankRow};
 ghost use Rattle.sheet.specs.Checks.{overIn};
-ghost use Rattle.sheet.specs.Commands.{bankRow};
 ghost use Rattle.sheet.specs.Data.{changed, withRow, bitOf, putBits, putRun, widthOf, countedRun};
 ghost use Rattle.ram.specs.Fields.{field, joined, merged, Spread};
 

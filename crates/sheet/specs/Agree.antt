@@ -15,9 +15,12 @@ use Rattle.sheet.specs.declared.Check.the-variants.{Passed}
 use Rattle.sheet.specs.declared.Answer.{Answer}
 use Rattle.sheet.specs.declared.PlainAnswer.{PlainAnswer}
 use Rattle.sheet.specs.declared.Pictured.{Pictured}
-use Rattle.sheet.specs.Commands.{commandOf, obeyed, inRange}
-use Rattle.sheet.specs.Checks.{chipsIn, checkState}
-use Rattle.sheet.specs.Long.{State, stateOf, Seen, registersOf, startOf, powerOnCall, transferCall, pictureCall, stateAfter, stateAfterAll}
+use Rattle.sheet.specs.Registers.{inRange}
+use Rattle.sheet.specs.Commands.{commandOf, obeyed}
+use Rattle.sheet.specs.Protocol.{chipsIn}
+use Rattle.sheet.specs.Checks.{checkState}
+use Rattle.sheet.specs.Pictures.{Seen}
+use Rattle.sheet.specs.Long.{State, stateOf, registersOf, startOf, powerOnCall, transferCall, pictureCall, stateAfter, stateAfterAll}
 use Rattle.sheet.specs.Plain.{chipPowerOn, chipPictureCall, plainCall}
 
 -- ---- the chips of a long state

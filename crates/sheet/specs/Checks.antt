@@ -13,8 +13,8 @@ use Rattle.sheet.specs.declared.Refusal.{Refusal}
 use Rattle.sheet.specs.declared.Refusal.the-variants.{EmptyTransfer, LongTransfer, ChipCount, RamLength, RamByte, Register, GroupOrPhase, PictureLength}
 use Rattle.sheet.specs.declared.Check.{Check}
 use Rattle.sheet.specs.declared.Check.the-variants.{Passed, Refused}
-use Rattle.sheet.specs.Commands.{inRange}
-use Rattle.sheet.specs.Protocol.{heardBy, undefinedIn}
+use Rattle.sheet.specs.Registers.{inRange}
+use Rattle.sheet.specs.Protocol.{heardBy, chipsIn, undefinedIn}
 
 -- ---- one check
 
@@ -25,6 +25,10 @@ unless b r = cond b Passed (Refused r)
 abbrev pub orElse : Check → Check → Check
 orElse Passed next = next
 orElse (Refused r) next = Refused r
+
+abbrev pub passed : Check → Bool
+passed Passed = Bool.true
+passed (Refused r) = Bool.false
 
 -- 3
 unfoldable pub checkChips : ℕ → Chips → Check
@@ -66,10 +70,6 @@ checkPowerOn C L n ram = orElse (checkChips L n) (checkRam C n ram)
 unfoldable pub checkTransfer : ℕ → ℕ → Chips → Both → List ℕ → List ℕ → Check
 checkTransfer C L n r ram bytes =
     orElse (checkState C L n r ram) (orElse (checkLength (length bytes)) (checkCommands (heardBy n (getD bytes 0 0)) bytes))
-
--- the chips of group g
-abbrev pub chipsIn : ℕ → Chips → ℕ
-chipsIn g n = cond (eqb g 0) (n .zero) (n .one)
 
 -- picture into a buffer of the given size: 3, 6, 4, 5, 8, 9
 unfoldable pub checkPicture : ℕ → ℕ → Chips → Both → List ℕ → ℕ → ℕ → ℕ → Check

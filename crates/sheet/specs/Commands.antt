@@ -1,11 +1,11 @@
 -- The command bytes and what they do to a group's registers (paper 01, "A transfer, byte by byte"; sheet 003, tables 5 to 12).
--- C is the column count, L the subaddress limit: 160 and 4 for the PCF8532.
 use Prim.Native.Nat.{ℕ, _+_, _-_, _*_, _/_, _%_}
 use mathlib.Core.Bool.{Bool, cond, _&&_}
-use lib.Dec.{eqb, leb, ltb}
+use lib.Dec.{leb}
 use Rattle.sheet.specs.declared.Registers.{Registers}
 use Rattle.sheet.specs.declared.Command.{Command}
 use Rattle.sheet.specs.declared.Command.the-variants.{PointerHigh, PointerLow, ModeSet, DeviceSelect, FrequencyCtrl, BlinkSelect, BankSelect, Undefined}
+use Rattle.sheet.specs.Registers.{atPlace}
 
 -- lo to hi, both included
 unfoldable pub within : ℕ → ℕ → ℕ → Bool
@@ -33,14 +33,6 @@ defined (BlinkSelect ab bf) = Bool.true
 defined (BankSelect i o) = Bool.true
 defined Undefined = Bool.false
 
--- power-on: M = 00 (1:4), all else 0
-abbrev pub powerOn : Registers
-powerOn = record { e = 0; b = 0; m = 0; p = 0; a = 0; i = 0; o = 0; ab = 0; bf = 0 }
-
--- the registers with another pointer and counter
-abbrev pub atPlace : Registers → ℕ → ℕ → Registers
-atPlace r p a = record { e = r .e; b = r .b; m = r .m; p = p; a = a; i = r .i; o = r .o; ab = r .ab; bf = r .bf }
-
 -- what each command does. B is kept and the frequency is not; I and O are kept in every mode (house)
 abbrev pub obeyed : Registers → Command → Registers
 obeyed r (PointerHigh n) = atPlace r (16 * n + r .p % 16) (r .a)
@@ -51,17 +43,3 @@ obeyed r FrequencyCtrl = r
 obeyed r (BlinkSelect ab bf) = record { e = r .e; b = r .b; m = r .m; p = r .p; a = r .a; i = r .i; o = r .o; ab = ab; bf = bf }
 obeyed r (BankSelect i o) = record { e = r .e; b = r .b; m = r .m; p = r .p; a = r .a; i = i; o = o; ab = r .ab; bf = r .bf }
 obeyed r Undefined = r
-
--- every register in its range: P below C, A at most L
-unfoldable pub inRange : ℕ → ℕ → Registers → Bool
-inRange C L r =
-    ltb (r .e) 2 && (ltb (r .b) 2 && (ltb (r .m) 4 && (ltb (r .p) C && (leb (r .a) L
-    && (ltb (r .i) 2 && (ltb (r .o) 2 && (ltb (r .ab) 2 && ltb (r .bf) 4)))))))
-
--- backplanes m: M = 01, 10, 11, 00 give 1, 2, 3, 4
-unfoldable pub backplanes : Registers → ℕ
-backplanes r = cond (eqb (r .m) 0) 4 (r .m)
-
--- the first row of a bank: 2 × the bank for m = 1 or 2, and 0 otherwise
-unfoldable pub bankRow : ℕ → ℕ → ℕ
-bankRow m bank = cond (ltb m 3) (2 * bank) 0

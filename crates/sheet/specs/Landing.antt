@@ -6,12 +6,13 @@ use lib.Dec.{T, eqb}
 use lib.ListN.{getD, replicate}
 use Rattle.sheet.specs.declared.Chip.{Chip}
 use Rattle.sheet.specs.declared.Expect.the-variants.{Control}
-use Rattle.sheet.specs.Commands.{powerOn, commandOf, within, backplanes, bankRow}
-use Rattle.sheet.specs.Places.{advanced, position, atPosition}
-use Rattle.sheet.specs.Data.{rowOf, withRow, changed, putBits, storedBits, counted}
+use Rattle.sheet.specs.Registers.{powerOn, backplanes, bankRow}
+use Rattle.sheet.specs.Commands.{commandOf, within}
 use Rattle.sheet.specs.Protocol.{addressOf, controlOf}
 use Rattle.sheet.specs.Long.{begun, dataByte, heard}
-use Rattle.sheet.specs.Plain.{putRows, column, columns, chipData, chipAcknowledges, plainHeard}
+use Rattle.sheet.specs.Plain.{putRows, afterColumn, afterColumns, chipData, acknowledgesData, plainHeard}
+use Rattle.sheet.specs.Places.{advanced, position, atPosition}
+use Rattle.sheet.specs.Data.{rowOf, withRow, changed, putBits, storedBits, counted}
 use Rattle.sheet.specs.Lands.{bitsOn, heardOn, rowsOn, columnsOn, chipHeardOn}
 use Rattle.sheet.specs.Starred.{chipColumns}
 
@@ -49,5 +50,5 @@ exact =
     && exactFrom 4 158 (0x80 ∷ 0x09 ∷ 0x80 ∷ 0x4F ∷ 0x40 ∷ 0xA5 ∷ [])))
 
 pub landing : T exact
-unfolding bitsOn heardOn rowsOn columnsOn chipHeardOn heard dataByte plainHeard chipData column columns putRows chipAcknowledges advanced position atPosition commandOf within controlOf backplanes bankRow putBits changed withRow storedBits counted
+unfolding bitsOn heardOn rowsOn columnsOn chipHeardOn heard dataByte plainHeard chipData afterColumn afterColumns putRows acknowledgesData advanced position atPosition commandOf within controlOf backplanes bankRow putBits changed withRow storedBits counted
 landing = tt

@@ -11,12 +11,12 @@ use Rattle.sheet.specs.declared.Chips.{Chips}
 use Rattle.sheet.specs.declared.Chip.{Chip}
 use Rattle.sheet.specs.declared.Expect.{Expect}
 use Rattle.sheet.specs.declared.Expect.the-variants.{Control, OneCommand, Commands, OneData, Run}
-use Rattle.sheet.specs.Commands.{backplanes, bankRow}
+use Rattle.sheet.specs.Registers.{backplanes, bankRow}
+use Rattle.sheet.specs.Protocol.{addressOf, next}
+use Rattle.sheet.specs.Long.{Group, begun, byte, registersOf, columnsOf, transferCall}
+use Rattle.sheet.specs.Plain.{afterColumns, chipByte, plainCall}
 use Rattle.sheet.specs.Places.{position}
 use Rattle.sheet.specs.Data.{rowOf, widthOf}
-use Rattle.sheet.specs.Protocol.{addressOf, next}
-use Rattle.sheet.specs.Long.{Group, begun, byte, registersOf, partOf, transferCall}
-use Rattle.sheet.specs.Plain.{columns, chipByte, plainCall}
 
 -- ---- the long account
 
@@ -43,12 +43,12 @@ heardOn C L e (x ∷ xs) g c q = byteOn C e (g .registers) c q || heardOn C L (n
 
 -- row q of column c of group g: no data bit of a transfer to it lands there
 abbrev pub Missed : ℕ → ℕ → Chips → Both → List ℕ → List ℕ → ℕ → ℕ → ℕ → Type 0
-Missed C L n r ram bytes g c q = getD bytes 0 0 ≡ addressOf g → heardOn C L Control (drop 1 bytes) (begun (registersOf g r) (partOf C n g ram)) c q ≡ false
+Missed C L n r ram bytes g c q = getD bytes 0 0 ≡ addressOf g → heardOn C L Control (drop 1 bytes) (begun (registersOf g r) (columnsOf C n g ram)) c q ≡ false
 
 pub record LongStays (C L : ℕ) (n : Chips) (r : Both) (ram bytes : List ℕ) (g : ℕ) : Type 0 where
   pub row : (c q : ℕ) → Missed C L n r ram bytes g c q
-      → rowOf (getD (partOf C n g (transferCall C L n r ram bytes .ram)) c 0) q ≡ rowOf (getD (partOf C n g ram) c 0) q
-  pub columns : (getD bytes 0 0 ≡ addressOf g → ⊥) → partOf C n g (transferCall C L n r ram bytes .ram) ≡ partOf C n g ram
+      → rowOf (getD (columnsOf C n g (transferCall C L n r ram bytes .ram)) c 0) q ≡ rowOf (getD (columnsOf C n g ram) c 0) q
+  pub columns : (getD bytes 0 0 ≡ addressOf g → ⊥) → columnsOf C n g (transferCall C L n r ram bytes .ram) ≡ columnsOf C n g ram
   pub registers : (getD bytes 0 0 ≡ addressOf g → ⊥) → registersOf g (transferCall C L n r ram bytes .result .registers) ≡ registersOf g r
 
 -- ---- the plain account
@@ -68,7 +68,7 @@ columnOn j c p q =
 -- one of the first n columns of a byte does
 unfoldable pub columnsOn : ℕ → ℕ → ℕ → ℕ → Chip → ℕ → ℕ → Bool
 columnsOn C L x zero c p q = false
-columnsOn C L x (suc n) c p q = columnOn n (columns C L x n c) p q || columnsOn C L x n c p q
+columnsOn C L x (suc n) c p q = columnOn n (afterColumns C L x n c) p q || columnsOn C L x n c p q
 
 abbrev pub chipDataOn : ℕ → ℕ → ℕ → Chip → ℕ → ℕ → Bool
 chipDataOn C L x c p q = columnsOn C L x (widthOf (backplanes (c .registers))) c p q

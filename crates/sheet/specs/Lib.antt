@@ -1,4 +1,5 @@
 pub mod Refusals
+pub mod Registers
 pub mod Commands
 pub mod Places
 pub mod Data

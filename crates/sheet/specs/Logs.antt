@@ -11,7 +11,7 @@ use Rattle.sheet.specs.declared.Refusal.the-variants.{LogHead, CutRecord
 use Rattle.sheet.specs.Refusals.{numberOf, placeOf, numbers}
 use Rattle.sheet.specs.Checks.{unless, orElse, checkChips}
 use Rattle.sheet.specs.Pictures.{pictureOf, litIn}
-use Rattle.sheet.specs.Long.{State, stateOf, bothOn, transferCall, stateAfter, stateAfterAll, registersOf, partOf}
+use Rattle.sheet.specs.Long.{State, stateOf, bothOn, transferCall, stateAfter, stateAfterAll, registersOf, columnsOf}
 
 -- ---- the log
 
@@ -80,7 +80,7 @@ columnLines g c (q ∷ qs) = cond (eqb q 0) [] (line 83 (g ∷ c ∷ q ∷ [])) 
 
 -- group g's picture at phase 0
 abbrev pub shownAt : Chips → State → ℕ → List ℕ
-shownAt n s g = pictureOf (registersOf g (s .registers)) 0 (partOf 160 n g (s .ram))
+shownAt n s g = pictureOf (registersOf g (s .registers)) 0 (columnsOf 160 n g (s .ram))
 
 abbrev pub endLines : Chips → State → List ℕ
 endLines n s =

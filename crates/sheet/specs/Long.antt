@@ -16,13 +16,13 @@ use Rattle.sheet.specs.declared.Check.{Check}
 use Rattle.sheet.specs.declared.Answer.{Answer}
 use Rattle.sheet.specs.declared.Transferred.{Transferred}
 use Rattle.sheet.specs.declared.PowerOn.{PowerOn}
-use Rattle.sheet.specs.declared.Pictured.{Pictured}
-use Rattle.sheet.specs.Commands.{commandOf, obeyed, backplanes, bankRow, powerOn}
+use Rattle.sheet.specs.Registers.{backplanes, bankRow, powerOn}
+use Rattle.sheet.specs.Commands.{commandOf, obeyed}
+use Rattle.sheet.specs.Protocol.{heardBy, next, chipsIn}
+use Rattle.sheet.specs.Checks.{checkPowerOn, checkTransfer, checkPicture}
+use Rattle.sheet.specs.Pictures.{pictureOf, Seen, seen}
 use Rattle.sheet.specs.Places.{position, atPosition}
 use Rattle.sheet.specs.Data.{putBits, widthOf, counted}
-use Rattle.sheet.specs.Protocol.{heardBy, next}
-use Rattle.sheet.specs.Checks.{chipsIn, checkPowerOn, checkTransfer, checkPicture}
-use Rattle.sheet.specs.Pictures.{pictureOf, litIn}
 
 -- ---- one group hears the bytes after the address
 
@@ -32,22 +32,22 @@ pub record Group : Type 0 where
   pub ram : List ℕ
   pub counts : Counts
 
-abbrev pub acknowledged : Counts → Counts
-acknowledged t = record { acknowledged = t .acknowledged + 1; stored = t .stored; discarded = t .discarded }
+abbrev pub oneAcknowledged : Counts → Counts
+oneAcknowledged t = record { acknowledged = t .acknowledged + 1; stored = t .stored; discarded = t .discarded }
 
-abbrev pub nothing : Counts
-nothing = record { acknowledged = 0; stored = 0; discarded = 0 }
+abbrev pub noCounts : Counts
+noCounts = record { acknowledged = 0; stored = 0; discarded = 0 }
 
 -- after the address, which is acknowledged
 abbrev pub begun : Registers → List ℕ → Group
-begun r ram = record { registers = r; ram = ram; counts = acknowledged nothing }
+begun r ram = record { registers = r; ram = ram; counts = oneAcknowledged noCounts }
 
 -- a control byte, a command, a data byte
 abbrev pub control : Group → Group
-control g = record { registers = g .registers; ram = g .ram; counts = acknowledged (g .counts) }
+control g = record { registers = g .registers; ram = g .ram; counts = oneAcknowledged (g .counts) }
 
 abbrev pub command : ℕ → Group → Group
-command x g = record { registers = obeyed (g .registers) (commandOf x); ram = g .ram; counts = acknowledged (g .counts) }
+command x g = record { registers = obeyed (g .registers) (commandOf x); ram = g .ram; counts = oneAcknowledged (g .counts) }
 
 unfoldable pub dataByte : ℕ → ℕ → ℕ → Group → Group
 dataByte C L x g =
@@ -88,8 +88,8 @@ startOf C n g = cond (eqb g 0) 0 (C * n .zero)
 abbrev pub endOf : ℕ → Chips → ℕ → ℕ
 endOf C n g = startOf C n g + C * chipsIn g n
 
-abbrev pub partOf : ℕ → Chips → ℕ → List ℕ → List ℕ
-partOf C n g ram = take (C * chipsIn g n) (drop (startOf C n g) ram)
+abbrev pub columnsOf : ℕ → Chips → ℕ → List ℕ → List ℕ
+columnsOf C n g ram = take (C * chipsIn g n) (drop (startOf C n g) ram)
 
 -- ---- the calls. Each gives its result and what a lent buffer holds after it
 
@@ -113,8 +113,8 @@ heardIn C n g r ram h = record {
 
 abbrev pub taken : ℕ → ℕ → Chips → Both → List ℕ → List ℕ → Addressed → After
 taken C L n r ram bytes (To g) =
-    heardIn C n g r ram (heard C L Control (drop 1 bytes) (begun (registersOf g r) (partOf C n g ram)))
-taken C L n r ram bytes Nobody = record { result = record { answer = Answer.Taken nothing; registers = r }; ram = ram }
+    heardIn C n g r ram (heard C L Control (drop 1 bytes) (begun (registersOf g r) (columnsOf C n g ram)))
+taken C L n r ram bytes Nobody = record { result = record { answer = Answer.Taken noCounts; registers = r }; ram = ram }
 
 abbrev pub answered : Check → Both → List ℕ → After → After
 answered Check.Passed r ram a = a
@@ -137,19 +137,11 @@ stateAfter C L n s bytes =
     let a = transferCall C L n (s .registers) (s .ram) bytes in
     stateOf (a .result .registers) (a .ram)
 
--- after a sequence of transfers; a refused one changes nothing
+-- after a sequence of transfers; a refused one changes noCounts
 unfoldable pub stateAfterAll : ℕ → ℕ → Chips → State → List (List ℕ) → State
 stateAfterAll C L n s [] = s
 stateAfterAll C L n s (t ∷ ts) = stateAfterAll C L n (stateAfter C L n s t) ts
 
-pub record Seen : Type 0 where
-  pub result : Pictured
-  pub out : List ℕ
-
-abbrev pub seen : Check → List ℕ → List ℕ → Seen
-seen Check.Passed picture out = record { result = Pictured.Lit (litIn picture); out = picture }
-seen (Check.Refused x) picture out = record { result = Pictured.Refused x; out = out }
-
 unfoldable pub pictureCall : ℕ → ℕ → Chips → Both → List ℕ → ℕ → ℕ → List ℕ → Seen
 pictureCall C L n r ram group phase out =
-    seen (checkPicture C L n r ram group phase (length out)) (pictureOf (registersOf group r) phase (partOf C n group ram)) out
+    seen (checkPicture C L n r ram group phase (length out)) (pictureOf (registersOf group r) phase (columnsOf C n group ram)) out

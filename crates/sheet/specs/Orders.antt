@@ -9,14 +9,15 @@ use Rattle.sheet.specs.declared.Both.{Both}
 use Rattle.sheet.specs.declared.Chips.{Chips}
 use Rattle.sheet.specs.declared.Chip.{Chip}
 use Rattle.sheet.specs.Refusals.{numbers, plainNumbers, pictureNumbers, checkNumbers}
-use Rattle.sheet.specs.Commands.{powerOn, within, commandOf, inRange, backplanes, bankRow}
-use Rattle.sheet.specs.Places.{advanced, position, atPosition}
-use Rattle.sheet.specs.Data.{putBits, changed, withRow, storedBits, counted}
+use Rattle.sheet.specs.Registers.{powerOn, inRange, backplanes, bankRow}
+use Rattle.sheet.specs.Commands.{within, commandOf}
 use Rattle.sheet.specs.Protocol.{heardBy, controlOf, undefinedIn}
 use Rattle.sheet.specs.Checks.{checkChips, checkRegisters, overIn, checkRam, checkLength, checkState, checkPowerOn, checkTransfer, checkPicture}
 use Rattle.sheet.specs.Pictures.{shown, pictureOf, litIn}
 use Rattle.sheet.specs.Long.{heard, dataByte, powerOnCall, transferCall, pictureCall}
-use Rattle.sheet.specs.Plain.{putRows, column, columns, chipData, chipAcknowledges, plainHeard, chipFits, chipPowerOn, checkChipPicture, chipPictureCall, misfitIn, checkPlain, plainCall}
+use Rattle.sheet.specs.Plain.{putRows, afterColumn, afterColumns, chipData, acknowledgesData, plainHeard, chipFits, chipPowerOn, checkChipPicture, chipPictureCall, misfitIn, checkPlain, plainCall}
+use Rattle.sheet.specs.Places.{advanced, position, atPosition}
+use Rattle.sheet.specs.Data.{putBits, changed, withRow, storedBits, counted}
 use Rattle.sheet.specs.Logs.{cutIn, checkLog}
 use Rattle.sheet.specs.Starred.{same}
 use lib.Count.{ones, onesIn}
@@ -121,5 +122,5 @@ abbrev pub logs : Bool
 logs = inOrder (refusal 14 0 ∷ refusal 12 0 ∷ refusal 3 0 ∷ refusal 13 3 ∷ []) (λ f. checkNumbers (checkLog (log f)))
 
 pub orders : T (long && (plain && logs))
-unfolding checkLog cutIn powerOnCall checkPowerOn pictureCall checkPicture chipPowerOn chipPictureCall checkChipPicture litIn ones onesIn plainCall checkPlain misfitIn chipFits plainHeard chipData column columns putRows advanced chipAcknowledges transferCall checkTransfer checkState checkChips checkRegisters checkRam checkLength overIn undefinedIn heardBy heard dataByte controlOf commandOf within inRange backplanes bankRow position atPosition putBits changed withRow storedBits counted shown pictureOf
+unfolding checkLog cutIn powerOnCall checkPowerOn pictureCall checkPicture chipPowerOn chipPictureCall checkChipPicture litIn ones onesIn plainCall checkPlain misfitIn chipFits plainHeard chipData afterColumn afterColumns putRows advanced acknowledgesData transferCall checkTransfer checkState checkChips checkRegisters checkRam checkLength overIn undefinedIn heardBy heard dataByte controlOf commandOf within inRange backplanes bankRow position atPosition putBits changed withRow storedBits counted shown pictureOf
 orders = tt

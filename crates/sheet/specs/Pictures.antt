@@ -7,7 +7,9 @@ use lib.Count.{ones}
 use Rattle.sheet.specs.declared.Registers.{Registers}
 use Rattle.sheet.specs.declared.Shown.{Shown}
 use Rattle.sheet.specs.declared.Shown.the-variants.{Dark, Rows}
-use Rattle.sheet.specs.Commands.{backplanes, bankRow}
+use Rattle.sheet.specs.declared.Check.{Check}
+use Rattle.sheet.specs.declared.Pictured.{Pictured}
+use Rattle.sheet.specs.Registers.{backplanes, bankRow}
 
 -- BF is not 0 and phase is 1
 abbrev pub blinked : Registers → ℕ → Bool
@@ -33,3 +35,12 @@ pictureOf r phase ram = map (lit (backplanes r) (shown r phase)) ram
 unfoldable pub litIn : List ℕ → ℕ
 litIn [] = 0
 litIn (q ∷ qs) = ones q + litIn qs
+
+-- what a call for a picture gives: the lit elements and the buffer after it, which a refusal leaves
+pub record Seen : Type 0 where
+  pub result : Pictured
+  pub out : List ℕ
+
+abbrev pub seen : Check → List ℕ → List ℕ → Seen
+seen Check.Passed picture out = record { result = Pictured.Lit (litIn picture); out = picture }
+seen (Check.Refused x) picture out = record { result = Pictured.Refused x; out = out }

@@ -3,7 +3,7 @@ use Prim.Native.Nat.{ℕ, zero, suc, _+_, _*_, _/_, _%_, min}
 use mathlib.Core.Bool.{cond}
 use lib.Dec.{eqb}
 use Rattle.sheet.specs.declared.Registers.{Registers}
-use Rattle.sheet.specs.Commands.{atPlace}
+use Rattle.sheet.specs.Registers.{atPlace}
 
 -- after a column P rises by 1; at C it becomes 0 and A rises by 1, stopping at L (house)
 unfoldable pub advanced : ℕ → ℕ → Registers → Registers

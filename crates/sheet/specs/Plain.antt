@@ -14,13 +14,13 @@ use Rattle.sheet.specs.declared.Check.{Check}
 use Rattle.sheet.specs.declared.Check.the-variants.{Passed, Refused}
 use Rattle.sheet.specs.declared.PlainAnswer.{PlainAnswer}
 use Rattle.sheet.specs.declared.ChipPowerOn.{ChipPowerOn}
-use Rattle.sheet.specs.Commands.{powerOn, commandOf, obeyed, inRange, backplanes, bankRow}
+use Rattle.sheet.specs.Registers.{powerOn, inRange, backplanes, bankRow}
+use Rattle.sheet.specs.Commands.{commandOf, obeyed}
+use Rattle.sheet.specs.Protocol.{addressOf, next, undefinedIn}
+use Rattle.sheet.specs.Checks.{unless, orElse, passed, overIn, checkLength}
+use Rattle.sheet.specs.Pictures.{pictureOf, Seen, seen}
 use Rattle.sheet.specs.Places.{advanced}
 use Rattle.sheet.specs.Data.{bitOf, withRow, changed, widthOf}
-use Rattle.sheet.specs.Protocol.{addressOf, next, undefinedIn}
-use Rattle.sheet.specs.Pictures.{pictureOf}
-use Rattle.sheet.specs.Long.{Seen, seen}
-use Rattle.sheet.specs.Checks.{unless, orElse, overIn, checkLength}
 
 -- ---- one chip
 
@@ -33,8 +33,8 @@ putRows zero b k x q = q
 putRows (suc n) b k x q = cond (ltb (k + n) 8) (withRow (b + n) (bitOf x (k + n)) (putRows n b k x q)) (putRows n b k x q)
 
 -- column j of a byte: stored if A is the chip's subaddress at that moment; then P and A move
-unfoldable pub column : ℕ → ℕ → ℕ → ℕ → Chip → Chip
-column C L x j c =
+unfoldable pub afterColumn : ℕ → ℕ → ℕ → ℕ → Chip → Chip
+afterColumn C L x j c =
     let r = c .registers in
     let m = backplanes r in
     record {
@@ -45,17 +45,17 @@ column C L x j c =
     }
 
 -- the first n columns of a byte, one after the other
-unfoldable pub columns : ℕ → ℕ → ℕ → ℕ → Chip → Chip
-columns C L x zero c = c
-columns C L x (suc n) c = column C L x n (columns C L x n c)
+unfoldable pub afterColumns : ℕ → ℕ → ℕ → ℕ → Chip → Chip
+afterColumns C L x zero c = c
+afterColumns C L x (suc n) c = afterColumn C L x n (afterColumns C L x n c)
 
 -- a data byte: all its columns
 unfoldable pub chipData : ℕ → ℕ → ℕ → Chip → Chip
-chipData C L x c = columns C L x (widthOf (backplanes (c .registers))) c
+chipData C L x c = afterColumns C L x (widthOf (backplanes (c .registers))) c
 
 -- it is acknowledged if its last column belongs to the chip: A is the subaddress at that moment
-unfoldable pub chipAcknowledges : ℕ → ℕ → ℕ → Chip → Bool
-chipAcknowledges C L x c = eqb (columns C L x (7 / backplanes (c .registers)) c .registers .a) (c .subaddress)
+unfoldable pub acknowledgesData : ℕ → ℕ → ℕ → Chip → Bool
+acknowledgesData C L x c = eqb (afterColumns C L x (7 / backplanes (c .registers)) c .registers .a) (c .subaddress)
 
 -- a byte, by what it is. All chips that hear obey every command
 abbrev pub chipByte : ℕ → ℕ → Expect → ℕ → Chip → Chip
@@ -66,19 +66,19 @@ chipByte C L OneData x c = chipData C L x c
 chipByte C L Run x c = chipData C L x c
 
 -- address, control and command bytes are acknowledged by every chip that hears
-abbrev pub chipAcknowledged : ℕ → ℕ → Expect → ℕ → Chip → Bool
-chipAcknowledged C L Control x c = Bool.true
-chipAcknowledged C L OneCommand x c = Bool.true
-chipAcknowledged C L Commands x c = Bool.true
-chipAcknowledged C L OneData x c = chipAcknowledges C L x c
-chipAcknowledged C L Run x c = chipAcknowledges C L x c
+abbrev pub acknowledgesByte : ℕ → ℕ → Expect → ℕ → Chip → Bool
+acknowledgesByte C L Control x c = Bool.true
+acknowledgesByte C L OneCommand x c = Bool.true
+acknowledgesByte C L Commands x c = Bool.true
+acknowledgesByte C L OneData x c = acknowledgesData C L x c
+acknowledgesByte C L Run x c = acknowledgesData C L x c
 
 -- of any chip: one with a register out of range, to which no transfer is taken, stays as it is and acknowledges nothing
 abbrev pub chipStepped : ℕ → ℕ → Expect → ℕ → Chip → Chip
 chipStepped C L e x c = cond (inRange C L (c .registers)) (chipByte C L e x c) c
 
 abbrev pub chipAnswers : ℕ → ℕ → Expect → ℕ → Chip → Bool
-chipAnswers C L e x c = inRange C L (c .registers) && chipAcknowledged C L e x c
+chipAnswers C L e x c = inRange C L (c .registers) && acknowledgesByte C L e x c
 
 -- ---- a list of chips
 
@@ -94,8 +94,8 @@ abbrev pub takes : ℕ → ℕ → ℕ → Expect → ℕ → Chip → Chip
 takes C L address e x c = cond (hears address c) (chipByte C L e x c) c
 
 -- a byte counts once however many chips acknowledge it
-abbrev pub counts : ℕ → ℕ → ℕ → Expect → ℕ → List Chip → ℕ
-counts C L address e x cs = cond (any (λ c. hears address c && chipAcknowledged C L e x c) cs) 1 0
+abbrev pub acknowledgedOnce : ℕ → ℕ → ℕ → Expect → ℕ → List Chip → ℕ
+acknowledgedOnce C L address e x cs = cond (any (λ c. hears address c && acknowledgesByte C L e x c) cs) 1 0
 
 pub record Plain : Type 0 where
   pub acknowledged : ℕ
@@ -106,13 +106,9 @@ unfoldable pub plainHeard : ℕ → ℕ → ℕ → Expect → List ℕ → Plai
 plainHeard C L address e [] s = s
 plainHeard C L address e (x ∷ xs) s =
     plainHeard C L address (next e x) xs
-    (record { acknowledged = s .acknowledged + counts C L address e x (s .chips); chips = map (takes C L address e x) (s .chips) })
+    (record { acknowledged = s .acknowledged + acknowledgedOnce C L address e x (s .chips); chips = map (takes C L address e x) (s .chips) })
 
 -- ---- which chips fit
-
-abbrev pub passed : Check → Bool
-passed Passed = Bool.true
-passed (Refused r) = Bool.false
 
 -- a chip with every field and column in range
 unfoldable pub chipFits : ℕ → ℕ → Chip → Bool

@@ -21,6 +21,10 @@ addressOf g = 112 + 2 * g
 unfoldable pub heardBy : Chips → ℕ → Addressed
 heardBy n x = cond (eqb x (addressOf 0) && ltb 0 (n .zero)) (To 0) (cond (eqb x (addressOf 1) && ltb 0 (n .one)) (To 1) Nobody)
 
+-- the chips of group g
+abbrev pub chipsIn : ℕ → Chips → ℕ
+chipsIn g n = cond (eqb g 0) (n .zero) (n .one)
+
 -- what follows a control byte: bit 7 is Co, bit 6 is RS, the rest is ignored
 unfoldable pub controlOf : ℕ → Expect
 controlOf x = cond (eqb (x / 128 % 2) 1) (cond (eqb (x / 64 % 2) 1) OneData OneCommand) (cond (eqb (x / 64 % 2) 1) Run Commands)

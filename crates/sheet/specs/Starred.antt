@@ -10,15 +10,16 @@ use Rattle.sheet.specs.declared.Registers.{Registers}
 use Rattle.sheet.specs.declared.Chips.{Chips}
 use Rattle.sheet.specs.declared.Chip.{Chip}
 use Rattle.sheet.specs.Refusals.{numbers, plainNumbers, pictureNumbers, checkNumbers}
-use Rattle.sheet.specs.Commands.{within, commandOf, inRange, backplanes, bankRow}
-use Rattle.sheet.specs.Places.{advanced, position, atPosition}
-use Rattle.sheet.specs.Plain.{putRows, column, columns, chipData, chipAcknowledges, plainHeard, chipFits, chipPowerOn, checkChipPicture, chipPictureCall, misfitIn, checkPlain, plainCall}
-use Rattle.sheet.specs.Agree.{groupChips, chipsOf, chipPictures, chipsLit}
-use Rattle.sheet.specs.Data.{putBits, changed, withRow, storedBits, counted}
+use Rattle.sheet.specs.Registers.{inRange, backplanes, bankRow}
+use Rattle.sheet.specs.Commands.{within, commandOf}
 use Rattle.sheet.specs.Protocol.{heardBy, controlOf, undefinedIn}
 use Rattle.sheet.specs.Checks.{checkChips, checkRegisters, overIn, checkRam, checkLength, checkState, checkPowerOn, checkTransfer, checkPicture}
 use Rattle.sheet.specs.Pictures.{shown, pictureOf, litIn}
-use Rattle.sheet.specs.Long.{heard, dataByte, registersOf, partOf, powerOnCall, transferCall, pictureCall, stateOf}
+use Rattle.sheet.specs.Long.{heard, dataByte, registersOf, columnsOf, powerOnCall, transferCall, pictureCall, stateOf}
+use Rattle.sheet.specs.Plain.{putRows, afterColumn, afterColumns, chipData, acknowledgesData, plainHeard, chipFits, chipPowerOn, checkChipPicture, chipPictureCall, misfitIn, checkPlain, plainCall}
+use Rattle.sheet.specs.Places.{advanced, position, atPosition}
+use Rattle.sheet.specs.Agree.{groupChips, chipsOf, chipPictures, chipsLit}
+use Rattle.sheet.specs.Data.{putBits, changed, withRow, storedBits, counted}
 
 -- a column and what it holds or shows
 pub record Column : Type 0 where
@@ -73,7 +74,7 @@ passes row =
     let seen = pictureCall 160 4 n (s .result .registers) (s .ram) g (row .phase) (replicate (160 * row .chips) 99) in
     same (checkNumbers (on .check)) (oneCount 0) && (same (numbers (s .result .answer)) (row .answer)
     && (eqb (r .a) (row .a) && (eqb (r .p) (row .p)
-    && (holds (partOf 160 n g (s .ram)) (row .columns) && (same (partOf 160 n (1 - g) (s .ram)) (replicate (160 * row .others) (row .fill))
+    && (holds (columnsOf 160 n g (s .ram)) (row .columns) && (same (columnsOf 160 n (1 - g) (s .ram)) (replicate (160 * row .others) (row .fill))
     && (same (pictureNumbers (seen .result)) (oneCount (row .lit)) && holds (seen .out) (row .picture)))))))
 
 -- the plain account: the group's chips are the first or the last of the list
@@ -178,5 +179,5 @@ table =
     ∷ []
 
 pub starred : T (every table)
-unfolding powerOnCall checkPowerOn pictureCall checkPicture chipPowerOn chipPictureCall checkChipPicture litIn ones onesIn plainCall checkPlain misfitIn chipFits plainHeard groupChips chipData column columns putRows advanced chipAcknowledges transferCall checkTransfer checkState checkChips checkRegisters checkRam checkLength overIn undefinedIn heardBy heard dataByte controlOf commandOf within inRange backplanes bankRow position atPosition putBits changed withRow storedBits counted shown pictureOf
+unfolding powerOnCall checkPowerOn pictureCall checkPicture chipPowerOn chipPictureCall checkChipPicture litIn ones onesIn plainCall checkPlain misfitIn chipFits plainHeard groupChips chipData afterColumn afterColumns putRows advanced acknowledgesData transferCall checkTransfer checkState checkChips checkRegisters checkRam checkLength overIn undefinedIn heardBy heard dataByte controlOf commandOf within inRange backplanes bankRow position atPosition putBits changed withRow storedBits counted shown pictureOf
 starred = tt

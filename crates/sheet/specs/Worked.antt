@@ -2,13 +2,14 @@
 use Prim.Native.Nat.{ℕ}
 use mathlib.Core.List.{List, [], _∷_}
 use lib.Dec.{T}
-use Rattle.sheet.specs.Commands.{within, commandOf, inRange, backplanes, bankRow}
-use Rattle.sheet.specs.Places.{position, atPosition}
-use Rattle.sheet.specs.Data.{putBits, changed, withRow, storedBits, counted}
+use Rattle.sheet.specs.Registers.{inRange, backplanes, bankRow}
+use Rattle.sheet.specs.Commands.{within, commandOf}
 use Rattle.sheet.specs.Protocol.{heardBy, controlOf, undefinedIn}
 use Rattle.sheet.specs.Checks.{checkChips, checkRegisters, overIn, checkRam, checkLength, checkState, checkTransfer}
 use Rattle.sheet.specs.Pictures.{shown, pictureOf, litIn}
 use Rattle.sheet.specs.Long.{heard, dataByte, transferCall, stateAfterAll}
+use Rattle.sheet.specs.Places.{position, atPosition}
+use Rattle.sheet.specs.Data.{putBits, changed, withRow, storedBits, counted}
 use Rattle.sheet.specs.Logs.{recordsIn, cutIn, checkLog, digitsIn, decimal, spaced, transferLines, columnLines, textOf}
 use Rattle.sheet.specs.Starred.{same}
 use lib.Count.{ones, onesIn}

@@ -7,8 +7,8 @@ use native.Mathlib.Omega.{arith}
 use lib.ListN.{length, take, drop, length-append}
 use lib.Seq.{length-take-le, take-at}
 use Rattle.sheet.specs.declared.Pictured.{Pictured}
-use Rattle.sheet.specs.Pictures.{litIn}
-use Rattle.sheet.specs.Long.{stateOf, Seen, State, pictureCall}
+use Rattle.sheet.specs.Pictures.{litIn, Seen}
+use Rattle.sheet.specs.Long.{stateOf, State, pictureCall}
 use Rattle.sheet.specs.Logs.{shownAt, columnLines}
 use Rattle.laws.proofs.Fits.{fits-of}
 use Rattle.long.proofs.Parts.{part-few}

@@ -11,9 +11,9 @@ use denote.Enum.Declared.{tagOf}
 use types.Run.{OneOf}
 use Rattle.sheet.specs.declared.Check.{Check}
 use Rattle.sheet.specs.declared.Check.the-variants.{Passed}
-use Rattle.sheet.specs.Plain.{passed}
-use Rattle.sheet.specs.Logs.{cutIn, recordsIn, transferLines, line}
+use Rattle.sheet.specs.Checks.{passed}
 use Rattle.sheet.specs.Long.{stateOf, stateAfterAll}
+use Rattle.sheet.specs.Logs.{cutIn, recordsIn, transferLines, line}
 use Rattle.sheet.specs.Refusals.{numbers}
 use Rattle.buslog.specs.declared.Record.{Record}
 use Rattle.buslog.specs.declared.Record.the-variants.{Body, End, Cut}

@@ -7,9 +7,9 @@ use native.Mathlib.Omega.{arith}
 use lib.Dec.{eqb}
 use borrow.Author.Needs.{needs}
 use Rattle.sheet.specs.declared.Registers.{Registers}
-use Rattle.sheet.specs.Commands.{backplanes}
+use Rattle.sheet.specs.Registers.{backplanes}
+use Rattle.sheet.specs.Plain.{acknowledgesData}
 use Rattle.sheet.specs.Places.{position, atPosition}
-use Rattle.sheet.specs.Plain.{chipAcknowledges}
 use Rattle.laws.proofs.Ranges.{InRange, range-of, planes-pos}
 use Rattle.chip.proofs.Moves.{placed}
 use Rattle.chip.proofs.acknowledges_data.Statement.{statement}
@@ -32,7 +32,7 @@ add-last-2 : tie.Need-add-last-2
 add-last-2 c = let h = range (c .before .before .before .before) in omega (arith, h .a-in, h .p-in, div-le-self 7 (c .backplanes .result))
 
 returns : tie.Need-returns
-unfolding chipAcknowledges position atPosition
+unfolding acknowledgesData position atPosition
 returns c = let s = c .before .before .before .before .before .before in
     let chip = s .args .chip in
     let r = chip .registers in

@@ -2,7 +2,7 @@
 -- Assumes nothing.
 use borrow.Author.Tests.{eq-eqb, ne-eqb}
 use borrow.Author.Needs.{needs}
-use Rattle.sheet.specs.Commands.{atPlace}
+use Rattle.sheet.specs.Registers.{atPlace}
 use Rattle.sheet.specs.Places.{advanced}
 use Rattle.chip.proofs.advance.Statement.{statement}
 use Rattle.chip.proofs.advance.Tie as tie

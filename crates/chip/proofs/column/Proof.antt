@@ -1,7 +1,7 @@
 -- column: its two parts are the definition's.
 -- Assumes nothing.
 use borrow.Author.Needs.{needs}
-use Rattle.sheet.specs.Plain.{column}
+use Rattle.sheet.specs.Plain.{afterColumn}
 use Rattle.laws.proofs.Ranges.{range-of}
 use Rattle.chip.proofs.column.Statement.{statement}
 use Rattle.chip.proofs.column.Tie as tie
@@ -10,7 +10,7 @@ advance-requires : tie.Need-advance-requires
 advance-requires c κs = let h = range-of 160 4 _ (c .before .pre .0) in (h .p-in, h .a-in)
 
 returns : tie.Need-returns
-unfolding column
+unfolding afterColumn
 returns c = let chip = c .before .before .args .chip in
     λ i. record { columns = c .before .stored .ensures i; sa0 = chip .sa0; subaddress = chip .subaddress; registers = c .advance .ensures i }
 

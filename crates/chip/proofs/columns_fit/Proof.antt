@@ -2,7 +2,7 @@
 -- Assumes nothing.
 use mathlib.Core.Path.{ap, _∙_}
 use borrow.Author.Needs.{needs}
-use Rattle.sheet.specs.Plain.{passed}
+use Rattle.sheet.specs.Checks.{passed}
 use Rattle.chip.proofs.columns_fit.Statement.{statement}
 use Rattle.chip.proofs.columns_fit.Tie as tie
 

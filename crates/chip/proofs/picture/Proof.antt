@@ -7,9 +7,9 @@ use native.Mathlib.Omega.{arith}
 use lib.ListN.{length}
 use Rattle.sheet.specs.declared.Check.the-variants.{Passed}
 use Rattle.sheet.specs.declared.Pictured.{Pictured}
-use Rattle.sheet.specs.Commands.{inRange}
-use Rattle.sheet.specs.Refusals.{pictureNumbers}
+use Rattle.sheet.specs.Registers.{inRange}
 use Rattle.sheet.specs.Plain.{checkChipPicture, chipPictureCall}
+use Rattle.sheet.specs.Refusals.{pictureNumbers}
 use Rattle.chip.proofs.Passing.{picture-passes}
 use borrow.Author.Needs.{needs}
 use Rattle.chip.proofs.picture.Statement.{statement}

@@ -7,8 +7,7 @@ use borrow.Author.Needs.{needs}
 use Rattle.sheet.specs.declared.Refusal.the-variants.{ChipField}
 use Rattle.sheet.specs.Refusals.{checkNumbers}
 use Rattle.sheet.specs.Checks.{unless}
-use Rattle.sheet.specs.Plain.{withRegisters}
-use Rattle.sheet.specs.Plain.{chipPowerOn}
+use Rattle.sheet.specs.Plain.{withRegisters, chipPowerOn}
 use Rattle.chip.proofs.power_on.Statement.{statement}
 use Rattle.chip.proofs.power_on.Tie as tie
 

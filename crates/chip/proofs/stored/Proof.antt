@@ -7,7 +7,7 @@ use lib.ListN.{set}
 use borrow.Author.Tests.{eq-eqb, ne-eqb}
 use borrow.Author.Needs.{needs}
 use Rattle.sheet.specs.Data.{changed}
-use Rattle.sheet.specs.Plain.{column}
+use Rattle.sheet.specs.Plain.{afterColumn}
 use Rattle.laws.proofs.Ranges.{InRange, range-of, rows-fit}
 use Rattle.chip.proofs.stored.Statement.{statement}
 use Rattle.chip.proofs.stored.Tie as tie
@@ -31,14 +31,14 @@ array-write-columns : tie.Need-array-write-columns
 array-write-columns c = range (c .before .before .before .before .before .before .before .before) .p-in
 
 returns : tie.Need-returns
-unfolding column changed
+unfolding afterColumn changed
 returns c = let a = c .before .before .before .before .before .before .before .before .args in
     let r = a .chip .registers in
     rw (eq-eqb (r .a) (a .chip .subaddress) (c .before .before .before .if1 .taken))
     (ap (λ (q : ℕ). set (a .chip .columns) (r .p) q) (rw (c .before .bank-row .ensures, c .before .before .backplanes .ensures) at (c .put-rows .ensures)))
 
 returns-2 : tie.Need-returns-2
-unfolding column
+unfolding afterColumn
 returns-2 c = let a = c .before .before .before .before .before .args in
     rw (ne-eqb (a .chip .registers .a) (a .chip .subaddress) (c .if1 .left))
 

@@ -6,9 +6,9 @@ use native.Mathlib.Nat.{div-le-self}
 use native.Mathlib.Numerals.{add-one}
 use native.Mathlib.Omega.{arith}
 use Rattle.sheet.specs.declared.Chip.{Chip}
-use Rattle.sheet.specs.Commands.{backplanes}
+use Rattle.sheet.specs.Registers.{backplanes}
+use Rattle.sheet.specs.Plain.{afterColumns, chipData}
 use Rattle.sheet.specs.Data.{widthOf}
-use Rattle.sheet.specs.Plain.{columns, chipData}
 use Rattle.laws.proofs.Ranges.{range-of, in-range, planes-pos}
 use Rattle.laws.proofs.Counts.{width-less}
 use Rattle.chip.proofs.Moves.{still-in, same-planes}
@@ -17,7 +17,7 @@ use Rattle.chip.proofs.take_data.Tie as tie
 
 -- the first j columns are taken
 record Taken (byte width : ℕ) (chip moved : Chip) (j : ℕ) : Type 0 where
-  so-far : moved ≡ columns 160 4 byte j chip
+  so-far : moved ≡ afterColumns 160 4 byte j chip
   most : j ≤ width
 
 abbrev Inv-loop : tie.InvT-loop
@@ -36,7 +36,7 @@ add-width : tie.Need-add-width Inv-loop μ-loop
 add-width c = omega (arith, div-le-self 7 (c .backplanes .result))
 
 loop-holds : tie.Need-loop-holds Inv-loop μ-loop
-unfolding columns
+unfolding afterColumns
 loop-holds c = record { so-far = refl; most = omega arith }
 
 column-requires : tie.Need-column-requires Inv-loop μ-loop
@@ -56,7 +56,7 @@ loop-less : tie.Need-loop-less Inv-loop μ-loop
 loop-less c = omega arith
 
 loop-again : tie.Need-loop-again Inv-loop μ-loop
-unfolding columns
+unfolding afterColumns
 loop-again c = let p = c .before .before .loop in
     rw (add-one (p .j)) (record { so-far = rw (c .column .ensures, p .inv .so-far) refl; most = c .before .loop-test .taken })
 
@@ -65,7 +65,7 @@ unfolding chipData
 returns c = let p = c .before .loop in
     let s = c .before .before .before in
     let e : p .j ≡ 7 / c .before .before .backplanes .result + 1 = omega (arith, p .inv .most) in
-    p .inv .so-far ∙ ap (λ (n : ℕ). columns 160 4 (s .args .byte) n (s .args .chip)) (e ∙ ap widthOf (c .before .before .backplanes .ensures))
+    p .inv .so-far ∙ ap (λ (n : ℕ). afterColumns 160 4 (s .args .byte) n (s .args .chip)) (e ∙ ap widthOf (c .before .before .backplanes .ensures))
 
 pub take-data-spec : {M : Type 1} → statement M
 take-data-spec =

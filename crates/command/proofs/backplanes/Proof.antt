@@ -1,7 +1,7 @@
 -- backplanes: by its one test.
 -- Assumes nothing.
 use borrow.Author.Tests.{eq-eqb, ne-eqb}
-use Rattle.sheet.specs.Commands.{backplanes}
+use Rattle.sheet.specs.Registers.{backplanes}
 use borrow.Author.Needs.{needs}
 use Rattle.command.proofs.backplanes.Statement.{statement}
 use Rattle.command.proofs.backplanes.Tie as tie

@@ -1,7 +1,7 @@
 -- bank_row: by its one test.
 -- Assumes nothing.
 use borrow.Author.Tests.{lt-ltb, le-ltb}
-use Rattle.sheet.specs.Commands.{bankRow}
+use Rattle.sheet.specs.Registers.{bankRow}
 use borrow.Author.Needs.{needs}
 use Rattle.command.proofs.bank_row.Statement.{statement}
 use Rattle.command.proofs.bank_row.Tie as tie

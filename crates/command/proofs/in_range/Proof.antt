@@ -1,7 +1,7 @@
 -- in_range: the code's tests are the definition's, grouped from the left.
 -- Assumes nothing.
 use mathlib.Core.Bool.{and-assoc}
-use Rattle.sheet.specs.Commands.{inRange}
+use Rattle.sheet.specs.Registers.{inRange}
 use Rattle.command.proofs.in_range.Statement.{statement}
 use Rattle.command.proofs.in_range.Tie as tie
 

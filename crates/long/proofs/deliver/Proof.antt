@@ -1,5 +1,5 @@
 -- `long::deliver` meets its contract: the group hears the bytes in its part of the RAM, and the part is put back.
--- Assumes nothing.
+-- Assumes noCounts.
 use mathlib.Core.Path.{ap, _∙_}
 use native.Mathlib.Omega.{arith}
 use lib.ListN.{length, drop}
@@ -8,7 +8,7 @@ use Rattle.sheet.specs.declared.Registers.{Registers}
 use Rattle.sheet.specs.declared.Answer.{Answer}
 use Rattle.sheet.specs.declared.Expect.the-variants.{Control}
 use Rattle.sheet.specs.Checks.{overIn}
-use Rattle.sheet.specs.Long.{Group, acknowledged, nothing, heard, replaced}
+use Rattle.sheet.specs.Long.{Group, oneAcknowledged, noCounts, heard, replaced}
 use Rattle.laws.proofs.Ranges.{in-range}
 use Rattle.laws.proofs.Fits.{fits-of}
 use Rattle.protocol.specs.Listeners.{heardOf}
@@ -37,7 +37,7 @@ returns c = let s = c .before .before .before .before .before .before .before .b
     let end = c .before .before .before .before .before .before .before .before .end-of in
     let hear = c .before .before .before .before .before .hear in
     let part = part-taken (a .chips) (a .registers) (now (a .ram)) (a .group) f (start .result) (end .result) (start .ensures) (end .ensures) in
-    let same = ap (λ (g : Group). heard 160 4 Control (drop 1 (now (a .bytes))) g) (λ j. record { registers = c .before .before .before .before .before .before .before .registers-of .ensures j; ram = part j; counts = acknowledged nothing }) in
+    let same = ap (λ (g : Group). heard 160 4 Control (drop 1 (now (a .bytes))) g) (λ j. record { registers = c .before .before .before .before .before .before .before .registers-of .ensures j; ram = part j; counts = oneAcknowledged noCounts }) in
     let told = hear .ensures .1 ∙ ap heardOf same in
     let after = c .replaced .ensures ∙ ap (λ (r : Registers). replaced (a .group) r (a .registers)) (λ j. told j .registers) in (
       put-back (a .chips) (a .registers) (now (a .ram)) (a .group) f (start .result) (end .result) (hear .last .0) _ (start .ensures) (end .ensures) (hear .ensures .0 ∙ ap (λ (g : Group). g .ram) same),

@@ -9,10 +9,11 @@ use denote.Ref.{now}
 use Rattle.sheet.specs.declared.Registers.{Registers}
 use Rattle.sheet.specs.declared.Check.the-variants.{Passed}
 use Rattle.sheet.specs.declared.Pictured.{Pictured}
-use Rattle.sheet.specs.Checks.{chipsIn, checkPicture}
-use Rattle.sheet.specs.Refusals.{pictureNumbers}
+use Rattle.sheet.specs.Protocol.{chipsIn}
+use Rattle.sheet.specs.Checks.{checkPicture}
 use Rattle.sheet.specs.Pictures.{pictureOf, litIn}
-use Rattle.sheet.specs.Long.{partOf, pictureCall}
+use Rattle.sheet.specs.Long.{columnsOf, pictureCall}
+use Rattle.sheet.specs.Refusals.{pictureNumbers}
 use Rattle.laws.proofs.Ranges.{in-range}
 use Rattle.laws.proofs.Fits.{Fits, fits-of}
 use Rattle.long.proofs.Parts.{picture-passed, part-in, part-ends, part-few, part-long, part-taken}
@@ -32,7 +33,7 @@ sized : (c : tie.After-enum-told) → let a = c .before .before .before .before 
 sized c = let a = c .before .before .before .before .before .args in picture-passed (a .chips) (a .registers) (now (a .ram)) (a .group) (a .phase) (length (now (a .out))) (passes c) .1
 
 -- and the part is the group's
-part : (c : tie.After-end-of) → let a = c .before .before .before .before .before .before .before .args in take (c .end-of .result - c .before .start-of .result) (drop (c .before .start-of .result) (now (a .ram))) ≡ partOf 160 (a .chips) (a .group) (now (a .ram))
+part : (c : tie.After-end-of) → let a = c .before .before .before .before .before .before .before .args in take (c .end-of .result - c .before .start-of .result) (drop (c .before .start-of .result) (now (a .ram))) ≡ columnsOf 160 (a .chips) (a .group) (now (a .ram))
 part c = let a = c .before .before .before .before .before .before .before .args in part-taken (a .chips) (a .registers) (now (a .ram)) (a .group) (fitting (c .before .before)) (c .before .start-of .result) (c .end-of .result) (c .before .start-of .ensures) (c .end-of .ensures)
 
 enum-told : tie.Need-enum-told

@@ -9,7 +9,7 @@ use lib.ListN.{length}
 use denote.Ref.{now}
 use borrow.Author.Needs.{needs}
 use Rattle.sheet.specs.declared.Check.{Check}
-use Rattle.sheet.specs.Plain.{passed}
+use Rattle.sheet.specs.Checks.{passed}
 use Rattle.plain.specs.declared.Turn.{Turn}
 use Rattle.plain.specs.Starts.{checkOf, turnAt, startOf}
 use Rattle.plain.proofs.begin.Statement.{statement}

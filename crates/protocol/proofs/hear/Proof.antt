@@ -11,8 +11,8 @@ use borrow.Author.Needs.{needs}
 use Rattle.sheet.specs.declared.Expect.the-variants.{Control, OneCommand, Commands}
 use Rattle.sheet.specs.declared.Registers.{Registers}
 use Rattle.sheet.specs.declared.Check.the-variants.{Passed}
+use Rattle.sheet.specs.Registers.{inRange}
 use Rattle.sheet.specs.Checks.{overIn}
-use Rattle.sheet.specs.Commands.{inRange}
 use Rattle.sheet.specs.Long.{begun, Group, heard}
 use Rattle.laws.proofs.Ranges.{range-of, in-range}
 use Rattle.laws.proofs.Nibbles.{nibbles-of, check-nibbles}

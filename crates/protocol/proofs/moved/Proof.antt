@@ -3,7 +3,7 @@
 use mathlib.Core.Path.{ap}
 use Prim.Native.Nat.{ℕ, _%_}
 use native.Mathlib.Omega.{arith}
-use Rattle.sheet.specs.Commands.{atPlace}
+use Rattle.sheet.specs.Registers.{atPlace}
 use Rattle.sheet.specs.Places.{atPosition}
 use Rattle.protocol.proofs.moved.Statement.{statement}
 use Rattle.protocol.proofs.moved.Tie as tie

@@ -9,7 +9,7 @@ use lib.ListN.{length, getD, drop, drop-of-length-le}
 use denote.Ref.{now}
 use Rattle.lemmas.proofs.Lists.{next}
 use Rattle.lemmas.proofs.Tests.{all, all-at}
-use Rattle.sheet.specs.Commands.{bankRow}
+use Rattle.sheet.specs.Registers.{bankRow}
 use Rattle.sheet.specs.Data.{putBits, putRun}
 use Rattle.ram.proofs.Runs.{run-cut}
 use borrow.Author.Needs.{needs}

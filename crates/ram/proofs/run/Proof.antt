@@ -9,7 +9,7 @@ use lib.ListN.{length, take, drop, length-take, length-drop, take-append-drop}
 use lib.Seq.{length-take-le}
 use denote.Ref.{now}
 use Rattle.lemmas.proofs.Lists.{part-rest}
-use Rattle.sheet.specs.Commands.{bankRow}
+use Rattle.sheet.specs.Registers.{bankRow}
 use Rattle.sheet.specs.Data.{putRun, widthOf}
 use Rattle.ram.proofs.Runs.{run-append}
 use borrow.Author.Needs.{needs}

@@ -5,7 +5,7 @@ use Prim.Native.Nat.{ℕ, _-_, _*_, _≤_}
 use native.Mathlib.Omega.{arith}
 use lib.ListN.{length}
 use denote.Ref.{now}
-use Rattle.sheet.specs.Commands.{bankRow}
+use Rattle.sheet.specs.Registers.{bankRow}
 use Rattle.sheet.specs.Data.{putRun, widthOf}
 use borrow.Author.Needs.{needs}
 use Rattle.ram.proofs.whole_bytes.Statement.{statement}

@@ -6,10 +6,10 @@ use native.Mathlib.Omega.{arith}
 use native.Mathlib.Nat.{div-le-self, mul-le-mul-right}
 use lib.ListN.{length}
 use denote.Ref.{now}
-use Rattle.sheet.specs.Commands.{bankRow}
+use Rattle.sheet.specs.Registers.{bankRow}
+use Rattle.sheet.specs.Long.{Group}
 use Rattle.sheet.specs.Places.{position, atPosition}
 use Rattle.sheet.specs.Data.{putRun, widthOf, countedRun}
-use Rattle.sheet.specs.Long.{Group}
 use Rattle.laws.proofs.Ranges.{range-of, rows-fit, planes-pos}
 use Rattle.laws.proofs.Runs.{run-at-once}
 use Rattle.protocol.specs.Listeners.{groupOf}
