@@ -1,4 +1,5 @@
 //! A length that its check refuses is not walked through: each call here is given a false one, over a few bytes, and answers the paper's number.
+//! Safety of every call: the refusal comes before a byte behind the false length is read or written; the other lengths are true.
 
 use crate::library::*;
 use humtrellis_tests::header::text_room;
@@ -6,174 +7,150 @@ use humtrellis_tests::header::text_room;
 /// More than is mapped behind any buffer here.
 const FALSE: usize = 1 << 44;
 
-const REGISTERS: usize = 18;
 const COLUMNS: usize = 160;
 const CHIP: usize = 171;
 
-#[test]
-fn stops_at_ram_length() {
-    let (ram, mut registers, mut answer) = ([0; COLUMNS], [0; REGISTERS], [77; 5]);
-    // Safety: a RAM of a wrong length is refused by 4 before a byte of it is read.
-    let number = unsafe {
-        humtrellis_power_on(
-            1,
-            0,
-            ram.as_ptr(),
-            FALSE,
-            registers.as_mut_ptr(),
-            REGISTERS,
-            answer.as_mut_ptr(),
-            5,
-        )
-    };
-    assert_eq!((number, answer), (4, [4, 0, 0, 0, 0]));
-    let (mut ram, bytes, mut out) = (ram, [0x70], [0; COLUMNS]);
-    let number = unsafe {
-        humtrellis_transfer(
-            1,
-            0,
-            registers.as_mut_ptr(),
-            REGISTERS,
-            ram.as_mut_ptr(),
-            FALSE,
-            bytes.as_ptr(),
-            1,
-            answer.as_mut_ptr(),
-            5,
-        )
-    };
-    assert_eq!((number, answer), (4, [4, 0, 0, 0, 0]));
-    let number = unsafe {
-        humtrellis_picture(
-            1,
-            0,
-            registers.as_ptr(),
-            REGISTERS,
-            ram.as_ptr(),
-            FALSE,
-            0,
-            0,
-            out.as_mut_ptr(),
-            COLUMNS,
-            answer.as_mut_ptr(),
-            5,
-        )
-    };
-    assert_eq!((number, answer), (4, [4, 0, 0, 0, 0]));
+/// One chip, and the lengths that are told of its buffers.
+struct Bus {
+    chips: u8,
+    registers: [u8; 18],
+    ram_length: usize,
+    bytes_length: usize,
+    out_length: usize,
+    answer: [usize; 5],
 }
 
-/// A chip count comes before the length, and so does a register.
-#[test]
-fn stops_before_ram() {
-    let (mut ram, mut registers, mut answer) = ([0; COLUMNS], [0; REGISTERS], [77; 5]);
-    let bytes = [0x70];
-    for (chips, register, expected) in [(5, 0, 3), (1, 9, 6)] {
-        registers[0] = register;
-        // Safety: the refusal comes before a byte of the RAM is read.
+impl Bus {
+    fn new() -> Self {
+        Bus {
+            chips: 1,
+            registers: [0; 18],
+            ram_length: COLUMNS,
+            bytes_length: 2,
+            out_length: COLUMNS,
+            answer: [77; 5],
+        }
+    }
+
+    /// A call that is refused by this number, with place 0.
+    fn refused(&self, number: u8, expected: u8) {
+        assert_eq!(number, expected);
+        assert_eq!(self.answer, [expected.into(), 0, 0, 0, 0]);
+    }
+
+    fn power_on(&mut self, expected: u8) {
+        let (ram, r, a) = ([0; COLUMNS], &mut self.registers, &mut self.answer);
         let number = unsafe {
-            humtrellis_transfer(
-                chips,
+            humtrellis_power_on(
+                self.chips,
                 0,
-                registers.as_mut_ptr(),
-                REGISTERS,
-                ram.as_mut_ptr(),
-                FALSE,
-                bytes.as_ptr(),
-                1,
-                answer.as_mut_ptr(),
+                ram.as_ptr(),
+                self.ram_length,
+                r.as_mut_ptr(),
+                18,
+                a.as_mut_ptr(),
                 5,
             )
         };
-        assert_eq!((number, answer), (expected, [expected.into(), 0, 0, 0, 0]));
+        self.refused(number, expected);
+    }
+
+    fn transfer(&mut self, expected: u8) {
+        let (mut ram, bytes) = ([0; COLUMNS], [0x70, 0x00]);
+        let (r, a, ram) = (&mut self.registers, &mut self.answer, ram.as_mut_ptr());
+        let number = unsafe {
+            humtrellis_transfer(
+                self.chips,
+                0,
+                r.as_mut_ptr(),
+                18,
+                ram,
+                self.ram_length,
+                bytes.as_ptr(),
+                self.bytes_length,
+                a.as_mut_ptr(),
+                5,
+            )
+        };
+        self.refused(number, expected);
+    }
+
+    fn picture(&mut self, expected: u8) {
+        let (ram, mut out) = ([0; COLUMNS], [0xEE; COLUMNS]);
+        let (r, a) = (&self.registers, &mut self.answer);
+        let number = unsafe {
+            humtrellis_picture(
+                self.chips,
+                0,
+                r.as_ptr(),
+                18,
+                ram.as_ptr(),
+                self.ram_length,
+                0,
+                0,
+                out.as_mut_ptr(),
+                self.out_length,
+                a.as_mut_ptr(),
+                5,
+            )
+        };
+        self.refused(number, expected);
+        assert_eq!(out, [0xEE; COLUMNS]);
     }
 }
 
 #[test]
-fn stops_at_transfer_length() {
-    let (mut ram, mut registers, mut answer) = ([0; COLUMNS], [0; REGISTERS], [77; 5]);
-    let bytes = [0x70, 0x00];
-    // Safety: a transfer over 4,096 bytes is refused by 2 before a byte after the address is read.
-    let number = unsafe {
-        humtrellis_transfer(
-            1,
-            0,
-            registers.as_mut_ptr(),
-            REGISTERS,
-            ram.as_mut_ptr(),
-            COLUMNS,
-            bytes.as_ptr(),
-            FALSE,
-            answer.as_mut_ptr(),
-            5,
-        )
-    };
-    assert_eq!((number, answer), (2, [2, 0, 0, 0, 0]));
-    let mut chip = [0; CHIP];
-    let number = unsafe {
-        humtrellis_plain_transfer(
-            chip.as_mut_ptr(),
-            CHIP,
-            bytes.as_ptr(),
-            FALSE,
-            answer.as_mut_ptr(),
-            5,
-        )
-    };
-    assert_eq!((number, answer), (2, [2, 0, 0, 0, 0]));
+fn stops_at_ram_length() {
+    let mut bus = Bus::new();
+    bus.ram_length = FALSE;
+    bus.power_on(4);
+    bus.transfer(4);
+    bus.picture(4);
+}
+
+/// A register comes before the RAM's length, and a chip count before both.
+#[test]
+fn stops_before_ram_length() {
+    let mut bus = Bus::new();
+    bus.ram_length = FALSE;
+    bus.registers[0] = 9;
+    bus.transfer(6);
+    bus.picture(6);
+    bus.chips = 5;
+    bus.transfer(3);
+    bus.picture(3);
+    bus.power_on(3);
 }
 
 #[test]
-fn stops_at_picture_length() {
-    let (ram, registers, mut out, mut answer) =
-        ([0; COLUMNS], [0; REGISTERS], [0xEE; COLUMNS], [77; 5]);
-    // Safety: a picture of a wrong length is refused by 9 before a byte of it is written.
-    let number = unsafe {
-        humtrellis_picture(
-            1,
-            0,
-            registers.as_ptr(),
-            REGISTERS,
-            ram.as_ptr(),
-            COLUMNS,
-            0,
-            0,
-            out.as_mut_ptr(),
-            FALSE,
-            answer.as_mut_ptr(),
-            5,
-        )
-    };
-    assert_eq!((number, answer, out), (9, [9, 0, 0, 0, 0], [0xEE; COLUMNS]));
-    let chip = [0; CHIP];
-    let number = unsafe {
-        humtrellis_chip_picture(
-            chip.as_ptr(),
-            CHIP,
-            0,
-            out.as_mut_ptr(),
-            FALSE,
-            answer.as_mut_ptr(),
-            5,
-        )
-    };
-    assert_eq!((number, answer, out), (9, [9, 0, 0, 0, 0], [0xEE; COLUMNS]));
+fn stops_at_transfer_and_picture_length() {
+    let mut bus = Bus::new();
+    bus.bytes_length = FALSE;
+    bus.transfer(2);
+    bus.out_length = FALSE;
+    bus.picture(9);
 }
 
 #[test]
-fn stops_at_list_and_log() {
-    let (mut chip, bytes, mut answer) = ([0; CHIP], [0x70], [77; 5]);
-    // Safety: more than eight chips are refused by 10, and a log over 65,536 bytes by 14, before any is read.
-    let number = unsafe {
-        humtrellis_plain_transfer(
-            chip.as_mut_ptr(),
-            FALSE / CHIP * CHIP,
-            bytes.as_ptr(),
-            1,
-            answer.as_mut_ptr(),
-            5,
-        )
-    };
-    assert_eq!((number, answer), (10, [10, 0, 0, 0, 0]));
+fn stops_at_list_transfer_and_picture_of_chips() {
+    let mut bus = Bus::new();
+    let (mut chip, bytes, mut out) = ([0; CHIP], [0x70, 0x00], [0xEE; COLUMNS]);
+    for (chips, length, expected) in [(FALSE / CHIP * CHIP, 2, 10), (CHIP, FALSE, 2)] {
+        let a = bus.answer.as_mut_ptr();
+        let number = unsafe {
+            humtrellis_plain_transfer(chip.as_mut_ptr(), chips, bytes.as_ptr(), length, a, 5)
+        };
+        bus.refused(number, expected);
+    }
+    let a = bus.answer.as_mut_ptr();
+    let number =
+        unsafe { humtrellis_chip_picture(chip.as_ptr(), CHIP, 0, out.as_mut_ptr(), FALSE, a, 5) };
+    bus.refused(number, 9);
+    assert_eq!(out, [0xEE; COLUMNS]);
+}
+
+#[test]
+fn stops_at_log_length() {
     let mut out = vec![0xEE; text_room()];
     let length =
         unsafe { humtrellis_replay([1, 0, 0].as_ptr(), FALSE, out.as_mut_ptr(), out.len()) };
