@@ -1,4 +1,4 @@
-// THE LONG ACCOUNT: one register set a group and one long RAM. Every input gets an answer; a refused call changes noCounts.
+// THE LONG ACCOUNT: one register set a group and one long RAM. Every input gets an answer; a refused call changes nothing.
 use sheet::Addressed;
 use sheet::Answer;
 use sheet::Both;

@@ -1,6 +1,6 @@
 -- Demand 3, stated: "Chips 0 upwards of one slave address, powered on together, followed one by one, hold, acknowledge and show after any
--- sequence of accepted transfers what one long RAM does." Proved in `agreement` for the column counts C and subaddress limits L within which
--- the PCF8532's commands keep P and A (`Keeps`): C a multiple of 16 from 160 up and L from 3 up, so 160 and 4.
+-- sequence of accepted transfers what one long RAM does." Proved in `agreement` for any column count C and subaddress limit L
+-- within which the PCF8532's commands keep P and A (`Keeps`), which is shown for 160 and 4; of other commands nothing is said.
 use Prim.Native.Nat.{ℕ, zero, suc, _+_, _*_, _<_}
 use mathlib.Core.Path.{_≡_}
 use mathlib.Core.Bool.{true, cond}

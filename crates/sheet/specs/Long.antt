@@ -137,7 +137,7 @@ stateAfter C L n s bytes =
     let a = transferCall C L n (s .registers) (s .ram) bytes in
     stateOf (a .result .registers) (a .ram)
 
--- after a sequence of transfers; a refused one changes noCounts
+-- after a sequence of transfers; a refused one changes nothing
 unfoldable pub stateAfterAll : ℕ → ℕ → Chips → State → List (List ℕ) → State
 stateAfterAll C L n s [] = s
 stateAfterAll C L n s (t ∷ ts) = stateAfterAll C L n (stateAfter C L n s t) ts

@@ -1,5 +1,5 @@
 -- `long::deliver` meets its contract: the group hears the bytes in its part of the RAM, and the part is put back.
--- Assumes noCounts.
+-- Assumes nothing.
 use mathlib.Core.Path.{ap, _∙_}
 use native.Mathlib.Omega.{arith}
 use lib.ListN.{length, drop}
