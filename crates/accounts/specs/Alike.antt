@@ -5,6 +5,7 @@ use Prim.Native.Nat.{ℕ, _≤_}
 use lib.ListN.{take}
 use Rattle.sheet.specs.declared.Both.{Both}
 use Rattle.sheet.specs.declared.Chips.{Chips}
+use Rattle.sheet.specs.Parts.{pcf8532}
 use Rattle.sheet.specs.Long.{stateOf}
 use Rattle.sheet.specs.Agree.{chipsOf, Valid, plainly}
 use Rattle.plain.specs.declared.Bench.{Bench}
@@ -12,9 +13,9 @@ use Rattle.accounts.specs.declared.Sides.{Sides}
 
 -- the state is valid, and the bench's first chips are its chips
 pub record Alike (n : Chips) (r : Both) (ram : List ℕ) (b : Bench) : Type 0 where
-  pub valid : Valid 160 4 n (stateOf r ram)
+  pub valid : Valid pcf8532 n (stateOf r ram)
   pub count : b .count ≤ 8
-  pub chips : take (b .count) (b .chips) ≡ chipsOf 160 n (stateOf r ram)
+  pub chips : take (b .count) (b .chips) ≡ chipsOf pcf8532 n (stateOf r ram)
 
 -- after both transfers they are alike again, and the plain answer is the long one's, acknowledged only
 pub record Agreed (n : Chips) (ram : List ℕ) (s : Sides) : Type 0 where

@@ -5,6 +5,7 @@ use sheet::Both;
 use sheet::Chips;
 use sheet::Transferred;
 ghost use mathlib.Core.Path.{_≡_};
+ghost use Rattle.sheet.specs.Parts.{pcf8532};
 ghost use Rattle.sheet.specs.Long.{transferCall};
 ghost use Rattle.plain.specs.Benches.{benchTransferred};
 ghost use Rattle.accounts.specs.Alike.{Alike, Agreed};
@@ -23,8 +24,7 @@ pub fn side_by_side(
     bytes: &[u8],
 ) -> Sides
     requires { ⌜ Alike chips registers (now ram) bench ⌝ }
-    ensures { λ r. ⌜ r .long ≡ transferCall 160 4 chips registers (now (ram .entry)) (now (bytes .entry)) .result ⌝ }
-    ensures { λ _. ⌜ now (ram .exit) ≡ transferCall 160 4 chips registers (now (ram .entry)) (now (bytes .entry)) .ram ⌝ }
+    ensures { λ r. ⌜ record { result = r .long; ram = now (ram .exit) } ≡ transferCall pcf8532 chips registers (now (ram .entry)) (now (bytes .entry)) ⌝ }
     ensures { λ r. ⌜ r .plain ≡ benchTransferred bench (now (bytes .entry)) ⌝ }
     ensures { λ r. ⌜ Agreed chips (now (ram .exit)) r ⌝ }
 {

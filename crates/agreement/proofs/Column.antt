@@ -9,6 +9,7 @@ use lib.Seq.{getD-take, getD-drop, take-set-le, take-set-lt, drop-set-lt, drop-s
 use borrow.Author.Tests.{eq-eqb, ne-eqb}
 use Rattle.sheet.specs.declared.Registers.{Registers}
 use Rattle.sheet.specs.declared.Chip.{Chip}
+use Rattle.sheet.specs.Parts.{Part}
 use Rattle.sheet.specs.Registers.{backplanes, bankRow}
 use Rattle.sheet.specs.Plain.{putRows, afterColumn}
 use Rattle.sheet.specs.Places.{advanced, position}
@@ -40,38 +41,38 @@ drop-after C c f columns = drop-set-add C columns c (f (getD columns (C + c) 0))
 abbrev pub rowsOf : ℕ → ℕ → Registers → ℕ → ℕ
 rowsOf x j r = putRows (backplanes r) (bankRow (backplanes r) (r .i)) (backplanes r * j) x
 
-module _ (C L x j g : ℕ) (r : Registers) where
+module _ (K : Part) (x j g : ℕ) (r : Registers) where
   -- chips past the one selected keep their columns
-  past : (n i : ℕ) (columns : List ℕ) → r .a < i → map (afterColumn C L x j) (groupChips C n g i r columns) ≡ groupChips C n g i (advanced C L r) columns
+  past : (n i : ℕ) (columns : List ℕ) → r .a < i → map (afterColumn K x j) (groupChips K n g i r columns) ≡ groupChips K n g i (advanced K r) columns
   unfolding groupChips afterColumn
   past zero i columns l = refl
-  past (suc n) i columns l = rw (ne-eqb (r .a) i (omega arith)) (ap (λ (cs : List Chip). chipAt g i (advanced C L r) (take C columns) ∷ cs) (past n (suc i) (drop C columns) (omega arith)))
+  past (suc n) i columns l = rw (ne-eqb (r .a) i (omega arith)) (ap (λ (cs : List Chip). chipAt g i (advanced K r) (take (K .columns) columns) ∷ cs) (past n (suc i) (drop (K .columns) columns) (omega arith)))
 
   -- from subaddress i on, d chips before the one selected
-  from : (n i d : ℕ) (columns : List ℕ) → r .p < C → r .a ≡ i + d
-      → map (afterColumn C L x j) (groupChips C n g i r columns) ≡ groupChips C n g i (advanced C L r) (changed (rowsOf x j r) (C * d + r .p) columns)
+  from : (n i d : ℕ) (columns : List ℕ) → r .p < K .columns → r .a ≡ i + d
+      → map (afterColumn K x j) (groupChips K n g i r columns) ≡ groupChips K n g i (advanced K r) (changed (rowsOf x j r) (K .columns * d + r .p) columns)
   unfolding groupChips afterColumn
   from zero i d columns l e = refl
   from (suc n) i zero columns l e =
-      rw (eq-eqb (r .a) i (omega arith), here C (r .p))
-      (ap₂ (λ (c : List ℕ) (cs : List Chip). chipAt g i (advanced C L r) c ∷ cs)
-      (sym (take-before C (r .p) (rowsOf x j r) columns l))
-      (past n (suc i) (drop C columns) (omega arith) ∙ ap (λ (c : List ℕ). groupChips C n g (suc i) (advanced C L r) c) (sym (drop-before C (r .p) (rowsOf x j r) columns l))))
+      rw (eq-eqb (r .a) i (omega arith), here (K .columns) (r .p))
+      (ap₂ (λ (c : List ℕ) (cs : List Chip). chipAt g i (advanced K r) c ∷ cs)
+      (sym (take-before (K .columns) (r .p) (rowsOf x j r) columns l))
+      (past n (suc i) (drop (K .columns) columns) (omega arith) ∙ ap (λ (c : List ℕ). groupChips K n g (suc i) (advanced K r) c) (sym (drop-before (K .columns) (r .p) (rowsOf x j r) columns l))))
     where
       here : (C p : ℕ) → C * 0 + p ≡ p
       here C p = omega arith
   from (suc n) i (suc d) columns l e =
-      rw (ne-eqb (r .a) i (omega arith), further C d (r .p))
-      (ap₂ (λ (c : List ℕ) (cs : List Chip). chipAt g i (advanced C L r) c ∷ cs)
-      (sym (take-after C (C * d + r .p) (rowsOf x j r) columns))
-      (from n (suc i) d (drop C columns) l (omega arith)
-      ∙ ap (λ (c : List ℕ). groupChips C n g (suc i) (advanced C L r) c) (sym (drop-after C (C * d + r .p) (rowsOf x j r) columns))))
+      rw (ne-eqb (r .a) i (omega arith), further (K .columns) d (r .p))
+      (ap₂ (λ (c : List ℕ) (cs : List Chip). chipAt g i (advanced K r) c ∷ cs)
+      (sym (take-after (K .columns) (K .columns * d + r .p) (rowsOf x j r) columns))
+      (from n (suc i) d (drop (K .columns) columns) l (omega arith)
+      ∙ ap (λ (c : List ℕ). groupChips K n g (suc i) (advanced K r) c) (sym (drop-after (K .columns) (K .columns * d + r .p) (rowsOf x j r) columns))))
     where
       further : (C d p : ℕ) → C * suc d + p ≡ C + (C * d + p)
       further C d p = omega arith
 
   -- the change is at the position
-  pub one-column : (n : ℕ) (columns : List ℕ) → r .p < C
-      → map (afterColumn C L x j) (groupChips C n g 0 r columns) ≡ groupChips C n g 0 (advanced C L r) (changed (rowsOf x j r) (position C r) columns)
+  pub one-column : (n : ℕ) (columns : List ℕ) → r .p < K .columns
+      → map (afterColumn K x j) (groupChips K n g 0 r columns) ≡ groupChips K n g 0 (advanced K r) (changed (rowsOf x j r) (position K r) columns)
   unfolding position
   one-column n columns l = from n 0 (r .a) columns l (omega arith)

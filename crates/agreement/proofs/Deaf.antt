@@ -7,6 +7,7 @@ use Prim.Native.Nat.{ℕ}
 use Rattle.lemmas.proofs.Tests.{either-false}
 use Rattle.sheet.specs.declared.Chip.{Chip}
 use Rattle.sheet.specs.declared.Expect.{Expect}
+use Rattle.sheet.specs.Parts.{Part}
 use Rattle.sheet.specs.Plain.{any, hears, takes}
 
 pub any-join : (f : Chip → Bool) (a b : List Chip) → any f (a ++ b) ≡ (any f a || any f b)
@@ -17,11 +18,11 @@ abbrev pub Deaf : ℕ → List Chip → Type 0
 Deaf address cs = any (hears address) cs ≡ false
 
 -- they keep all
-pub deaf-keep : (C L address x : ℕ) (e : Expect) (cs : List Chip) → Deaf address cs → map (takes C L address e x) cs ≡ cs
-deaf-keep C L address x e [] h = refl
-deaf-keep C L address x e (c ∷ cs) h =
+pub deaf-keep : (K : Part) (address x : ℕ) (e : Expect) (cs : List Chip) → Deaf address cs → map (takes K address e x) cs ≡ cs
+deaf-keep K address x e [] h = refl
+deaf-keep K address x e (c ∷ cs) h =
     let d = either-false (hears address c) (any (hears address) cs) h in
-    rw (d .0) (ap (λ (r : List Chip). c ∷ r) (deaf-keep C L address x e cs (d .1)))
+    rw (d .0) (ap (λ (r : List Chip). c ∷ r) (deaf-keep K address x e cs (d .1)))
 
 -- and acknowledge nothing
 deaf-silent : (address : ℕ) (f : Chip → Bool) (cs : List Chip) → Deaf address cs → any (λ c. hears address c && f c) cs ≡ false

@@ -17,6 +17,7 @@ use Rattle.sheet.specs.declared.Addressed.{Addressed}
 use Rattle.sheet.specs.declared.Addressed.the-variants.{To, Nobody}
 use Rattle.sheet.specs.declared.Expect.the-variants.{Control}
 use Rattle.sheet.specs.declared.PlainAnswer.{PlainAnswer}
+use Rattle.sheet.specs.Parts.{Part}
 use Rattle.sheet.specs.Protocol.{addressOf, heardBy}
 use Rattle.sheet.specs.Checks.{checkTransfer}
 use Rattle.sheet.specs.Long.{Group, After, heard, taken, answered, transferCall, State, stateOf}
@@ -32,77 +33,77 @@ abbrev left : After → State
 left a = stateOf (a .result .registers) (a .ram)
 
 -- what the two accounts leave and answer is the same
-record Same (C L : ℕ) (n : Chips) (p : PlainAfter) (a : After) : Type 0 where
-  hold : p .chips ≡ chipsOf C n (left a)
+record Same (K : Part) (n : Chips) (p : PlainAfter) (a : After) : Type 0 where
+  hold : p .chips ≡ chipsOf K n (left a)
   acknowledge : p .answer ≡ plainly (a .result .answer)
-  valid : Valid C L n (left a)
+  valid : Valid K n (left a)
 
-module _ (C L : ℕ) (keeps : Keeps C L) (n : Chips) (s : State) (bytes : List ℕ) (v : Valid C L n s) where
-  fits : Fits C L n (s .registers) (s .ram)
-  fits = fits-of C L n (s .registers) (s .ram) v
+module _ (K : Part) (keeps : Keeps K) (n : Chips) (s : State) (bytes : List ℕ) (v : Valid K n s) where
+  fits : Fits K n (s .registers) (s .ram)
+  fits = fits-of K n (s .registers) (s .ram) v
 
   abbrev groupZero : Group
-  groupZero = begunIn C n 0 s
+  groupZero = begunIn K n 0 s
 
   abbrev groupOne : Group
-  groupOne = begunIn C n 1 s
+  groupOne = begunIn K n 1 s
 
   -- a group after the bytes
   abbrev after : Group → Group
-  after g = heard C L Control (drop 1 bytes) g
+  after g = heard K Control (drop 1 bytes) g
 
   -- the chips before
-  chips-before : chipsOf C n s ≡ chipsOfGroup C (n .zero) 0 groupZero ++ chipsOfGroup C (n .one) 1 groupOne
-  chips-before = ap (λ (t : State). chipsOf C n t) (apart C L n s fits) ∙ chips-together C L n groupZero groupOne (kept-zero C L n s fits)
+  chips-before : chipsOf K n s ≡ chipsOfGroup K (n .zero) 0 groupZero ++ chipsOfGroup K (n .one) 1 groupOne
+  chips-before = ap (λ (t : State). chipsOf K n t) (apart K n s fits) ∙ chips-together K n groupZero groupOne (kept-zero K n s fits)
 
   -- groups a and b after the transfer
-  conclude : (a b : Group) (p : Plain) (t : After) → Kept C L (n .zero) a → Kept C L (n .one) b
-      → p .chips ≡ chipsOfGroup C (n .zero) 0 a ++ chipsOfGroup C (n .one) 1 b → left t ≡ together a b
-      → PlainAnswer.Acknowledged (p .acknowledged) ≡ plainly (t .result .answer) → Same C L n (plainSaid p) t
+  conclude : (a b : Group) (p : Plain) (t : After) → Kept K (K .columns * n .zero) a → Kept K (K .columns * n .one) b
+      → p .chips ≡ chipsOfGroup K (n .zero) 0 a ++ chipsOfGroup K (n .one) 1 b → left t ≡ together a b
+      → PlainAnswer.Acknowledged (p .acknowledged) ≡ plainly (t .result .answer) → Same K n (plainSaid p) t
   conclude a b p t ka kb ep et ea = record {
-    hold = ep ∙ sym (ap (λ (q : State). chipsOf C n q) et ∙ chips-together C L n a b ka);
+    hold = ep ∙ sym (ap (λ (q : State). chipsOf K n q) et ∙ chips-together K n a b ka);
     acknowledge = ea;
-    valid = subst (λ (q : State). Valid C L n q) (sym et) (valid-together C L n a b (fits .zero-few) (fits .one-few) ka kb);
+    valid = subst (λ (q : State). Valid K n q) (sym et) (valid-together K n a b (fits .zero-few) (fits .one-few) ka kb);
   }
 
   -- the transfer to a chip, by its address
   abbrev plain : ℕ → Plain
-  plain address = plainHeard C L address Control (drop 1 bytes) (record { acknowledged = 1; chips = chipsOf C n s })
+  plain address = plainHeard K address Control (drop 1 bytes) (record { acknowledged = 1; chips = chipsOf K n s })
 
   abbrev long : Addressed → After
-  long to = taken C L n (s .registers) (s .ram) bytes to
+  long to = taken K n (s .registers) (s .ram) bytes to
 
-  to-zero : 0 < n .zero → Same C L n (plainSaid (plain (addressOf 0))) (long (To 0))
+  to-zero : 0 < n .zero → Same K n (plainSaid (plain (addressOf 0))) (long (To 0))
   to-zero pn =
-      let others = chipsOfGroup C (n .one) 1 groupOne in
-      let e : plain (addressOf 0) ≡ plainOf C (n .zero) 0 [] others (after groupZero) =
-      ap (λ (cs : List Chip). plainHeard C L (addressOf 0) Control (drop 1 bytes) (record { acknowledged = 1; chips = cs })) chips-before
-      ∙ heard-agrees C L (n .zero) 0 keeps pn (fits .zero-few) [] others refl (group-hears (addressOf 0) C (n .one) 1 (groupOne .registers) (groupOne .ram)) (drop 1 bytes) Control groupZero (kept-zero C L n s fits) in
-      conclude (after groupZero) groupOne (plain (addressOf 0)) (long (To 0)) (heard-keeps C L (n .zero) keeps (drop 1 bytes) Control groupZero (kept-zero C L n s fits)) (kept-one C L n s fits)
+      let others = chipsOfGroup K (n .one) 1 groupOne in
+      let e : plain (addressOf 0) ≡ plainOf K (n .zero) 0 [] others (after groupZero) =
+      ap (λ (cs : List Chip). plainHeard K (addressOf 0) Control (drop 1 bytes) (record { acknowledged = 1; chips = cs })) chips-before
+      ∙ heard-agrees K (n .zero) 0 keeps pn (fits .zero-few) [] others refl (group-hears (addressOf 0) K (n .one) 1 (groupOne .registers) (groupOne .ram)) (drop 1 bytes) Control groupZero (kept-zero K n s fits) in
+      conclude (after groupZero) groupOne (plain (addressOf 0)) (long (To 0)) (heard-keeps K (K .columns * n .zero) keeps (drop 1 bytes) Control groupZero (kept-zero K n s fits)) (kept-one K n s fits)
       (ap (λ (p : Plain). p .chips) e)
       (λ i. record {
         registers = record { zero = after groupZero .registers; one = s .registers .one };
-        ram = after groupZero .ram ++ (ap (λ (k : ℕ). drop k (s .ram)) (zero-add (C * n .zero)) ∙ sym (rest-one C L n s fits)) i;
+        ram = after groupZero .ram ++ (ap (λ (k : ℕ). drop k (s .ram)) (zero-add (K .columns * n .zero)) ∙ sym (rest-one K n s fits)) i;
       })
       (ap (λ (p : Plain). PlainAnswer.Acknowledged (p .acknowledged)) e)
 
-  to-one : 0 < n .one → Same C L n (plainSaid (plain (addressOf 1))) (long (To 1))
+  to-one : 0 < n .one → Same K n (plainSaid (plain (addressOf 1))) (long (To 1))
   to-one pn =
-      let others = chipsOfGroup C (n .zero) 0 groupZero in
-      let e : plain (addressOf 1) ≡ plainOf C (n .one) 1 others [] (after groupOne) =
-      ap (λ (cs : List Chip). plainHeard C L (addressOf 1) Control (drop 1 bytes) (record { acknowledged = 1; chips = cs }))
-      (chips-before ∙ ap (λ (cs : List Chip). others ++ cs) (sym (append-nil (chipsOfGroup C (n .one) 1 groupOne))))
-      ∙ heard-agrees C L (n .one) 1 keeps pn (fits .one-few) others [] (group-hears (addressOf 1) C (n .zero) 0 (groupZero .registers) (groupZero .ram)) refl (drop 1 bytes) Control groupOne (kept-one C L n s fits) in
-      conclude groupZero (after groupOne) (plain (addressOf 1)) (long (To 1)) (kept-zero C L n s fits) (heard-keeps C L (n .one) keeps (drop 1 bytes) Control groupOne (kept-one C L n s fits))
-      (ap (λ (p : Plain). p .chips) e ∙ ap (λ (cs : List Chip). others ++ cs) (append-nil (chipsOfGroup C (n .one) 1 (after groupOne))))
+      let others = chipsOfGroup K (n .zero) 0 groupZero in
+      let e : plain (addressOf 1) ≡ plainOf K (n .one) 1 others [] (after groupOne) =
+      ap (λ (cs : List Chip). plainHeard K (addressOf 1) Control (drop 1 bytes) (record { acknowledged = 1; chips = cs }))
+      (chips-before ∙ ap (λ (cs : List Chip). others ++ cs) (sym (append-nil (chipsOfGroup K (n .one) 1 groupOne))))
+      ∙ heard-agrees K (n .one) 1 keeps pn (fits .one-few) others [] (group-hears (addressOf 1) K (n .zero) 0 (groupZero .registers) (groupZero .ram)) refl (drop 1 bytes) Control groupOne (kept-one K n s fits) in
+      conclude groupZero (after groupOne) (plain (addressOf 1)) (long (To 1)) (kept-zero K n s fits) (heard-keeps K (K .columns * n .one) keeps (drop 1 bytes) Control groupOne (kept-one K n s fits))
+      (ap (λ (p : Plain). p .chips) e ∙ ap (λ (cs : List Chip). others ++ cs) (append-nil (chipsOfGroup K (n .one) 1 (after groupOne))))
       (λ i. record {
         registers = record { zero = s .registers .zero; one = after groupOne .registers };
-        ram = take (C * n .zero) (s .ram) ++ (ap (λ (c : List ℕ). after groupOne .ram ++ c) (drop-of-length-le (s .ram) {i = C * n .zero + C * n .one} (le-of-eq (fits .columns ∙ mul-add C (n .zero) (n .one)))) ∙ append-nil (after groupOne .ram)) i;
+        ram = take (K .columns * n .zero) (s .ram) ++ (ap (λ (c : List ℕ). after groupOne .ram ++ c) (drop-of-length-le (s .ram) {i = K .columns * n .zero + K .columns * n .one} (le-of-eq (fits .columns ∙ mul-add (K .columns) (n .zero) (n .one)))) ∙ append-nil (after groupOne .ram)) i;
       })
       (ap (λ (p : Plain). PlainAnswer.Acknowledged (p .acknowledged)) e)
 
   -- nobody hears: all stays
-  to-nobody : Same C L n (plainSaid (record { acknowledged = 0; chips = chipsOf C n s })) (long Nobody)
+  to-nobody : Same K n (plainSaid (record { acknowledged = 0; chips = chipsOf K n s })) (long Nobody)
   to-nobody = record { hold = refl; acknowledge = refl; valid = v }
 
   -- ---- by byte 0
@@ -118,29 +119,29 @@ module _ (C L : ℕ) (keeps : Keeps C L) (n : Chips) (s : State) (bytes : List �
 
   abbrev Taken : Bool → Bool → Type 0
   Taken zero one =
-      Same C L n (plainSaid (cond (zero || one) (plain (getD bytes 0 0)) (record { acknowledged = 0; chips = chipsOf C n s })))
+      Same K n (plainSaid (cond (zero || one) (plain (getD bytes 0 0)) (record { acknowledged = 0; chips = chipsOf K n s })))
       (long (cond zero (To 0) (cond one (To 1) Nobody)))
 
   by-address : (zero one : Bool) → (zero ≡ true → (getD bytes 0 0 ≡ addressOf 0) × (0 < n .zero)) → (one ≡ true → (getD bytes 0 0 ≡ addressOf 1) × (0 < n .one)) → Taken zero one
-  by-address true one hz ho = let h = hz refl in subst (λ (a : ℕ). Same C L n (plainSaid (plain a)) (long (To 0))) (sym (h .0)) (to-zero (h .1))
-  by-address false true hz ho = let h = ho refl in subst (λ (a : ℕ). Same C L n (plainSaid (plain a)) (long (To 1))) (sym (h .0)) (to-one (h .1))
+  by-address true one hz ho = let h = hz refl in subst (λ (a : ℕ). Same K n (plainSaid (plain a)) (long (To 0))) (sym (h .0)) (to-zero (h .1))
+  by-address false true hz ho = let h = ho refl in subst (λ (a : ℕ). Same K n (plainSaid (plain a)) (long (To 1))) (sym (h .0)) (to-one (h .1))
   by-address false false hz ho = to-nobody
 
-  taken-same : Same C L n (plainSaid (plainTaken C L (chipsOf C n s) bytes)) (long (heardBy n (getD bytes 0 0)))
+  taken-same : Same K n (plainSaid (plainTaken K (chipsOf K n s) bytes)) (long (heardBy n (getD bytes 0 0)))
   unfolding heardBy
   taken-same =
-      rw (chips-hear C n s (getD bytes 0 0))
+      rw (chips-hear K n s (getD bytes 0 0))
       (by-address (called 0 (n .zero)) (called 1 (n .one)) (called-true 0 (n .zero)) (called-true 1 (n .one)))
 
   -- ---- by the check
 
-  by-check : (k : Check) (p : PlainAfter) (t : After) → Same C L n p t → Same C L n (plainAnswered k (chipsOf C n s) p) (answered k (s .registers) (s .ram) t)
+  by-check : (k : Check) (p : PlainAfter) (t : After) → Same K n p t → Same K n (plainAnswered k (chipsOf K n s) p) (answered k (s .registers) (s .ram) t)
   by-check Passed p t h = h
   by-check (Refused r) p t h = record { hold = refl; acknowledge = refl; valid = v }
 
-  pub transfer : Agrees C L n s bytes
+  pub transfer : Agrees K n s bytes
   unfolding plainCall transferCall
   transfer =
-      let h : Same C L n (plainCall C L (chipsOf C n s) bytes) (transferCall C L n (s .registers) (s .ram) bytes) =
-      rw (same-checks C L n s bytes v) (by-check (checkTransfer C L n (s .registers) (s .ram) bytes) (plainSaid (plainTaken C L (chipsOf C n s) bytes)) (long (heardBy n (getD bytes 0 0))) taken-same) in
+      let h : Same K n (plainCall K (chipsOf K n s) bytes) (transferCall K n (s .registers) (s .ram) bytes) =
+      rw (same-checks K n s bytes v) (by-check (checkTransfer K n (s .registers) (s .ram) bytes) (plainSaid (plainTaken K (chipsOf K n s) bytes)) (long (heardBy n (getD bytes 0 0))) taken-same) in
       record { hold = h .hold; acknowledge = h .acknowledge; valid = h .valid }

@@ -11,6 +11,7 @@ use Rattle.sheet.specs.declared.Check.the-variants.{Passed, Refused}
 use Rattle.sheet.specs.declared.Refusal.{Refusal}
 use Rattle.sheet.specs.declared.Refusal.the-variants.{LogHead, LongLog}
 use Rattle.sheet.specs.Refusals.{numberOf, placeOf}
+use Rattle.sheet.specs.Parts.{pcf8532}
 use Rattle.sheet.specs.Checks.{unless, checkChips}
 use Rattle.sheet.specs.Logs.{logChips, cutIn, checkLog, line, logLines, textOf}
 use Rattle.laws.proofs.Fits.{both-pass, unless-passes}
@@ -18,7 +19,7 @@ use Rattle.buslog.specs.Records.{recordsFrom}
 
 pub record Checked (log : List ℕ) : Type 0 where
   pub short : length log ≤ 65536
-  pub chips : checkChips 4 (logChips log) ≡ Passed
+  pub chips : checkChips pcf8532 (logChips log) ≡ Passed
   pub whole : cutIn (length log) 3 (drop 3 log) ≡ Passed
 
 -- of the checks 14, 12, 3 and 13
@@ -27,7 +28,7 @@ unfolding checkLog
 checked log e =
     let long = both-pass (unless (leb (length log) 65536) LongLog) _ e in
     let head = both-pass (unless (leb 3 (length log) && eqb (getD log 0 0) 1) LogHead) _ (long .1) in
-    let chips = both-pass (checkChips 4 (logChips log)) _ (head .1) in
+    let chips = both-pass (checkChips pcf8532 (logChips log)) _ (head .1) in
     record { short = leb-true (length log) 65536 (unless-passes _ LongLog (long .0)); chips = chips .0; whole = chips .1 }
 
 -- the text by the check: lines, or one

@@ -19,7 +19,8 @@ use Rattle.sheet.specs.declared.Refusal.the-variants.{EmptyTransfer, LongTransf
 use Rattle.sheet.specs.declared.Check.{Check}
 use Rattle.sheet.specs.declared.Check.the-variants.{Passed, Refused}
 use Rattle.sheet.specs.Refusals.{numberOf, placeOf, numbers}
-use Rattle.sheet.specs.Commands.{commandOf, defined}
+use Rattle.sheet.specs.Parts.{commandOf, pcf8532}
+use Rattle.sheet.specs.Commands.{defined}
 use Rattle.sheet.specs.Protocol.{heardBy, next, isCommand, undefinedIn}
 use Rattle.sheet.specs.Checks.{unless, orElse, checkChips, checkLength, checkCommands, checkTransfer}
 use Rattle.sheet.specs.Long.{begun, State, Group, byte, heard, oneAcknowledged, taken, answered, transferCall, registersOf, columnsOf}
@@ -83,28 +84,28 @@ log-few log =
 
 -- what a group has counted after a transfer's bytes, of which k are left at byte i
 counted-few : (k : ℕ) (ram₀ bytes : List ℕ) (r : Registers) (ram : List ℕ) (l : Listener) (i : ℕ) → i + k ≡ length bytes → Hearing ram₀ bytes r ram l i
-    → Sound (heard 160 4 Control (drop 1 bytes) (begun r ram₀)) (length bytes) (length ram₀)
+    → Sound (heard pcf8532 Control (drop 1 bytes) (begun r ram₀)) (length bytes) (length ram₀)
 counted-few zero ram₀ bytes r ram l i e h =
     subst (λ (g : Group). Sound g (length bytes) (length ram₀)) (sym (at-end (l .expect) bytes i (omega arith) (groupOf l ram)) ∙ h .rest)
     (subst (λ (n : ℕ). Sound (groupOf l ram) n (length ram₀)) {x = i} (omega arith) (h .sound))
 counted-few (suc k) ram₀ bytes r ram l i e h =
     let x = getD bytes i 0 in
-    let g = byte 160 4 (l .expect) x (groupOf l ram) in
+    let g = byte pcf8532 (l .expect) x (groupOf l ram) in
     counted-few k ram₀ bytes r (g .ram) (listenerOf (next (l .expect) x) g) (i + 1) (omega arith)
     (byte-turn ram₀ bytes r ram l i (omega arith) h (l .expect) refl (g .ram) (listenerOf (next (l .expect) x) g) refl refl)
 
 -- a group that hears a transfer of 4,096 bytes at most
-heard-few : (ram bytes : List ℕ) (r : Registers) → InRange 160 4 r → Nibbles ram → 0 < length bytes → length bytes < 4097
-    → Small (numbers (Answer.Taken (heard 160 4 Control (drop 1 bytes) (begun r ram) .counts)))
+heard-few : (ram bytes : List ℕ) (r : Registers) → InRange pcf8532 r → Nibbles ram → 0 < length bytes → length bytes < 4097
+    → Small (numbers (Answer.Taken (heard pcf8532 Control (drop 1 bytes) (begun r ram) .counts)))
 heard-few ram bytes r range columns some few =
     let h : Hearing ram bytes r ram (listenerOf Control (begun r ram)) 1 = record { rest = refl; sound = record { range = range; acknowledged = omega arith; bits = omega arith; long = refl; nibbles = columns }; most = omega arith } in
     let s = counted-few (length bytes - 1) ram bytes r ram (listenerOf Control (begun r ram)) 1 (omega arith) h in
     omega arith
 
 -- in a state that no call refuses
-module _ (n : Chips) (s : State) (bytes : List ℕ) (v : Valid 160 4 n s) (short : length bytes ≤ 65536) where
+module _ (n : Chips) (s : State) (bytes : List ℕ) (v : Valid pcf8532 n s) (short : length bytes ≤ 65536) where
   -- a refusal's place
-  transfer-refused : Few (checkTransfer 160 4 n (s .registers) (s .ram) bytes)
+  transfer-refused : Few (checkTransfer pcf8532 n (s .registers) (s .ram) bytes)
   unfolding checkTransfer checkLength
   transfer-refused = rw v (lengths (ltb 0 (length bytes)) (leb (length bytes) 4096))
     where
@@ -118,29 +119,29 @@ module _ (n : Chips) (s : State) (bytes : List ℕ) (v : Valid 160 4 n s) (short
       lengths false u = omega arith
 
   -- a taken transfer's counts
-  transfer-taken : checkTransfer 160 4 n (s .registers) (s .ram) bytes ≡ Passed → (to : Addressed) → Small (numbers (taken 160 4 n (s .registers) (s .ram) bytes to .result .answer))
+  transfer-taken : checkTransfer pcf8532 n (s .registers) (s .ram) bytes ≡ Passed → (to : Addressed) → Small (numbers (taken pcf8532 n (s .registers) (s .ram) bytes to .result .answer))
   transfer-taken e (To g) =
       let p = transfer-passed n (s .registers) (s .ram) bytes e in
-      let f = fits-of 160 4 n (s .registers) (s .ram) v in
-      heard-few (columnsOf 160 n g (s .ram)) bytes (registersOf g (s .registers)) (part-in n (s .registers) (s .ram) g f) (nibbles-of 0 _ (part-passes n (s .registers) (s .ram) g f)) (p .1 .0) (p .1 .1)
+      let f = fits-of pcf8532 n (s .registers) (s .ram) v in
+      heard-few (columnsOf pcf8532 n g (s .ram)) bytes (registersOf g (s .registers)) (part-in n (s .registers) (s .ram) g f) (nibbles-of 0 _ (part-passes n (s .registers) (s .ram) g f)) (p .1 .0) (p .1 .1)
   transfer-taken e Nobody = omega arith
 
   -- an answer's numbers
-  pub transfer-few : Small (numbers (transferCall 160 4 n (s .registers) (s .ram) bytes .result .answer))
+  pub transfer-few : Small (numbers (transferCall pcf8532 n (s .registers) (s .ram) bytes .result .answer))
   unfolding transferCall
-  transfer-few = by-check (checkTransfer 160 4 n (s .registers) (s .ram) bytes) refl transfer-refused
+  transfer-few = by-check (checkTransfer pcf8532 n (s .registers) (s .ram) bytes) refl transfer-refused
     where
-      by-check : (k : Check) → checkTransfer 160 4 n (s .registers) (s .ram) bytes ≡ k → Few k → Small (numbers (answered k (s .registers) (s .ram) (taken 160 4 n (s .registers) (s .ram) bytes (heardBy n (getD bytes 0 0))) .result .answer))
+      by-check : (k : Check) → checkTransfer pcf8532 n (s .registers) (s .ram) bytes ≡ k → Few k → Small (numbers (answered k (s .registers) (s .ram) (taken pcf8532 n (s .registers) (s .ram) bytes (heardBy n (getD bytes 0 0))) .result .answer))
       by-check Passed e f = transfer-taken e (heardBy n (getD bytes 0 0))
       by-check (Refused r) e f = (f .0, (f .1 .0, (omega arith, (omega arith, (omega arith, tt)))))
 
 -- of a transfer of no byte, or of the address alone, they have one digit each
-pub transfer-short : (n : Chips) (s : State) (bytes : List ℕ) → Valid 160 4 n s → length bytes < 2 → Below 0 (numbers (transferCall 160 4 n (s .registers) (s .ram) bytes .result .answer))
+pub transfer-short : (n : Chips) (s : State) (bytes : List ℕ) → Valid pcf8532 n s → length bytes < 2 → Below 0 (numbers (transferCall pcf8532 n (s .registers) (s .ram) bytes .result .answer))
 unfolding transferCall checkTransfer checkLength undefinedIn heard
 transfer-short n s [] v l = rw v (omega arith)
 transfer-short n s (x ∷ []) v l = rw v (by-address (heardBy n x))
   where
-    by-address : (to : Addressed) → Below 0 (numbers (answered (checkCommands to (x ∷ [])) (s .registers) (s .ram) (taken 160 4 n (s .registers) (s .ram) (x ∷ []) to) .result .answer))
+    by-address : (to : Addressed) → Below 0 (numbers (answered (checkCommands to (x ∷ [])) (s .registers) (s .ram) (taken pcf8532 n (s .registers) (s .ram) (x ∷ []) to) .result .answer))
     by-address (To g) = omega arith
     by-address Nobody = omega arith
 transfer-short n s (x ∷ y ∷ xs) v l = absurd (omega arith)

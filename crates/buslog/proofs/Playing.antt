@@ -12,6 +12,7 @@ use Rattle.sheet.specs.declared.Chips.{Chips}
 use Rattle.sheet.specs.declared.Transferred.{Transferred}
 use Rattle.sheet.specs.declared.Check.the-variants.{Passed}
 use Rattle.sheet.specs.Refusals.{numbers}
+use Rattle.sheet.specs.Parts.{pcf8532}
 use Rattle.sheet.specs.Long.{stateOf, transferCall, stateAfterAll}
 use Rattle.sheet.specs.Logs.{cutIn, line, transferLines}
 use Rattle.buslog.specs.Texts.{Puts}
@@ -22,7 +23,7 @@ use Rattle.buslog.proofs.Records.{Next}
 -- the record at a place is the next, the text has come to at, and i records are done
 pub record Playing (log : List ℕ) (n : Chips) (r₀ : Both) (ram₀ out₀ : List ℕ) (r : Both) (ram out : List ℕ) (i at place : ℕ) : Type 0 where
   pub writing : Writing 0 (transferLines n 0 (stateOf r₀ ram₀) (recordsFrom 3 log)) out₀ at (transferLines n i (stateOf r ram) (recordsFrom place log)) out
-  pub state : stateAfterAll 160 4 n (stateOf r ram) (recordsFrom place log) ≡ stateAfterAll 160 4 n (stateOf r₀ ram₀) (recordsFrom 3 log)
+  pub state : stateAfterAll pcf8532 n (stateOf r ram) (recordsFrom place log) ≡ stateAfterAll pcf8532 n (stateOf r₀ ram₀) (recordsFrom 3 log)
   pub whole : cutIn (length log) place (drop place log) ≡ Passed
   pub few : i ≤ place
   pub long : length ram ≡ length ram₀
@@ -30,8 +31,8 @@ pub record Playing (log : List ℕ) (n : Chips) (r₀ : Both) (ram₀ out₀ : L
 -- a turn: the record there is whole, and its transfer is carried out
 module _ (log : List ℕ) (n : Chips) (r₀ : Both) (ram₀ out₀ : List ℕ) (r : Both) (ram out : List ℕ) (i at place : ℕ) (p : Playing log n r₀ ram₀ out₀ r ram out i at place) where
   module _ (start size : ℕ) (f : Next log place start size) (t : Transferred) (after : List ℕ)
-      (result : t ≡ transferCall 160 4 n r ram (take (start + size - start) (drop start log)) .result)
-      (ram-after : after ≡ transferCall 160 4 n r ram (take (start + size - start) (drop start log)) .ram) where
+      (result : t ≡ transferCall pcf8532 n r ram (take (start + size - start) (drop start log)) .result)
+      (ram-after : after ≡ transferCall pcf8532 n r ram (take (start + size - start) (drop start log)) .ram) where
     -- the record's line, and those after it
     pub one-more : Writing 0 (transferLines n 0 (stateOf r₀ ram₀) (recordsFrom 3 log)) out₀ at (line 84 (i ∷ numbers (t .answer)) ++ transferLines n (i + 1) (stateOf (t .registers) after) (recordsFrom (start + size) log)) out
     unfolding transferLines

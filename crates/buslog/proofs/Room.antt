@@ -19,6 +19,7 @@ use Rattle.sheet.specs.declared.Shown.the-variants.{Dark, Rows}
 use Rattle.sheet.specs.declared.Check.{Check}
 use Rattle.sheet.specs.declared.Check.the-variants.{Passed, Refused}
 use Rattle.sheet.specs.Refusals.{numberOf, placeOf, numbers}
+use Rattle.sheet.specs.Parts.{pcf8532}
 use Rattle.sheet.specs.Registers.{backplanes}
 use Rattle.sheet.specs.Protocol.{chipsIn}
 use Rattle.sheet.specs.Pictures.{shown, lit, pictureOf, litIn}
@@ -27,7 +28,7 @@ use Rattle.sheet.specs.Logs.{lengthOf, logChips, recordsIn, checkLog, line, tra
 use Rattle.sheet.specs.Agree.{Valid}
 use Rattle.laws.proofs.Nibbles.{Nibbles, take-nibbles, drop-nibbles}
 use Rattle.laws.proofs.Fits.{fits-of}
-use Rattle.agreement.proofs.Demand.{pcf8532}
+use Rattle.agreement.proofs.Demand.{pcf8532-agrees}
 use Rattle.long.proofs.Parts.{part-few, part-long}
 use Rattle.buslog.specs.declared.Replayed.{Replayed}
 use Rattle.buslog.specs.declared.Replayed.the-variants.{Written, SmallBuffer}
@@ -80,20 +81,20 @@ five (Answer.Taken t) = refl
 five (Answer.Refused r) = refl
 
 -- ten bytes at most for each byte of the record: a line of one digit a count for a record of no byte or one, and else 38
-transfer-line : (n : Chips) (i : ℕ) (s : State) (t : List ℕ) → Valid 160 4 n s → length t ≤ 65536 → i < 100000
-    → length (line 84 (i ∷ numbers (transferCall 160 4 n (s .registers) (s .ram) t .result .answer))) ≤ 10 * (length t + 2)
+transfer-line : (n : Chips) (i : ℕ) (s : State) (t : List ℕ) → Valid pcf8532 n s → length t ≤ 65536 → i < 100000
+    → length (line 84 (i ∷ numbers (transferCall pcf8532 n (s .registers) (s .ram) t .result .answer))) ≤ 10 * (length t + 2)
 transfer-line n i s t v short h =
-    let a = transferCall 160 4 n (s .registers) (s .ram) t .result .answer in
+    let a = transferCall pcf8532 n (s .registers) (s .ram) t .result .answer in
     ⊎-elim (λ (l : length t < 2). omega (arith, line-short 84 i (numbers a) h (transfer-short n s t v l) (five a)))
     (λ (l : 2 ≤ length t). omega (arith, line-few 84 (i ∷ numbers a) (h, transfer-few n s t v short), five a))
     (lt-or-le (length t) 2)
 
-transfers-few : (n : Chips) (i : ℕ) (s : State) (ts : List (List ℕ)) → Valid 160 4 n s → Short ts → i + length ts ≤ 99999 → length (transferLines n i s ts) ≤ 10 * weight ts
+transfers-few : (n : Chips) (i : ℕ) (s : State) (ts : List (List ℕ)) → Valid pcf8532 n s → Short ts → i + length ts ≤ 99999 → length (transferLines n i s ts) ≤ 10 * weight ts
 unfolding transferLines
 transfers-few n i s [] v short h = omega arith
 transfers-few n i s (t ∷ ts) v short h =
-    let after = stateAfter 160 4 n s t in
-    omega (arith, length-append (line 84 (i ∷ numbers (transferCall 160 4 n (s .registers) (s .ram) t .result .answer))) (transferLines n (suc i) after ts), transfer-line n i s t v (short .0) (omega arith), transfers-few n (suc i) after ts (pcf8532 .transfer n s t v .valid) (short .1) (omega arith))
+    let after = stateAfter pcf8532 n s t in
+    omega (arith, length-append (line 84 (i ∷ numbers (transferCall pcf8532 n (s .registers) (s .ram) t .result .answer))) (transferLines n (suc i) after ts), transfer-line n i s t v (short .0) (omega arith), transfers-few n (suc i) after ts (pcf8532-agrees .transfer n s t v .valid) (short .1) (omega arith))
 
 -- ---- pictures
 
@@ -125,19 +126,19 @@ columns-few g c (q ∷ qs) hg h w =
     one false = omega (arith, line-few 83 (g ∷ c ∷ q ∷ []) (omega (arith, w 0)))
 
 -- the lines at the end, of a state that no call refuses
-module _ (n : Chips) (s : State) (v : Valid 160 4 n s) where
+module _ (n : Chips) (s : State) (v : Valid pcf8532 n s) where
   shown-nibbles : (g : ℕ) → Nibbles (shownAt n s g)
   unfolding pictureOf
   shown-nibbles g =
       let r = registersOf g (s .registers) in
-      picture-nibbles (backplanes r) (shown r 0) (columnsOf 160 n g (s .ram)) (take-nibbles (160 * chipsIn g n) (drop (startOf 160 n g) (s .ram)) (drop-nibbles (startOf 160 n g) (s .ram) (fits-of 160 4 n (s .registers) (s .ram) v .nibbles)))
+      picture-nibbles (backplanes r) (shown r 0) (columnsOf pcf8532 n g (s .ram)) (take-nibbles (160 * chipsIn g n) (drop (startOf pcf8532 n g) (s .ram)) (drop-nibbles (startOf pcf8532 n g) (s .ram) (fits-of pcf8532 n (s .registers) (s .ram) v .nibbles)))
 
   shown-few : (g : ℕ) → length (shownAt n s g) ≤ 640
   unfolding pictureOf
   shown-few g =
-      let f = fits-of 160 4 n (s .registers) (s .ram) v in
+      let f = fits-of pcf8532 n (s .registers) (s .ram) v in
       let r = registersOf g (s .registers) in
-      omega (arith, length-map (columnsOf 160 n g (s .ram)) (lit (backplanes r) (shown r 0)), part-long n (s .registers) (s .ram) g f, part-few n (s .registers) (s .ram) g f)
+      omega (arith, length-map (columnsOf pcf8532 n g (s .ram)) (lit (backplanes r) (shown r 0)), part-long n (s .registers) (s .ram) g f, part-few n (s .registers) (s .ram) g f)
 
   group-few : (g : ℕ) → g < 2 → (length (columnLines g 0 (shownAt n s g)) ≤ 12800) × (length (line 71 (g ∷ litIn (shownAt n s g) ∷ [])) ≤ 14)
   group-few g h =
@@ -165,7 +166,7 @@ lines-few log e =
     let v = start-valid n (c .chips) in
     let shorter : length (drop 3 log) ≤ 65536 = omega (arith, length-drop 3 log) in
     let few = records-few (length log) (drop 3 log) in
-    omega (arith, records-weigh (length log) (drop 3 log), length-drop 3 log, length-append (transferLines n 0 (logStart n) ts) (endLines n (stateAfterAll 160 4 n (logStart n) ts)), transfers-few n 0 (logStart n) ts v (records-short (length log) (drop 3 log) shorter) (omega arith), end-few n (stateAfterAll 160 4 n (logStart n) ts) (pcf8532 .sequence n (logStart n) ts v .valid))
+    omega (arith, records-weigh (length log) (drop 3 log), length-drop 3 log, length-append (transferLines n 0 (logStart n) ts) (endLines n (stateAfterAll pcf8532 n (logStart n) ts)), transfers-few n 0 (logStart n) ts v (records-short (length log) (drop 3 log) shorter) (omega arith), end-few n (stateAfterAll pcf8532 n (logStart n) ts) (pcf8532-agrees .sequence n (logStart n) ts v .valid))
 
 -- the law
 pub text-few : (log : List ℕ) → length (textOf log) ≤ room

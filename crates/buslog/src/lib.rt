@@ -12,6 +12,7 @@ ghost use Prim.Native.Nat.{_+_, _*_, _≤_, _<_};
 ghost use lib.Dec.{eqb};
 ghost use lib.ListN.{length, drop, replicate};
 ghost use Rattle.sheet.specs.Refusals.{numberOf, placeOf, numbers};
+ghost use Rattle.sheet.specs.Parts.{pcf8532};
 ghost use Rattle.sheet.specs.Protocol.{chipsIn};
 ghost use Rattle.sheet.specs.Checks.{orElse, checkChips};
 ghost use Rattle.sheet.specs.Pictures.{litIn};
@@ -148,7 +149,7 @@ fn check_records(log: &[u8]) -> Check
 
 // The chip counts and the records: 3, 13.
 fn check_body(log: &[u8]) -> Check
-    ensures { λ r. ⌜ r ≡ orElse (checkChips 4 (logChips (now (log .entry)))) (cutIn (length (now (log .entry))) 3 (drop 3 (now (log .entry)))) ⌝ }
+    ensures { λ r. ⌜ r ≡ orElse (checkChips pcf8532 (logChips (now (log .entry)))) (cutIn (length (now (log .entry))) 3 (drop 3 (now (log .entry)))) ⌝ }
 {
     match checks::check_chips(chips_of(log)) {
         Check::Refused(refusal) => Check::Refused(refusal),
@@ -210,7 +211,7 @@ struct Played {
 fn put_transfers(log: &[u8], chips: Chips, initial: Both, ram: &mut [u8], out: &mut [u8]) -> Played
     requires { ⌜ cutIn (length (now log)) 3 (drop 3 (now log)) ≡ Check.Passed ⌝ }
     requires { ⌜ length (transferLines chips 0 (stateOf initial (now ram)) (recordsFrom 3 (now log))) ≤ length (now out) ⌝ }
-    ensures { λ r. ⌜ stateOf (r .registers) (now (ram .exit)) ≡ stateAfterAll 160 4 chips (stateOf initial (now (ram .entry))) (recordsFrom 3 (now (log .entry))) ⌝ }
+    ensures { λ r. ⌜ stateOf (r .registers) (now (ram .exit)) ≡ stateAfterAll pcf8532 chips (stateOf initial (now (ram .entry))) (recordsFrom 3 (now (log .entry))) ⌝ }
     ensures { λ r. ⌜ Puts 0 (transferLines chips 0 (stateOf initial (now (ram .entry))) (recordsFrom 3 (now (log .entry)))) (now (out .entry)) (now (out .exit)) (r .at) ⌝ }
 {
     let mut registers = initial;
@@ -278,7 +279,7 @@ fn put_group(
     out: &mut [u8],
     at: usize,
 ) -> Listed
-    requires { ⌜ (group < 2) × (size ≡ 160 * chipsIn group chips) × Valid 160 4 chips (stateOf registers (now ram)) ⌝ }
+    requires { ⌜ (group < 2) × (size ≡ 160 * chipsIn group chips) × Valid pcf8532 chips (stateOf registers (now ram)) ⌝ }
     requires { ⌜ at + length (columnLines group 0 (shownAt chips (stateOf registers (now ram)) group)) ≤ length (now out) ⌝ }
     ensures { λ r. ⌜ Puts at (columnLines group 0 (shownAt chips (stateOf registers (now (ram .entry))) group)) (now (out .entry)) (now (out .exit)) (r .at) ⌝ }
     ensures { λ r. ⌜ r .lit ≡ litIn (shownAt chips (stateOf registers (now (ram .entry))) group) ⌝ }
@@ -295,7 +296,7 @@ fn put_group(
 
 // The lines after the last transfer's: the lit columns of both groups, then how much each has lit.
 fn put_end(chips: Chips, registers: Both, ram: &[u8], out: &mut [u8], at: usize) -> usize
-    requires { ⌜ Valid 160 4 chips (stateOf registers (now ram)) ⌝ }
+    requires { ⌜ Valid pcf8532 chips (stateOf registers (now ram)) ⌝ }
     requires { ⌜ at + length (endLines chips (stateOf registers (now ram))) ≤ length (now out) ⌝ }
     ensures { λ r. ⌜ Puts at (endLines chips (stateOf registers (now (ram .entry)))) (now (out .entry)) (now (out .exit)) r ⌝ }
 {
@@ -309,7 +310,7 @@ fn put_end(chips: Chips, registers: Both, ram: &[u8], out: &mut [u8], at: usize)
 
 // A log that passed its checks, into the RAM of its chips.
 fn play(log: &[u8], chips: Chips, ram: &mut [u8], out: &mut [u8]) -> usize
-    requires { ⌜ (checkChips 4 chips ≡ Check.Passed) × (cutIn (length (now log)) 3 (drop 3 (now log)) ≡ Check.Passed) × (now ram ≡ logStart chips .ram) ⌝ }
+    requires { ⌜ (checkChips pcf8532 chips ≡ Check.Passed) × (cutIn (length (now log)) 3 (drop 3 (now log)) ≡ Check.Passed) × (now ram ≡ logStart chips .ram) ⌝ }
     requires { ⌜ length (logLines chips (recordsFrom 3 (now log))) ≤ length (now out) ⌝ }
     ensures { λ r. ⌜ Puts 0 (logLines chips (recordsFrom 3 (now (log .entry)))) (now (out .entry)) (now (out .exit)) r ⌝ }
 {

@@ -15,6 +15,7 @@ use Rattle.sheet.specs.declared.Expect.{Expect}
 use Rattle.sheet.specs.declared.PlainAnswer.{PlainAnswer}
 use Rattle.sheet.specs.declared.Refusal.the-variants.{ManyChips}
 use Rattle.sheet.specs.Refusals.{refusalNumbers}
+use Rattle.sheet.specs.Parts.{Part, pcf8532}
 use Rattle.sheet.specs.Protocol.{next}
 use Rattle.sheet.specs.Plain.{Plain, takes, any, hears, plainHeard, plainSaid, plainTaken, plainAnswered, checkPlain, PlainAfter, plainCall}
 use Rattle.plain.specs.declared.Bench.{Bench}
@@ -25,28 +26,28 @@ use Rattle.cabi.specs.Calls.{plainDone, plainC}
 
 -- ---- a transfer keeps the count of the chips
 
-heard-length : (C L address : ℕ) (e : Expect) (bytes : List ℕ) (s : Plain) → length (plainHeard C L address e bytes s .chips) ≡ length (s .chips)
+heard-length : (K : Part) (address : ℕ) (e : Expect) (bytes : List ℕ) (s : Plain) → length (plainHeard K address e bytes s .chips) ≡ length (s .chips)
 unfolding plainHeard
-heard-length C L address e [] s = refl
-heard-length C L address e (x ∷ xs) s = heard-length C L address (next e x) xs _ ∙ length-map (s .chips) (takes C L address e x)
+heard-length K address e [] s = refl
+heard-length K address e (x ∷ xs) s = heard-length K address (next e x) xs _ ∙ length-map (s .chips) (takes K address e x)
 
-pub length-plain : (C L : ℕ) (cs : List Chip) (bytes : List ℕ) → length (plainCall C L cs bytes .chips) ≡ length cs
+pub length-plain : (K : Part) (cs : List Chip) (bytes : List ℕ) → length (plainCall K cs bytes .chips) ≡ length cs
 unfolding plainCall
-length-plain C L cs bytes = go (checkPlain C L cs bytes)
+length-plain K cs bytes = go (checkPlain K cs bytes)
   where
-    taken : (h : Bool) → length (cond h (plainHeard C L (getD bytes 0 0) Expect.Control (drop 1 bytes) (record { acknowledged = 1; chips = cs })) (record { acknowledged = 0; chips = cs }) .chips) ≡ length cs
-    taken true = heard-length C L (getD bytes 0 0) Expect.Control (drop 1 bytes) _
+    taken : (h : Bool) → length (cond h (plainHeard K (getD bytes 0 0) Expect.Control (drop 1 bytes) (record { acknowledged = 1; chips = cs })) (record { acknowledged = 0; chips = cs }) .chips) ≡ length cs
+    taken true = heard-length K (getD bytes 0 0) Expect.Control (drop 1 bytes) _
     taken false = refl
 
-    go : (k : Check) → length (plainAnswered k cs (plainSaid (plainTaken C L cs bytes)) .chips) ≡ length cs
+    go : (k : Check) → length (plainAnswered k cs (plainSaid (plainTaken K cs bytes)) .chips) ≡ length cs
     go Passed = taken (any (hears (getD bytes 0 0)) cs)
     go (Refused r) = refl
 
 -- ---- the bench's transfer is the list's
 
 pub record Followed (cs : List Chip) (bytes : List ℕ) (n : ℕ) (done : BenchTransferred) : Type 0 where
-  pub answer : done .answer ≡ plainCall 160 4 cs bytes .answer
-  pub chips : take (done .bench .count) (done .bench .chips) ≡ plainCall 160 4 cs bytes .chips
+  pub answer : done .answer ≡ plainCall pcf8532 cs bytes .answer
+  pub chips : take (done .bench .count) (done .bench .chips) ≡ plainCall pcf8532 cs bytes .chips
   pub count : done .bench .count ≡ n
   pub size : length (done .bench .chips) ≡ 8
 
@@ -54,8 +55,8 @@ taken : (b : Bench) (bytes : List ℕ) → b .count ≤ 8 → length (b .chips) 
 taken b bytes few eight =
     let cs = take (b .count) (b .chips) in
     let rest = drop (b .count) (b .chips) in
-    let after = plainCall 160 4 cs bytes .chips in
-    let long : length after ≡ b .count = length-plain 160 4 cs bytes ∙ length-take-le (b .count) (b .chips) (omega arith) in
+    let after = plainCall pcf8532 cs bytes .chips in
+    let long : length after ≡ b .count = length-plain pcf8532 cs bytes ∙ length-take-le (b .count) (b .chips) (omega arith) in
     rw (le-leb (b .count) 8 few) (record {
       answer = refl;
       chips = take-at after rest (b .count) long;
@@ -71,7 +72,7 @@ followed b cs n bytes done few count eight first e =
 -- ---- the call, past the test of the buffers' sizes
 
 abbrev pub called : List ℕ → List ℕ → PlainAfter
-called chips bytes = plainCall 160 4 (listIn (length chips / 171) chips) bytes
+called chips bytes = plainCall pcf8532 (listIn (length chips / 171) chips) bytes
 
 sized : (chips bytes answer : List ℕ) → length chips % 171 ≡ 0 → length answer ≡ 5
     → plainC chips bytes answer ≡ plainDone (called chips bytes .answer) (called chips bytes .chips) chips
@@ -89,7 +90,7 @@ unfolding listIn
 list-length zero l = refl
 list-length (suc n) l = ap suc (list-length n (drop 171 l))
 
-many : (cs : List Chip) (bytes : List ℕ) → 8 < length cs → plainCall 160 4 cs bytes ≡ record { answer = PlainAnswer.Refused ManyChips; chips = cs }
+many : (cs : List Chip) (bytes : List ℕ) → 8 < length cs → plainCall pcf8532 cs bytes ≡ record { answer = PlainAnswer.Refused ManyChips; chips = cs }
 unfolding plainCall checkPlain
 many cs bytes h = rw (lt-leb (length cs) 8 h) refl
 

@@ -17,6 +17,7 @@ use Rattle.sheet.specs.declared.PlainAnswer.{PlainAnswer}
 use Rattle.sheet.specs.declared.Check.{Check}
 use Rattle.sheet.specs.declared.Check.the-variants.{Passed, Refused}
 use Rattle.sheet.specs.declared.Refusal.{Refusal}
+use Rattle.sheet.specs.Parts.{Part, pcf8532}
 use Rattle.sheet.specs.Registers.{powerOn}
 use Rattle.sheet.specs.Protocol.{heardBy}
 use Rattle.sheet.specs.Checks.{checkTransfer}
@@ -93,23 +94,23 @@ powered-chip chip answer e five = rw (eq-eqb (length chip) 171 e, eq-eqb (length
 -- ---- refused
 
 -- a refused transfer has the registers and the RAM that it was given
-refused : (C L : ℕ) (n : Chips) (r : Both) (ram bytes : List ℕ) (x : Refusal) → transferCall C L n r ram bytes .result .answer ≡ Answer.Refused x
-    → (transferCall C L n r ram bytes .result .registers ≡ r) × (transferCall C L n r ram bytes .ram ≡ ram)
+refused : (K : Part) (n : Chips) (r : Both) (ram bytes : List ℕ) (x : Refusal) → transferCall K n r ram bytes .result .answer ≡ Answer.Refused x
+    → (transferCall K n r ram bytes .result .registers ≡ r) × (transferCall K n r ram bytes .ram ≡ ram)
 unfolding transferCall
-refused C L n r ram bytes x = by (checkTransfer C L n r ram bytes) (heardBy n (getD bytes 0 0))
+refused K n r ram bytes x = by (checkTransfer K n r ram bytes) (heardBy n (getD bytes 0 0))
   where
-    by : (k : Check) (h : Addressed) → let a = answered k r ram (taken C L n r ram bytes h) in a .result .answer ≡ Answer.Refused x → (a .result .registers ≡ r) × (a .ram ≡ ram)
+    by : (k : Check) (h : Addressed) → let a = answered k r ram (taken K n r ram bytes h) in a .result .answer ≡ Answer.Refused x → (a .result .registers ≡ r) × (a .ram ≡ ram)
     by (Refused y) h e = (refl, refl)
     by Passed (To g) e = let z : _≡_ {A = ℕ} 0 1 = cc in absurd (omega arith)
     by Passed Nobody e = let z : _≡_ {A = ℕ} 0 1 = cc in absurd (omega arith)
 
 -- a refused transfer gives C back the registers byte for byte, and the RAM
 pub refused-transfer : (z o : ℕ) (registers ram bytes answer : List ℕ) (x : Refusal) → length registers ≡ 18 → Bytes registers → length answer ≡ 5
-    → transferCall 160 4 (chipsOf z o) (bothOf registers) ram bytes .result .answer ≡ Answer.Refused x
+    → transferCall pcf8532 (chipsOf z o) (bothOf registers) ram bytes .result .answer ≡ Answer.Refused x
     → let t = transferC z o registers ram bytes answer in (t .registers ≡ registers) × (t .buffer ≡ ram)
 unfolding transferC
 refused-transfer z o registers ram bytes answer x e w five h =
-    let t = refused 160 4 (chipsOf z o) (bothOf registers) ram bytes x h in
+    let t = refused pcf8532 (chipsOf z o) (bothOf registers) ram bytes x h in
     rw (eq-eqb (length registers) 18 e, eq-eqb (length answer) 5 five) (ap bothBytes (t .0) ∙ both-back registers e w, t .1)
 
 -- and one of the plain account gives back the chips

@@ -8,6 +8,7 @@ use Rattle.sheet.specs.declared.Chip.{Chip}
 use Rattle.sheet.specs.declared.Chips.{Chips}
 use Rattle.sheet.specs.declared.PlainAnswer.{PlainAnswer}
 use Rattle.sheet.specs.Refusals.{numberOf, refusalNumbers, numbers, plainNumbers, pictureNumbers, checkNumbers}
+use Rattle.sheet.specs.Parts.{pcf8532}
 use Rattle.sheet.specs.Long.{powerOnCall, transferCall, pictureCall}
 use Rattle.sheet.specs.Plain.{chipPowerOn, chipPictureCall, plainCall}
 use Rattle.buslog.specs.declared.Replayed.{Replayed}
@@ -31,19 +32,19 @@ sized registers buffer answer c =
 
 unfoldable pub powerOnC : ℕ → ℕ → List ℕ → List ℕ → List ℕ → Called
 powerOnC z o ram registers answer =
-    let p = powerOnCall 160 4 (chipsOf z o) ram in
+    let p = powerOnCall pcf8532 (chipsOf z o) ram in
     sized registers ram answer
     (record { number = getD (checkNumbers (p .check)) 0 0; registers = bothBytes (p .registers); buffer = ram; answer = checkNumbers (p .check) })
 
 unfoldable pub transferC : ℕ → ℕ → List ℕ → List ℕ → List ℕ → List ℕ → Called
 transferC z o registers ram bytes answer =
-    let t = transferCall 160 4 (chipsOf z o) (bothOf registers) ram bytes in
+    let t = transferCall pcf8532 (chipsOf z o) (bothOf registers) ram bytes in
     let k = numbers (t .result .answer) in
     sized registers ram answer (record { number = getD k 0 0; registers = bothBytes (t .result .registers); buffer = t .ram; answer = k })
 
 unfoldable pub pictureC : ℕ → ℕ → List ℕ → List ℕ → ℕ → ℕ → List ℕ → List ℕ → Called
 pictureC z o registers ram group phase out answer =
-    let s = pictureCall 160 4 (chipsOf z o) (bothOf registers) ram group phase out in
+    let s = pictureCall pcf8532 (chipsOf z o) (bothOf registers) ram group phase out in
     sized registers out answer (record { number = getD (pictureNumbers (s .result)) 0 0; registers = registers; buffer = s .out; answer = pictureNumbers (s .result) })
 
 -- ---- the plain account. Each call lends one buffer to write, the chips or the picture
@@ -60,13 +61,13 @@ plainSized whole buffer answer c = cond (whole && eqb (length answer) 5) c (reco
 -- one chip, 171 bytes: taken or refused, only the registers are new
 unfoldable pub chipPowerOnC : List ℕ → List ℕ → PlainCalled
 chipPowerOnC chip answer =
-    let p = chipPowerOn 160 4 (chipIn chip) in
+    let p = chipPowerOn pcf8532 (chipIn chip) in
     let k = checkNumbers (p .check) in
     plainSized (eqb (length chip) 171) chip answer (record { number = getD k 0 0; buffer = chipBytes (p .chip); answer = k })
 
 unfoldable pub chipPictureC : List ℕ → ℕ → List ℕ → List ℕ → PlainCalled
 chipPictureC chip phase out answer =
-    let s = chipPictureCall 160 4 (chipIn chip) phase out in
+    let s = chipPictureCall pcf8532 (chipIn chip) phase out in
     let k = pictureNumbers (s .result) in
     plainSized (eqb (length chip) 171) out answer (record { number = getD k 0 0; buffer = s .out; answer = k })
 
@@ -78,7 +79,7 @@ plainDone (PlainAnswer.Refused r) after given = record { number = numberOf r; bu
 -- a list of chips, 171 bytes each
 unfoldable pub plainC : List ℕ → List ℕ → List ℕ → PlainCalled
 plainC chips bytes answer =
-    let s = plainCall 160 4 (listIn (length chips / 171) chips) bytes in
+    let s = plainCall pcf8532 (listIn (length chips / 171) chips) bytes in
     plainSized (eqb (length chips % 171) 0) chips answer (plainDone (s .answer) (s .chips) chips)
 
 -- ---- replay

@@ -7,6 +7,7 @@ ghost use Prim.Native.Nat.{max};
 ghost use lib.ListN.{getD};
 ghost use Rattle.checks.specs.Highest.{highestOf};
 ghost use Rattle.sheet.specs.Refusals.{numberOf, placeOf};
+ghost use Rattle.sheet.specs.Parts.{pcf8532};
 ghost use Rattle.sheet.specs.Checks.{unless, overIn, checkChips, checkLength, passed};
 
 // Refused unless a test holds.
@@ -38,7 +39,7 @@ pub fn byte_at(bytes: &[u8], i: usize) -> u8
 
 // The chip counts: 3.
 pub fn check_chips(chips: Chips) -> Check
-    ensures { λ r. ⌜ r ≡ checkChips 4 chips ⌝ }
+    ensures { λ r. ⌜ r ≡ checkChips pcf8532 chips ⌝ }
 {
     unless((chips.zero <= 4) & (chips.one <= 4), Refusal::ChipCount)
 }

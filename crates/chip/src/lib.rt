@@ -3,6 +3,7 @@ use sheet::Check;
 use sheet::Chip;
 use sheet::ChipPowerOn;
 use sheet::Expect;
+use sheet::Kind;
 use sheet::Pictured;
 use sheet::Refusal;
 use sheet::Registers;
@@ -11,10 +12,11 @@ ghost use mathlib.Core.Bool.{cond, true};
 ghost use Prim.Native.Nat.{_+_, _*_, _≤_, _<_};
 ghost use lib.Dec.{ltb};
 ghost use Rattle.sheet.specs.Refusals.{pictureNumbers, checkNumbers};
+ghost use Rattle.sheet.specs.Parts.{commandOf, pcf8532};
 ghost use Rattle.sheet.specs.Registers.{inRange, backplanes};
-ghost use Rattle.sheet.specs.Commands.{commandOf, obeyed};
+ghost use Rattle.sheet.specs.Commands.{obeyed};
 ghost use Rattle.sheet.specs.Checks.{overIn, passed};
-ghost use Rattle.sheet.specs.Plain.{withRegisters, putRows, afterColumn, chipData, acknowledgesData, chipByte, acknowledgesByte, chipStepped, chipAnswers, hears, chipFits, chipPowerOn, checkChipPicture, chipPictureCall};
+ghost use Rattle.sheet.specs.Plain.{withRegisters, putRows, afterColumn, chipData, acknowledgesData, chipByteOf, chipByte, acknowledgesOf, acknowledgesByte, chipStepped, chipAnswers, hears, chipFits, chipPowerOn, checkChipPicture, chipPictureCall};
 ghost use Rattle.sheet.specs.Places.{advanced};
 ghost use Rattle.sheet.specs.Data.{bitOf, withRow};
 
@@ -26,7 +28,7 @@ fn put_row(row: usize, k: usize, byte: u8, column: u8) -> u8
     if 8 <= k {
         return column;
     }
-    ram::with_row(row, ram::bit_of(byte, k), column)
+    arithmetic::with_row(row, arithmetic::bit_of(byte, k), column)
 }
 
 // A column with m rows from row b on made the bits of a byte from bit k on.
@@ -46,11 +48,11 @@ fn put_rows(m: usize, b: usize, k: usize, byte: u8, column: u8) -> u8
 // A column on: P rises by 1; at 160 it becomes 0 and A rises by 1, stopping at 4.
 fn advance(mut registers: Registers) -> Registers
     requires { ⌜ (registers .p < 160) × (registers .a ≤ 4) ⌝ }
-    ensures { λ r. ⌜ r ≡ advanced 160 4 registers ⌝ }
+    ensures { λ r. ⌜ r ≡ advanced pcf8532 registers ⌝ }
 {
     if registers.p + 1 == 160 {
         registers.p = 0;
-        registers.a = ram::least(4, registers.a + 1);
+        registers.a = arithmetic::least(4, registers.a + 1);
         registers
     } else {
         registers.p = registers.p + 1;
@@ -60,14 +62,14 @@ fn advance(mut registers: Registers) -> Registers
 
 // The chip's columns after column j of a byte: stored if A is the chip's subaddress.
 fn stored(chip: Chip, byte: u8, j: usize) -> [u8; 160]
-    requires { ⌜ (inRange 160 4 (chip .registers) ≡ true) × (backplanes (chip .registers) * j < 8) ⌝ }
-    ensures { λ r. ⌜ r ≡ afterColumn 160 4 byte j chip .columns ⌝ }
+    requires { ⌜ (inRange pcf8532 (chip .registers) ≡ true) × (backplanes (chip .registers) * j < 8) ⌝ }
+    ensures { λ r. ⌜ r ≡ afterColumn pcf8532 byte j chip .columns ⌝ }
 {
     let registers = chip.registers;
     let mut columns = chip.columns;
     if registers.a == chip.subaddress as usize {
-        let m = command::backplanes(registers);
-        let b = command::bank_row(m, registers.i);
+        let m = arithmetic::backplanes(registers);
+        let b = arithmetic::bank_row(m, registers.i);
         let p = registers.p;
         columns[p] = put_rows(m, b, m * j, byte, columns[p]);
         columns
@@ -78,8 +80,8 @@ fn stored(chip: Chip, byte: u8, j: usize) -> [u8; 160]
 
 // The chip after column j of a byte: P and A move, stored or not.
 fn column(chip: Chip, byte: u8, j: usize) -> Chip
-    requires { ⌜ (inRange 160 4 (chip .registers) ≡ true) × (backplanes (chip .registers) * j < 8) ⌝ }
-    ensures { λ r. ⌜ r ≡ afterColumn 160 4 byte j chip ⌝ }
+    requires { ⌜ (inRange pcf8532 (chip .registers) ≡ true) × (backplanes (chip .registers) * j < 8) ⌝ }
+    ensures { λ r. ⌜ r ≡ afterColumn pcf8532 byte j chip ⌝ }
 {
     let columns = stored(chip, byte, j);
     Chip {
@@ -92,10 +94,10 @@ fn column(chip: Chip, byte: u8, j: usize) -> Chip
 
 // The chip after a data byte: all its columns, one after the other.
 fn take_data(chip: Chip, byte: u8) -> Chip
-    requires { ⌜ inRange 160 4 (chip .registers) ≡ true ⌝ }
-    ensures { λ r. ⌜ r ≡ chipData 160 4 byte chip ⌝ }
+    requires { ⌜ inRange pcf8532 (chip .registers) ≡ true ⌝ }
+    ensures { λ r. ⌜ r ≡ chipData pcf8532 byte chip ⌝ }
 {
-    let width = 7 / command::backplanes(chip.registers) + 1;
+    let width = arithmetic::width(arithmetic::backplanes(chip.registers));
     let mut moved = chip;
     let mut j = 0;
     while j < width {
@@ -122,23 +124,32 @@ fn take_command(mut chip: Chip, byte: u8) -> Chip
     chip
 }
 
+// The chip, its registers in range, after a byte of a kind.
+fn take_byte(chip: Chip, kind: Kind, byte: u8) -> Chip
+    requires { ⌜ inRange pcf8532 (chip .registers) ≡ true ⌝ }
+    ensures { λ r. ⌜ r ≡ chipByteOf pcf8532 kind byte chip ⌝ }
+{
+    match kind {
+        Kind::Command => take_command(chip, byte),
+        Kind::Data => take_data(chip, byte),
+    }
+}
+
 // The chip, its registers in range, after a byte, by what the byte is.
 fn follow(chip: Chip, expect: Expect, byte: u8) -> Chip
-    requires { ⌜ inRange 160 4 (chip .registers) ≡ true ⌝ }
-    ensures { λ r. ⌜ r ≡ chipByte 160 4 expect byte chip ⌝ }
+    requires { ⌜ inRange pcf8532 (chip .registers) ≡ true ⌝ }
+    ensures { λ r. ⌜ r ≡ chipByte pcf8532 expect byte chip ⌝ }
 {
     match expect {
         Expect::Control => chip,
-        Expect::OneCommand => take_command(chip, byte),
-        Expect::Commands => take_command(chip, byte),
-        Expect::OneData => take_data(chip, byte),
-        Expect::Run => take_data(chip, byte),
+        Expect::One(kind) => take_byte(chip, kind, byte),
+        Expect::All(kind) => take_byte(chip, kind, byte),
     }
 }
 
 // The chip after a byte. With a register out of range it stays as it is.
 pub fn step(chip: Chip, expect: Expect, byte: u8) -> Chip
-    ensures { λ r. ⌜ r ≡ chipStepped 160 4 expect byte chip ⌝ }
+    ensures { λ r. ⌜ r ≡ chipStepped pcf8532 expect byte chip ⌝ }
 {
     if command::in_range(chip.registers) {
         follow(chip, expect, byte)
@@ -149,31 +160,41 @@ pub fn step(chip: Chip, expect: Expect, byte: u8) -> Chip
 
 // Whether the chip acknowledges a data byte, whatever it holds: A is its subaddress at the byte's last column.
 fn acknowledges_data(chip: Chip, byte: u8) -> bool
-    requires { ⌜ inRange 160 4 (chip .registers) ≡ true ⌝ }
-    ensures { λ r. ⌜ r ≡ acknowledgesData 160 4 byte chip ⌝ }
+    requires { ⌜ inRange pcf8532 (chip .registers) ≡ true ⌝ }
+    ensures { λ r. ⌜ r ≡ acknowledgesData pcf8532 byte chip ⌝ }
 {
     let registers = chip.registers;
-    let last = 160 * registers.a + registers.p + 7 / command::backplanes(registers);
-    ram::least(4, last / 160) == chip.subaddress as usize
+    let width = arithmetic::width(arithmetic::backplanes(registers));
+    let last = arithmetic::position(registers) + width - 1;
+    arithmetic::least(4, last / 160) == chip.subaddress as usize
+}
+
+// Whether the chip, its registers in range, acknowledges a byte of a kind.
+fn answers_byte(chip: Chip, kind: Kind, byte: u8) -> bool
+    requires { ⌜ inRange pcf8532 (chip .registers) ≡ true ⌝ }
+    ensures { λ r. ⌜ r ≡ acknowledgesOf pcf8532 kind byte chip ⌝ }
+{
+    match kind {
+        Kind::Command => true,
+        Kind::Data => acknowledges_data(chip, byte),
+    }
 }
 
 // Whether the chip, its registers in range, acknowledges a byte.
 fn answers(chip: Chip, expect: Expect, byte: u8) -> bool
-    requires { ⌜ inRange 160 4 (chip .registers) ≡ true ⌝ }
-    ensures { λ r. ⌜ r ≡ acknowledgesByte 160 4 expect byte chip ⌝ }
+    requires { ⌜ inRange pcf8532 (chip .registers) ≡ true ⌝ }
+    ensures { λ r. ⌜ r ≡ acknowledgesByte pcf8532 expect byte chip ⌝ }
 {
     match expect {
         Expect::Control => true,
-        Expect::OneCommand => true,
-        Expect::Commands => true,
-        Expect::OneData => acknowledges_data(chip, byte),
-        Expect::Run => acknowledges_data(chip, byte),
+        Expect::One(kind) => answers_byte(chip, kind, byte),
+        Expect::All(kind) => answers_byte(chip, kind, byte),
     }
 }
 
 // Whether the chip acknowledges a byte. With a register out of range it acknowledges none.
 pub fn acknowledges(chip: Chip, expect: Expect, byte: u8) -> bool
-    ensures { λ r. ⌜ r ≡ chipAnswers 160 4 expect byte chip ⌝ }
+    ensures { λ r. ⌜ r ≡ chipAnswers pcf8532 expect byte chip ⌝ }
 {
     if command::in_range(chip.registers) {
         answers(chip, expect, byte)
@@ -198,7 +219,7 @@ fn columns_fit(columns: [u8; 160]) -> bool
 
 // Whether every field and column of the chip is in range.
 pub fn fits(chip: Chip) -> bool
-    ensures { λ r. ⌜ r ≡ chipFits 160 4 chip ⌝ }
+    ensures { λ r. ⌜ r ≡ chipFits pcf8532 chip ⌝ }
 {
     let columns = chip.columns;
     (chip.sa0 < 2)
@@ -207,8 +228,8 @@ pub fn fits(chip: Chip) -> bool
 
 // Power-on, taken or refused by 11: the registers become the power-on ones and the rest stays.
 pub fn power_on(mut chip: Chip) -> ChipPowerOn
-    ensures { λ r. ⌜ r ≡ chipPowerOn 160 4 chip ⌝ }
-    ensures { λ r. ⌜ checkNumbers (r .check) ≡ checkNumbers (chipPowerOn 160 4 chip .check) ⌝ }
+    ensures { λ r. ⌜ r ≡ chipPowerOn pcf8532 chip ⌝ }
+    ensures { λ r. ⌜ checkNumbers (r .check) ≡ checkNumbers (chipPowerOn pcf8532 chip .check) ⌝ }
 {
     let columns = chip.columns;
     let fits = (chip.sa0 < 2) & ((chip.subaddress < 4) & columns_fit(columns));
@@ -221,7 +242,7 @@ pub fn power_on(mut chip: Chip) -> ChipPowerOn
 
 // Whether a picture of the chip into a buffer of this size is refused.
 fn check_picture(chip: Chip, phase: u8, size: usize) -> Check
-    ensures { λ r. ⌜ r ≡ checkChipPicture 160 4 chip phase size ⌝ }
+    ensures { λ r. ⌜ r ≡ checkChipPicture pcf8532 chip phase size ⌝ }
 {
     if fits(chip) {
         if phase < 2 {
@@ -236,9 +257,8 @@ fn check_picture(chip: Chip, phase: u8, size: usize) -> Check
 
 // The picture of the chip alone and its lit elements, or a refusal by 11, 8, 9.
 pub fn picture(chip: Chip, phase: u8, out: &mut [u8]) -> Pictured
-    ensures { λ r. ⌜ r ≡ chipPictureCall 160 4 chip phase (now (out .entry)) .result ⌝ }
-    ensures { λ _. ⌜ now (out .exit) ≡ chipPictureCall 160 4 chip phase (now (out .entry)) .out ⌝ }
-    ensures { λ r. ⌜ pictureNumbers r ≡ pictureNumbers (chipPictureCall 160 4 chip phase (now (out .entry)) .result) ⌝ }
+    ensures { λ r. ⌜ record { result = r; out = now (out .exit) } ≡ chipPictureCall pcf8532 chip phase (now (out .entry)) ⌝ }
+    ensures { λ r. ⌜ pictureNumbers r ≡ pictureNumbers (chipPictureCall pcf8532 chip phase (now (out .entry)) .result) ⌝ }
 {
     match check_picture(chip, phase, out.len()) {
         Check::Refused(refusal) => Pictured::Refused(refusal),

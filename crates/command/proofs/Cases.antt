@@ -10,7 +10,8 @@ use denote.Enum.Declared.{tagOf}
 use Rattle.sheet.proofs.Command.{the-type}
 use Rattle.sheet.specs.declared.Command.{Command}
 use Rattle.sheet.specs.declared.Command.the-variants.{PointerHigh, PointerLow, ModeSet, DeviceSelect, FrequencyCtrl, BlinkSelect, BankSelect, Undefined}
-use Rattle.sheet.specs.Commands.{within, commandOf, defined}
+use Rattle.sheet.specs.Parts.{within, commandOf}
+use Rattle.sheet.specs.Commands.{defined}
 
 -- a command that is none of the first seven is undefined
 pub none-else : (c : Command) → OneOf (0 ∷ 1 ∷ 2 ∷ 3 ∷ 4 ∷ 5 ∷ 6 ∷ []) (tagOf the-type c) → true ≡ defined c

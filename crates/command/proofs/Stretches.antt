@@ -9,7 +9,7 @@ use borrow.Author.Tests.{le-leb, lt-leb, leb-true, ltb-true}
 use Rattle.lemmas.proofs.Tests.{both-true}
 use Rattle.sheet.specs.declared.Command.{Command}
 use Rattle.sheet.specs.declared.Command.the-variants.{PointerHigh, PointerLow, ModeSet, DeviceSelect, FrequencyCtrl, BlinkSelect, BankSelect, Undefined}
-use Rattle.sheet.specs.Commands.{within, commandOf}
+use Rattle.sheet.specs.Parts.{within, commandOf}
 
 -- the stretch from a to b is below lo, above hi, or within both
 abbrev pub uncut : ℕ → ℕ → ℕ → ℕ → Bool

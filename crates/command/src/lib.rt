@@ -3,8 +3,9 @@ use sheet::Command;
 use sheet::Registers;
 use sheet::Settings;
 ghost use mathlib.Core.Path.{_≡_};
-ghost use Rattle.sheet.specs.Registers.{powerOn, inRange, backplanes, bankRow};
-ghost use Rattle.sheet.specs.Commands.{commandOf, defined, obeyed};
+ghost use Rattle.sheet.specs.Parts.{commandOf, pcf8532};
+ghost use Rattle.sheet.specs.Registers.{powerOn, inRange};
+ghost use Rattle.sheet.specs.Commands.{defined, obeyed};
 
 // The command of a byte, told apart by ranges.
 pub fn decode(byte: u8) -> Command
@@ -80,27 +81,9 @@ pub fn obey(mut registers: Registers, byte: u8) -> Registers
     }
 }
 
-// The backplanes of a mode.
-pub fn backplanes(registers: Registers) -> usize
-    ensures { λ r. ⌜ r ≡ backplanes registers ⌝ }
-{
-    if registers.m == 0 {
-        4
-    } else {
-        registers.m as usize
-    }
-}
-
-// The first row of a bank.
-pub fn bank_row(m: usize, bank: u8) -> usize
-    ensures { λ r. ⌜ r ≡ bankRow m bank ⌝ }
-{
-    if m < 3 { 2 * (bank as usize) } else { 0 }
-}
-
 // Whether every register is in its range.
 pub fn in_range(registers: Registers) -> bool
-    ensures { λ r. ⌜ r ≡ inRange 160 4 registers ⌝ }
+    ensures { λ r. ⌜ r ≡ inRange pcf8532 registers ⌝ }
 {
     (registers.e < 2)
         & (registers.b < 2)

@@ -11,7 +11,8 @@ use lib.Dec.{ltb}
 use borrow.Author.Tests.{lt-ltb, le-ltb}
 use Rattle.lemmas.proofs.Order.{lt-or-le}
 use Rattle.sheet.specs.declared.Counts.{Counts}
-use Rattle.sheet.specs.Data.{widthOf, present, storedBits, counted, countedRun}
+use Rattle.sheet.specs.Data.{widthOf, present, storedBits, counted}
+use Rattle.sheet.specs.Runs.{countedRun}
 
 -- the bits of a byte with left columns: all of those columns' rows
 pub stored-closed : (n m v size : ℕ) → 0 < m → storedBits n m v size ≡ min n (m * (size - v))

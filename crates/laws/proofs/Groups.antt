@@ -1,89 +1,107 @@
 -- The groups do not touch each other: a transfer whose byte 0 is not a group's address leaves that group's registers and columns, whatever is sent.
 -- Assumes nothing.
-use mathlib.Core.Path.{_≡_, refl, ap, _∙_}
+use mathlib.Core.Path.{_≡_, refl, _∙_}
 use mathlib.Core.Bool.{Bool, true, false, cond, _&&_}
 use mathlib.Core.List.{List, [], _∷_}
-use Prim.Native.Nat.{ℕ, _+_, _*_}
-use native.Mathlib.Nat.{zero-add}
+use Prim.Native.Nat.{ℕ, _*_, _<_}
 use native.Mathlib.Omega.{arith}
 use lib.Dec.{eqb, ltb}
-use lib.ListN.{length, getD, take, drop}
-use lib.Seq.{take-at, drop-at, length-take-le}
-use borrow.Author.Tests.{ne-eqb}
+use lib.ListN.{length, getD, drop}
+use borrow.Author.Tests.{eqb-true}
+use Rattle.lemmas.proofs.Tests.{both-true}
 use Rattle.sheet.specs.declared.Both.{Both}
 use Rattle.sheet.specs.declared.Chips.{Chips}
 use Rattle.sheet.specs.declared.Check.{Check}
 use Rattle.sheet.specs.declared.Check.the-variants.{Passed, Refused}
+use Rattle.sheet.specs.declared.Addressed.{Addressed}
 use Rattle.sheet.specs.declared.Addressed.the-variants.{To, Nobody}
+use Rattle.sheet.specs.declared.Kind.{Kind}
 use Rattle.sheet.specs.declared.Expect.{Expect}
-use Rattle.sheet.specs.declared.Expect.the-variants.{Control, OneCommand, Commands, OneData, Run}
-use Rattle.sheet.specs.Protocol.{addressOf, heardBy, next}
+use Rattle.sheet.specs.declared.Expect.the-variants.{Control, One, All}
+use Rattle.sheet.specs.Parts.{Part}
+use Rattle.sheet.specs.Protocol.{addressOf, heardBy, chipsIn, next}
 use Rattle.sheet.specs.Checks.{checkState, checkTransfer}
-use Rattle.sheet.specs.Long.{Group, After, begun, byte, dataByte, heard, registersOf, columnsOf, taken, answered, transferCall}
+use Rattle.sheet.specs.Long.{Group, After, begun, byteOf, byte, dataByte, heard, registersOf, columnsOf, taken, answered, transferCall}
 use Rattle.laws.proofs.Runs.{length-bits}
 use Rattle.laws.proofs.Fits.{Fits, both-pass, fits-of}
+use Rattle.laws.proofs.Lens.{length-columns, other-columns, other-registers}
 
--- group g after a call is as it was
-pub record Stays (C : ℕ) (n : Chips) (g : ℕ) (r : Both) (ram : List ℕ) (a : After) : Type 0 where
-  pub registers : registersOf g (a .result .registers) ≡ registersOf g r
-  pub columns : columnsOf C n g (a .ram) ≡ columnsOf C n g ram
+-- ---- a transfer keeps the length of the columns it writes
 
--- ---- a transfer keeps the length of the part it writes
-
-length-byte : (C L : ℕ) (e : Expect) (x : ℕ) (s : Group) → length (byte C L e x s .ram) ≡ length (s .ram)
+length-kind : (K : Part) (k : Kind) (x : ℕ) (s : Group) → length (byteOf K k x s .ram) ≡ length (s .ram)
 unfolding dataByte
-length-byte C L Control x s = refl
-length-byte C L OneCommand x s = refl
-length-byte C L Commands x s = refl
-length-byte C L OneData x s = length-bits 8 _ _ _ x (s .ram)
-length-byte C L Run x s = length-bits 8 _ _ _ x (s .ram)
+length-kind K Kind.Command x s = refl
+length-kind K Kind.Data x s = length-bits 8 _ _ _ x (s .ram)
 
-pub length-heard : (C L : ℕ) (e : Expect) (xs : List ℕ) (s : Group) → length (heard C L e xs s .ram) ≡ length (s .ram)
+length-byte : (K : Part) (e : Expect) (x : ℕ) (s : Group) → length (byte K e x s .ram) ≡ length (s .ram)
+length-byte K Control x s = refl
+length-byte K (One k) x s = length-kind K k x s
+length-byte K (All k) x s = length-kind K k x s
+
+pub length-heard : (K : Part) (e : Expect) (xs : List ℕ) (s : Group) → length (heard K e xs s .ram) ≡ length (s .ram)
 unfolding heard
-length-heard C L e [] s = refl
-length-heard C L e (x ∷ xs) s = length-heard C L (next e x) xs (byte C L e x s) ∙ length-byte C L e x s
+length-heard K e [] s = refl
+length-heard K e (x ∷ xs) s = length-heard K (next e x) xs (byte K e x s) ∙ length-byte K e x s
 
--- ---- each group, where the other one or nobody hears
+-- ---- who hears byte 0: a group whose address it is
 
-module _ (C L : ℕ) (n : Chips) (r : Both) (ram bytes : List ℕ) (f : Fits C L n r ram) where
-  pub zero-kept : (t : Bool) → Stays C n 0 r ram (taken C L n r ram bytes (cond t (To 1) Nobody))
-  zero-kept true = record {
-    registers = refl;
-    columns = take-at (take (C * n .zero) ram) _ (C * n .zero) (length-take-le (C * n .zero) ram (omega (arith, f .columns)));
-  }
-  zero-kept false = record { registers = refl; columns = refl }
+abbrev pub Calls : ℕ → Addressed → Type 0
+Calls x (To g) = (g < 2) × (x ≡ addressOf g)
+Calls x Nobody = Unit {0}
 
-  pub one-kept : (t : Bool) → Stays C n 1 r ram (taken C L n r ram bytes (cond t (To 0) Nobody))
-  one-kept true =
-      let before = begun (r .zero) (take (C * n .zero) ram) in
-      record {
-        registers = refl;
-        columns =
-            ap (λ (l : List ℕ). take (C * n .one) l)
-            (drop-at (heard C L Control (drop 1 bytes) before .ram) (drop (0 + C * n .zero) ram) (C * n .zero) (length-heard C L Control (drop 1 bytes) before ∙ length-take-le (C * n .zero) ram (omega (arith, f .columns)))
-            ∙ ap (λ (k : ℕ). drop k ram) (zero-add (C * n .zero)));
-      }
-  one-kept false = record { registers = refl; columns = refl }
+pub calls : (n : Chips) (x : ℕ) → Calls x (heardBy n x)
+unfolding heardBy
+calls n x = go (eqb x (addressOf 0) && ltb 0 (n .zero)) (eqb x (addressOf 1) && ltb 0 (n .one)) (is 0 (n .zero)) (is 1 (n .one))
+  where
+    is : (g k : ℕ) → (eqb x (addressOf g) && ltb 0 k) ≡ true → x ≡ addressOf g
+    is g k e = eqb-true x (addressOf g) (both-true (eqb x (addressOf g)) (ltb 0 k) e .0)
 
--- ---- the law
+    go : (t u : Bool) → (t ≡ true → x ≡ addressOf 0) → (u ≡ true → x ≡ addressOf 1) → Calls x (cond t (To 0) (cond u (To 1) Nobody))
+    go true u hz ho = (omega arith, hz refl)
+    go false true hz ho = (omega arith, ho refl)
+    go false false hz ho = tt
 
-answered-stays : (C : ℕ) (n : Chips) (g : ℕ) (r : Both) (ram : List ℕ) (k : Check) (a : After) → (k ≡ Passed → Stays C n g r ram a) → Stays C n g r ram (answered k r ram a)
-answered-stays C n g r ram Passed a h = h refl
-answered-stays C n g r ram (Refused x) a h = record { registers = refl; columns = refl }
+-- ---- what holds of a state that fits and a transfer that is taken holds of the call
 
-module _ (C L : ℕ) (n : Chips) (r : Both) (ram bytes : List ℕ) where
-  pub fitting : checkTransfer C L n r ram bytes ≡ Passed → Fits C L n r ram
+module _ (K : Part) (n : Chips) (r : Both) (ram bytes : List ℕ) where
+  fitting : checkTransfer K n r ram bytes ≡ Passed → Fits K n r ram
   unfolding checkTransfer
-  fitting e = fits-of C L n r ram (both-pass (checkState C L n r ram) _ e .0)
+  fitting e = fits-of K n r ram (both-pass (checkState K n r ram) _ e .0)
 
-  pub zero-stays : (getD bytes 0 0 ≡ addressOf 0 → ⊥) → Stays C n 0 r ram (transferCall C L n r ram bytes)
-  unfolding transferCall heardBy
-  zero-stays other =
-      rw (ne-eqb (getD bytes 0 0) 112 other)
-      (answered-stays C n 0 r ram (checkTransfer C L n r ram bytes) _ (λ e. zero-kept C L n r ram bytes (fitting e) (eqb (getD bytes 0 0) 114 && ltb 0 (n .one))))
+  pub of-call : (P : After → Type 0) → ((x : After) → x .result .registers ≡ r → x .ram ≡ ram → P x)
+      → (Fits K n r ram → P (taken K n r ram bytes (heardBy n (getD bytes 0 0)))) → P (transferCall K n r ram bytes)
+  unfolding transferCall
+  of-call P same took = go (checkTransfer K n r ram bytes) fitting
+    where
+      go : (k : Check) → (k ≡ Passed → Fits K n r ram) → P (answered k r ram (taken K n r ram bytes (heardBy n (getD bytes 0 0))))
+      go Passed fits = took (fits refl)
+      go (Refused x) fits = same _ refl refl
 
-  pub one-stays : (getD bytes 0 0 ≡ addressOf 1 → ⊥) → Stays C n 1 r ram (transferCall C L n r ram bytes)
-  unfolding transferCall heardBy
-  one-stays other =
-      rw (ne-eqb (getD bytes 0 0) 114 other)
-      (answered-stays C n 1 r ram (checkTransfer C L n r ram bytes) _ (λ e. one-kept C L n r ram bytes (fitting e) (eqb (getD bytes 0 0) 112 && ltb 0 (n .zero))))
+-- group h after a call is as it was
+pub record Stays (K : Part) (n : Chips) (h : ℕ) (r : Both) (ram : List ℕ) (a : After) : Type 0 where
+  pub registers : registersOf h (a .result .registers) ≡ registersOf h r
+  pub columns : columnsOf K n h (a .ram) ≡ columnsOf K n h ram
+
+-- group g after the bytes: its columns are as many
+abbrev pub groupAfter : Part → Chips → Both → List ℕ → List ℕ → ℕ → Group
+groupAfter K n r ram bytes g = heard K Control (drop 1 bytes) (begun (registersOf g r) (columnsOf K n g ram))
+
+pub length-after : (K : Part) (n : Chips) (r : Both) (ram bytes : List ℕ) (f : Fits K n r ram) (g : ℕ) → length (groupAfter K n r ram bytes g .ram) ≡ K .columns * chipsIn g n
+length-after K n r ram bytes f g = length-heard K Control (drop 1 bytes) (begun (registersOf g r) (columnsOf K n g ram)) ∙ length-columns K n r ram f g
+
+module _ (K : Part) (n : Chips) (r : Both) (ram bytes : List ℕ) (h : ℕ) (ph : h < 2) where
+  -- by who hears
+  pub stays-by : Fits K n r ram → (to : Addressed) → Calls (getD bytes 0 0) to → (getD bytes 0 0 ≡ addressOf h → ⊥) → Stays K n h r ram (taken K n r ram bytes to)
+  stays-by f (To g) c other =
+      let ne : g ≡ h → ⊥ = λ e. other (c .1 ∙ (λ j. addressOf (e j))) in
+      record {
+        registers = other-registers g h (c .0) ph ne (groupAfter K n r ram bytes g .registers) r;
+        columns = other-columns K n r ram f g h (c .0) ph ne (groupAfter K n r ram bytes g .ram) (length-after K n r ram bytes f g);
+      }
+  stays-by f Nobody c other = record { registers = refl; columns = refl }
+
+  -- the law
+  pub stays : (getD bytes 0 0 ≡ addressOf h → ⊥) → Stays K n h r ram (transferCall K n r ram bytes)
+  stays other =
+      of-call K n r ram bytes (Stays K n h r ram) (λ x er em. record { registers = λ j. registersOf h (er j); columns = λ j. columnsOf K n h (em j) })
+      (λ f. stays-by f (heardBy n (getD bytes 0 0)) (calls n (getD bytes 0 0)) other)

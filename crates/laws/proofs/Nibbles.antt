@@ -16,7 +16,8 @@ use Rattle.sheet.specs.declared.Check.{Check}
 use Rattle.sheet.specs.declared.Check.the-variants.{Passed, Refused}
 use Rattle.sheet.specs.declared.Refusal.{Refusal}
 use Rattle.sheet.specs.Checks.{overIn, passed}
-use Rattle.sheet.specs.Data.{bitOf, withRow, changed, putBits, putRun, widthOf}
+use Rattle.sheet.specs.Data.{bitOf, withRow, changed, putBits, widthOf}
+use Rattle.sheet.specs.Runs.{putRun}
 use Rattle.laws.proofs.Rows.{bit-lt}
 
 -- every column is below 16
@@ -59,15 +60,15 @@ join-nibbles (q ∷ qs) b wa wb (suc i) = join-nibbles qs b (λ j. wa (suc j)) w
 
 -- ---- bytes and runs
 
--- a column of K rows with one of them changed
-row-lt : (K r t q : ℕ) → q < 2 ^ K → r < K → t < 2 → withRow r t q < 2 ^ K
+-- a column of h rows with one of them changed
+row-lt : (h r t q : ℕ) → q < 2 ^ h → r < h → t < 2 → withRow r t q < 2 ^ h
 unfolding withRow
-row-lt K r t q l h p =
-    let e : K - suc r + suc r ≡ K = omega arith in
-    let d : q / 2 ^ suc r < 2 ^ (K - suc r) = shr-lt (K - suc r) (suc r) (rw e l) in
+row-lt h r t q l below p =
+    let e : h - suc r + suc r ≡ h = omega arith in
+    let d : q / 2 ^ suc r < 2 ^ (h - suc r) = shr-lt (h - suc r) (suc r) (rw e l) in
     let u : t * 2 ^ r + q % 2 ^ r < 2 ^ suc r = rw (pow-suc 2 r) (omega (arith, digits-lt p (mod-lt q (pow-pos r)))) in
     subst (λ (n : ℕ). withRow r t q < n)
-    (sym (pow-add 2 (K - suc r) (suc r)) ∙ ap (λ (n : ℕ). 2 ^ n) e)
+    (sym (pow-add 2 (h - suc r) (suc r)) ∙ ap (λ (n : ℕ). 2 ^ n) e)
     (omega (arith, digits-lt d u))
 
 changed-nibbles : (f : ℕ → ℕ) → ((q : ℕ) → q < 16 → f q < 16) → (c : ℕ) (ram : List ℕ) → Nibbles ram → Nibbles (changed f c ram)

@@ -2,37 +2,40 @@
 -- Assumes nothing.
 use mathlib.Core.Path.{_≡_, refl}
 use mathlib.Core.Bool.{Bool, true, false, cond, _&&_}
-use Prim.Native.Nat.{ℕ, zero, suc, _+_, _≤_, _<_}
+use Prim.Native.Nat.{ℕ, zero, suc, _+_, _*_, _≤_, _<_}
+use native.Mathlib.Nat.{mul-le-mul-left}
 use native.Mathlib.Omega.{arith}
 use lib.Dec.{eqb, leb, ltb, ltb→lt, eqb·suc-zero}
 use borrow.Author.Tests.{leb-true, ltb-true, lt-ltb, le-leb}
 use Rattle.lemmas.proofs.Tests.{and-left, and-right, both-true, all, all-at}
 use Rattle.sheet.specs.declared.Registers.{Registers}
 use Rattle.sheet.specs.declared.Command.{Command}
+use Rattle.sheet.specs.Parts.{Part, within, commandOf, pcf8532}
 use Rattle.sheet.specs.Registers.{inRange, backplanes, bankRow}
-use Rattle.sheet.specs.Commands.{within, commandOf, obeyed}
+use Rattle.sheet.specs.Commands.{obeyed}
+use Rattle.sheet.specs.Places.{position}
 
 -- every register in its range, for chips of C columns and the subaddress limit L
-pub record InRange (C L : ℕ) (r : Registers) : Type 0 where
+pub record InRange (K : Part) (r : Registers) : Type 0 where
   pub e-in : r .e < 2
   pub b-in : r .b < 2
   pub m-in : r .m < 4
-  pub p-in : r .p < C
-  pub a-in : r .a ≤ L
+  pub p-in : r .p < K .columns
+  pub a-in : r .a ≤ K .limit
   pub i-in : r .i < 2
   pub o-in : r .o < 2
   pub ab-in : r .ab < 2
   pub bf-in : r .bf < 4
 
 -- the test's facts
-pub range-of : (C L : ℕ) (r : Registers) → inRange C L r ≡ true → InRange C L r
+pub range-of : (K : Part) (r : Registers) → inRange K r ≡ true → InRange K r
 unfolding inRange
-range-of C L r t =
+range-of K r t =
     let t1 = both-true (ltb (r .e) 2) _ t in
     let t2 = both-true (ltb (r .b) 2) _ (t1 .1) in
     let t3 = both-true (ltb (r .m) 4) _ (t2 .1) in
-    let t4 = both-true (ltb (r .p) C) _ (t3 .1) in
-    let t5 = both-true (leb (r .a) L) _ (t4 .1) in
+    let t4 = both-true (ltb (r .p) (K .columns)) _ (t3 .1) in
+    let t5 = both-true (leb (r .a) (K .limit)) _ (t4 .1) in
     let t6 = both-true (ltb (r .i) 2) _ (t5 .1) in
     let t7 = both-true (ltb (r .o) 2) _ (t6 .1) in
     let t8 = both-true (ltb (r .ab) 2) (ltb (r .bf) 4) (t7 .1) in
@@ -40,8 +43,8 @@ range-of C L r t =
       e-in = ltb-true (r .e) 2 (t1 .0);
       b-in = ltb-true (r .b) 2 (t2 .0);
       m-in = ltb-true (r .m) 4 (t3 .0);
-      p-in = ltb-true (r .p) C (t4 .0);
-      a-in = leb-true (r .a) L (t5 .0);
+      p-in = ltb-true (r .p) (K .columns) (t4 .0);
+      a-in = leb-true (r .a) (K .limit) (t5 .0);
       i-in = ltb-true (r .i) 2 (t6 .0);
       o-in = ltb-true (r .o) 2 (t7 .0);
       ab-in = ltb-true (r .ab) 2 (t8 .0);
@@ -49,39 +52,39 @@ range-of C L r t =
     }
 
 -- and back
-pub in-range : (C L : ℕ) (r : Registers) → InRange C L r → inRange C L r ≡ true
+pub in-range : (K : Part) (r : Registers) → InRange K r → inRange K r ≡ true
 unfolding inRange
-in-range C L r h =
-    rw (lt-ltb (r .e) 2 (h .e-in), lt-ltb (r .b) 2 (h .b-in), lt-ltb (r .m) 4 (h .m-in), lt-ltb (r .p) C (h .p-in), le-leb (r .a) L (h .a-in), lt-ltb (r .i) 2 (h .i-in), lt-ltb (r .o) 2 (h .o-in), lt-ltb (r .ab) 2 (h .ab-in), lt-ltb (r .bf) 4 (h .bf-in))
+in-range K r h =
+    rw (lt-ltb (r .e) 2 (h .e-in), lt-ltb (r .b) 2 (h .b-in), lt-ltb (r .m) 4 (h .m-in), lt-ltb (r .p) (K .columns) (h .p-in), le-leb (r .a) (K .limit) (h .a-in), lt-ltb (r .i) 2 (h .i-in), lt-ltb (r .o) 2 (h .o-in), lt-ltb (r .ab) 2 (h .ab-in), lt-ltb (r .bf) 4 (h .bf-in))
 
 -- ---- commands keep registers in range
 
-by-test : (P : Command → Type 0) (t : Bool) (a b : Command) → (t ≡ true → P a) → P b → P (cond t a b)
+pub by-test : (P : Command → Type 0) (t : Bool) (a b : Command) → (t ≡ true → P a) → P b → P (cond t a b)
 by-test P true a b f g = f refl
 by-test P false a b f g = g
 
--- the upper end of a range that was hit
-top : (lo hi n : ℕ) → within lo hi n ≡ true → n ≤ hi
+-- the ends of a range that was hit
+pub hit : (lo hi n : ℕ) → within lo hi n ≡ true → (lo ≤ n) × (n ≤ hi)
 unfolding within
-top lo hi n e = leb-true n hi (both-true (leb lo n) (leb n hi) e .1)
+hit lo hi n e = let t = both-true (leb lo n) (leb n hi) e in (leb-true lo n (t .0), leb-true n hi (t .1))
 
 -- pointer high ends at 09 and 16 × 9 + 15 is 159; device-select ends at E3
-pub kept : (r : Registers) (x : ℕ) → InRange 160 4 r → InRange 160 4 (obeyed r (commandOf x))
+pub kept : (r : Registers) (x : ℕ) → InRange pcf8532 r → InRange pcf8532 (obeyed r (commandOf x))
 unfolding commandOf
 kept r x h =
-    by-test K (within 0x00 0x09 x) _ _
-    (λ e. let l = top 0x00 0x09 x e in record { e-in = h .e-in; b-in = h .b-in; m-in = h .m-in; p-in = omega arith; a-in = h .a-in; i-in = h .i-in; o-in = h .o-in; ab-in = h .ab-in; bf-in = h .bf-in })
-    (by-test K (within 0x40 0x4F x) _ _
+    by-test Kept (within 0x00 0x09 x) _ _
+    (λ e. let l = hit 0x00 0x09 x e in record { e-in = h .e-in; b-in = h .b-in; m-in = h .m-in; p-in = omega (arith, l .1); a-in = h .a-in; i-in = h .i-in; o-in = h .o-in; ab-in = h .ab-in; bf-in = h .bf-in })
+    (by-test Kept (within 0x40 0x4F x) _ _
     (λ e. record { e-in = h .e-in; b-in = h .b-in; m-in = h .m-in; p-in = omega arith; a-in = h .a-in; i-in = h .i-in; o-in = h .o-in; ab-in = h .ab-in; bf-in = h .bf-in })
-    (by-test K (within 0xC0 0xCF x) _ _ (λ e. omega arith)
-    (by-test K (within 0xE0 0xE3 x) _ _ (λ e. omega arith)
-    (by-test K (within 0xE8 0xEF x) _ _ (λ e. h)
-    (by-test K (within 0xF0 0xF7 x) _ _ (λ e. omega arith)
-    (by-test K (within 0xF8 0xFB x) _ _ (λ e. omega arith)
+    (by-test Kept (within 0xC0 0xCF x) _ _ (λ e. omega arith)
+    (by-test Kept (within 0xE0 0xE3 x) _ _ (λ e. omega arith)
+    (by-test Kept (within 0xE8 0xEF x) _ _ (λ e. h)
+    (by-test Kept (within 0xF0 0xF7 x) _ _ (λ e. omega arith)
+    (by-test Kept (within 0xF8 0xFB x) _ _ (λ e. omega arith)
     h))))))
   where
-    K : Command → Type 0
-    K c = InRange 160 4 (obeyed r c)
+    Kept : Command → Type 0
+    Kept c = InRange pcf8532 (obeyed r c)
 
 -- ---- backplanes and banks
 
@@ -102,3 +105,9 @@ planes-pos r = go (r .m)
     go : (m : ℕ) → 0 < cond (eqb m 0) 4 m
     go zero = omega arith
     go (suc m) = rw (eqb·suc-zero m) (omega arith)
+
+-- ---- the position
+
+pub position-lt : (K : Part) (r : Registers) → InRange K r → position K r < K .columns * suc (K .limit)
+unfolding position
+position-lt K r h = omega (arith, mul-le-mul-left (K .columns) (h .a-in), h .p-in)

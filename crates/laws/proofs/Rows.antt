@@ -11,7 +11,8 @@ use lib.Seq.{getD-set-same, getD-set-other}
 use lib.Arith.{digits-div, digits-mod, digits-lt}
 use lib.Pow.{pow-pos, shr-shr, field, mod-mod-pow}
 use Rattle.lemmas.proofs.Order.{compared, equal-or-not}
-use Rattle.sheet.specs.Data.{bitOf, rowOf, withRow, changed, putBits, putRun, widthOf}
+use Rattle.sheet.specs.Data.{bitOf, rowOf, withRow, changed, putBits, widthOf}
+use Rattle.sheet.specs.Runs.{putRun}
 use Rattle.laws.proofs.Runs.{length-bits}
 
 -- ---- one row of a column

@@ -11,11 +11,14 @@ use lib.Seq.{set-getD, set-out}
 use borrow.Author.Tests.{le-ltb}
 use Rattle.sheet.specs.declared.Registers.{Registers}
 use Rattle.sheet.specs.declared.Counts.{Counts}
-use Rattle.sheet.specs.declared.Expect.the-variants.{Run}
+use Rattle.sheet.specs.declared.Kind.{Kind}
+use Rattle.sheet.specs.declared.Expect.the-variants.{All}
+use Rattle.sheet.specs.Parts.{Part}
 use Rattle.sheet.specs.Registers.{backplanes, bankRow}
 use Rattle.sheet.specs.Long.{Group, heard, dataByte}
 use Rattle.sheet.specs.Places.{position, atPosition}
-use Rattle.sheet.specs.Data.{changed, putBits, putRun, widthOf, storedBits, counted, countedRun}
+use Rattle.sheet.specs.Data.{changed, putBits, widthOf, storedBits, counted}
+use Rattle.sheet.specs.Runs.{putRun, countedRun, writtenBy, countedBy, movedBy}
 use Rattle.laws.proofs.Steps.{home, on, many, p-at, a-at, settled}
 
 -- ---- one column changed
@@ -86,58 +89,56 @@ counts-past (suc n) m v size t h =
 -- ---- from the position that a place stands for
 
 -- what is the same from any two positions past the end is the same from u and from the position of the registers at u
-pub as-good : (C L u : ℕ) (r : Registers) (size : ℕ) → size ≤ C * L → {A : Type 0} (f : ℕ → A)
-    → ((v w : ℕ) → size ≤ v → size ≤ w → f v ≡ f w) → f (position C (atPosition C L r u)) ≡ f u
-as-good C L u r size h f past =
+pub as-good : (K : Part) (u : ℕ) (r : Registers) (size : ℕ) → size ≤ K .columns * K .limit → {A : Type 0} (f : ℕ → A)
+    → ((v w : ℕ) → size ≤ v → size ≤ w → f v ≡ f w) → f (position K (atPosition K r u)) ≡ f u
+as-good K u r size h f past =
     ⊎-elim (λ e. ap f e)
-    (λ l. past (position C (atPosition C L r u)) u (le-trans h (l .0)) (le-trans h (l .1)))
-    (settled C L u r)
+    (λ l. past (position K (atPosition K r u)) u (le-trans h (l .0)) (le-trans h (l .1)))
+    (settled K u r)
 
 -- ---- the law
 
 -- the group that has followed a run at one position
-abbrev pub ran : ℕ → ℕ → List ℕ → Group → Group
-ran C L xs g =
+abbrev pub ran : Part → List ℕ → Group → Group
+ran K xs g =
     let r = g .registers in
-    let m = backplanes r in
-    let v = position C r in
     record {
-      registers = atPosition C L r (v + widthOf m * length xs);
-      ram = putRun m (bankRow m (r .i)) v xs (g .ram);
-      counts = countedRun (length xs) m v (length (g .ram)) (g .counts);
+      registers = movedBy K (length xs) r;
+      ram = writtenBy K r xs (g .ram);
+      counts = countedBy K r (length xs) (length (g .ram)) (g .counts);
     }
 
 -- heard byte by byte, it is the same group
-pub run-at-once : (C L : ℕ) (xs : List ℕ) (g : Group) → g .registers .p < C → g .registers .a ≤ L → length (g .ram) ≤ C * L
-    → heard C L Run xs g ≡ ran C L xs g
+pub run-at-once : (K : Part) (xs : List ℕ) (g : Group) → g .registers .p < K .columns → g .registers .a ≤ K .limit → length (g .ram) ≤ K .columns * K .limit
+    → heard K (All Kind.Data) xs g ≡ ran K xs g
 unfolding heard dataByte putRun countedRun backplanes atPosition
-run-at-once C L [] g lp la ll =
-    rw (mul-zero (widthOf (backplanes (g .registers))), add-zero (position C (g .registers)))
-    (ap (λ (s : Registers). record { registers = s; ram = g .ram; counts = g .counts }) (sym (home C L (g .registers) lp la)))
-run-at-once C L (x ∷ xs) g lp la ll =
+run-at-once K [] g lp la ll =
+    rw (mul-zero (widthOf (backplanes (g .registers))), add-zero (position K (g .registers)))
+    (ap (λ (s : Registers). record { registers = s; ram = g .ram; counts = g .counts }) (sym (home K (g .registers) lp la)))
+run-at-once K (x ∷ xs) g lp la ll =
     let r = g .registers in
     let m = backplanes r in
     let b = bankRow m (r .i) in
-    let v = position C r in
+    let v = position K r in
     let w = widthOf m in
     let ram = putBits 8 m b v x (g .ram) in
     let size = length (g .ram) in
     let el : length ram ≡ size = length-bits 8 m b v x (g .ram) in
-    let pc : 0 < C = omega arith in
-    let next = dataByte C L x g in
-    let s = atPosition C L r (v + w) in
-    run-at-once C L xs next (p-at C L (v + w) r pc) (a-at C L (v + w) r) (rw el ll)
+    let pc : 0 < K .columns = omega arith in
+    let next = dataByte K x g in
+    let s = atPosition K r (v + w) in
+    run-at-once K xs next (p-at K (v + w) r pc) (a-at K (v + w) r) (rw el ll)
     ∙ (λ i. record {
       registers =
-          (sym (many C L (w * length xs) s (p-at C L (v + w) r pc) (a-at C L (v + w) r))
-          ∙ on C L (w * length xs) (v + w) r pc
-          ∙ ap (λ (u : ℕ). atPosition C L r u) (along v w (length xs))) i;
+          (sym (many K (w * length xs) s (p-at K (v + w) r pc) (a-at K (v + w) r))
+          ∙ on K (w * length xs) (v + w) r pc
+          ∙ ap (λ (u : ℕ). atPosition K r u) (along v w (length xs))) i;
       ram =
-          as-good C L (v + w) r size ll (λ u. putRun m b u xs ram)
+          as-good K (v + w) r size ll (λ u. putRun m b u xs ram)
           (λ u t hu ht. run-past m b u xs ram (rw el hu) ∙ sym (run-past m b t xs ram (rw el ht))) i;
       counts =
-          (ap (λ (n : ℕ). countedRun (length xs) m (position C s) n (counted m v size (g .counts))) el
-          ∙ as-good C L (v + w) r size ll (λ u. countedRun (length xs) m u size (counted m v size (g .counts)))
+          (ap (λ (n : ℕ). countedRun (length xs) m (position K s) n (counted m v size (g .counts))) el
+          ∙ as-good K (v + w) r size ll (λ u. countedRun (length xs) m u size (counted m v size (g .counts)))
           (λ u t hu ht. counts-past (length xs) m u size _ hu ∙ sym (counts-past (length xs) m t size _ ht))) i;
     })
   where

@@ -10,73 +10,74 @@ use borrow.Author.Tests.{eq-eqb, ne-eqb}
 use Rattle.lemmas.proofs.Order.{lt-or-le}
 use Rattle.sheet.specs.declared.Registers.{Registers}
 use Rattle.sheet.specs.declared.Chip.{Chip}
+use Rattle.sheet.specs.Parts.{Part}
 use Rattle.sheet.specs.Registers.{atPlace}
 use Rattle.sheet.specs.Plain.{afterColumn, afterColumns}
 use Rattle.sheet.specs.Places.{advanced, advancedBy, position, atPosition}
 use Rattle.laws.proofs.Ranges.{InRange}
 
 -- one column on from a position
-pub one : (C L u : ℕ) (r : Registers) → 0 < C → advanced C L (atPosition C L r u) ≡ atPosition C L r (suc u)
+pub one : (K : Part) (u : ℕ) (r : Registers) → 0 < K .columns → advanced K (atPosition K r u) ≡ atPosition K r (suc u)
 unfolding advanced atPosition
-one C L u r pc =
-    let d : u / C * C + u % C ≡ u = div-add-mod' u C in
-    let l : u % C < C = mod-lt u pc in
+one K u r pc =
+    let d : u / K .columns * K .columns + u % K .columns ≡ u = div-add-mod' u (K .columns) in
+    let l : u % K .columns < K .columns = mod-lt u pc in
     ⊎-elim
-    (λ (h : u % C + 1 < C).
-    let s : suc u ≡ u / C * C + (u % C + 1) = omega (arith, d) in
-    rw (ne-eqb (u % C + 1) C (omega arith))
-    (ap₂ (λ (p a : ℕ). atPlace r p (min L a)) (sym (ap (λ (n : ℕ). n % C) s ∙ digits-mod (u / C) h)) (sym (ap (λ (n : ℕ). n / C) s ∙ digits-div (u / C) h))))
-    (λ (h : C ≤ u % C + 1).
-    let s : suc u ≡ suc (u / C) * C + 0 = omega (arith, d) in
-    let e : suc u / C ≡ suc (u / C) = ap (λ (n : ℕ). n / C) s ∙ digits-div (suc (u / C)) pc in
-    rw (eq-eqb (u % C + 1) C (omega arith))
-    (ap₂ (λ (p a : ℕ). atPlace r p a) (sym (ap (λ (n : ℕ). n % C) s ∙ digits-mod (suc (u / C)) pc)) (omega (arith, e))))
-    (lt-or-le (u % C + 1) C)
+    (λ (h : u % K .columns + 1 < K .columns).
+    let s : suc u ≡ u / K .columns * K .columns + (u % K .columns + 1) = omega (arith, d) in
+    rw (ne-eqb (u % K .columns + 1) (K .columns) (omega arith))
+    (ap₂ (λ (p a : ℕ). atPlace r p (min (K .limit) a)) (sym (ap (λ (n : ℕ). n % K .columns) s ∙ digits-mod (u / K .columns) h)) (sym (ap (λ (n : ℕ). n / K .columns) s ∙ digits-div (u / K .columns) h))))
+    (λ (h : K .columns ≤ u % K .columns + 1).
+    let s : suc u ≡ suc (u / K .columns) * K .columns + 0 = omega (arith, d) in
+    let e : suc u / K .columns ≡ suc (u / K .columns) = ap (λ (n : ℕ). n / K .columns) s ∙ digits-div (suc (u / K .columns)) pc in
+    rw (eq-eqb (u % K .columns + 1) (K .columns) (omega arith))
+    (ap₂ (λ (p a : ℕ). atPlace r p a) (sym (ap (λ (n : ℕ). n % K .columns) s ∙ digits-mod (suc (u / K .columns)) pc)) (omega (arith, e))))
+    (lt-or-le (u % K .columns + 1) (K .columns))
 
 -- registers in range are at their position
-pub home : (C L : ℕ) (r : Registers) → r .p < C → r .a ≤ L → atPosition C L r (position C r) ≡ r
+pub home : (K : Part) (r : Registers) → r .p < K .columns → r .a ≤ K .limit → atPosition K r (position K r) ≡ r
 unfolding atPosition position
-home C L r lp la =
-    rw (mul-comm C (r .a)) (ap₂ (λ (p a : ℕ). atPlace r p a) (digits-mod (r .a) lp) (omega (arith, digits-div (r .a) lp)))
+home K r lp la =
+    rw (mul-comm (K .columns) (r .a)) (ap₂ (λ (p a : ℕ). atPlace r p a) (digits-mod (r .a) lp) (omega (arith, digits-div (r .a) lp)))
 
 -- t columns on from a position
-pub on : (C L t u : ℕ) (r : Registers) → 0 < C → advancedBy C L t (atPosition C L r u) ≡ atPosition C L r (u + t)
+pub on : (K : Part) (t u : ℕ) (r : Registers) → 0 < K .columns → advancedBy K t (atPosition K r u) ≡ atPosition K r (u + t)
 unfolding advancedBy
-on C L zero u r pc = rw (add-zero u)
-on C L (suc t) u r pc = rw (on C L t u r pc, add-suc u t) (one C L (u + t) r pc)
+on K zero u r pc = rw (add-zero u)
+on K (suc t) u r pc = rw (on K t u r pc, add-suc u t) (one K (u + t) r pc)
 
 -- t columns on are one step
-pub many : (C L t : ℕ) (r : Registers) → r .p < C → r .a ≤ L → advancedBy C L t r ≡ atPosition C L r (position C r + t)
-many C L t r lp la = ap (λ (s : Registers). advancedBy C L t s) (sym (home C L r lp la)) ∙ on C L t (position C r) r (omega arith)
+pub many : (K : Part) (t : ℕ) (r : Registers) → r .p < K .columns → r .a ≤ K .limit → advancedBy K t r ≡ atPosition K r (position K r + t)
+many K t r lp la = ap (λ (s : Registers). advancedBy K t s) (sym (home K r lp la)) ∙ on K t (position K r) r (omega arith)
 
 -- registers at a position are in range
-pub p-at : (C L u : ℕ) (r : Registers) → 0 < C → atPosition C L r u .p < C
+pub p-at : (K : Part) (u : ℕ) (r : Registers) → 0 < K .columns → atPosition K r u .p < K .columns
 unfolding atPosition
-p-at C L u r pc = mod-lt u pc
+p-at K u r pc = mod-lt u pc
 
-pub a-at : (C L u : ℕ) (r : Registers) → atPosition C L r u .a ≤ L
+pub a-at : (K : Part) (u : ℕ) (r : Registers) → atPosition K r u .a ≤ K .limit
 unfolding atPosition
-a-at C L u r = min-le-left L (u / C)
+a-at K u r = min-le-left (K .limit) (u / K .columns)
 
 -- the position of registers at a position: the same, or both past all columns
-pub settled : (C L u : ℕ) (r : Registers) → (position C (atPosition C L r u) ≡ u) ⊎ ((C * L ≤ position C (atPosition C L r u)) × (C * L ≤ u))
+pub settled : (K : Part) (u : ℕ) (r : Registers) → (position K (atPosition K r u) ≡ u) ⊎ ((K .columns * K .limit ≤ position K (atPosition K r u)) × (K .columns * K .limit ≤ u))
 unfolding atPosition position
-settled C L u r =
+settled K u r =
     ⊎-elim
-    (λ (h : L < u / C).
-    inr (rw (min-eq-left (le-of-lt h)) (omega arith), omega (arith, mul-le-mul-left C (le-of-lt h), div-add-mod u C)))
-    (λ (h : u / C ≤ L). inl (rw (min-eq-right h) (div-add-mod u C)))
-    (lt-or-le L (u / C))
+    (λ (h : K .limit < u / K .columns).
+    inr (rw (min-eq-left (le-of-lt h)) (omega arith), omega (arith, mul-le-mul-left (K .columns) (le-of-lt h), div-add-mod u (K .columns))))
+    (λ (h : u / K .columns ≤ K .limit). inl (rw (min-eq-right h) (div-add-mod u (K .columns))))
+    (lt-or-le (K .limit) (u / K .columns))
 
 -- registers in range are in range at any position
-pub stays-in : (C L u : ℕ) (r : Registers) → InRange C L r → InRange C L (atPosition C L r u)
+pub stays-in : (K : Part) (u : ℕ) (r : Registers) → InRange K r → InRange K (atPosition K r u)
 unfolding atPosition
-stays-in C L u r h = record {
+stays-in K u r h = record {
   e-in = h .e-in;
   b-in = h .b-in;
   m-in = h .m-in;
-  p-in = p-at C L u r (omega (arith, h .p-in));
-  a-in = a-at C L u r;
+  p-in = p-at K u r (omega (arith, h .p-in));
+  a-in = a-at K u r;
   i-in = h .i-in;
   o-in = h .o-in;
   ab-in = h .ab-in;
@@ -84,7 +85,7 @@ stays-in C L u r h = record {
 }
 
 -- stored or not, each column of a data byte moves a chip's P and A on
-pub columns-move : (C L x n : ℕ) (c : Chip) → afterColumns C L x n c .registers ≡ advancedBy C L n (c .registers)
+pub columns-move : (K : Part) (x n : ℕ) (c : Chip) → afterColumns K x n c .registers ≡ advancedBy K n (c .registers)
 unfolding afterColumns afterColumn advancedBy
-columns-move C L x zero c = refl
-columns-move C L x (suc n) c = ap (advanced C L) (columns-move C L x n c)
+columns-move K x zero c = refl
+columns-move K x (suc n) c = ap (advanced K) (columns-move K x n c)

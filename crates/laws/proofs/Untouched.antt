@@ -3,35 +3,35 @@
 use mathlib.Core.Path.{_≡_, refl, sym, ap, subst, _∙_}
 use mathlib.Core.Logic.{_≢_, ⊎-elim}
 use mathlib.Core.Bool.{Bool, true, false, cond, _&&_, true≢false}
-use mathlib.Core.List.{List, [], _∷_, _++_, map, map-id, map-map}
+use mathlib.Core.List.{List, [], _∷_, map, map-id, map-map}
 use Prim.Native.Nat.{ℕ, zero, suc, _+_, _*_, _/_, _%_, _<_}
 use native.Mathlib.Nat.{not-suc-le-zero, le-of-suc-le-suc}
-use native.Mathlib.Omega.{arith}
 use lib.Dec.{eqb, ltb}
-use lib.ListN.{length, getD, take, drop, length-drop}
-use lib.Seq.{take-at, drop-at, length-take-le}
-use borrow.Author.Tests.{eq-eqb, ne-eqb, eqb-true}
+use lib.ListN.{length, getD, drop}
+use borrow.Author.Tests.{eq-eqb, ne-eqb}
 use Rattle.lemmas.proofs.Order.{equal-or-not}
-use Rattle.lemmas.proofs.Tests.{both-true, either-false}
+use Rattle.lemmas.proofs.Tests.{either-false}
 use Rattle.sheet.specs.declared.Both.{Both}
 use Rattle.sheet.specs.declared.Chips.{Chips}
 use Rattle.sheet.specs.declared.Chip.{Chip}
 use Rattle.sheet.specs.declared.Check.{Check}
 use Rattle.sheet.specs.declared.Check.the-variants.{Passed, Refused}
+use Rattle.sheet.specs.declared.Addressed.{Addressed}
 use Rattle.sheet.specs.declared.Addressed.the-variants.{To, Nobody}
 use Rattle.sheet.specs.declared.Expect.{Expect}
-use Rattle.sheet.specs.declared.Expect.the-variants.{Control, OneCommand, Commands, OneData, Run}
+use Rattle.sheet.specs.declared.Kind.{Kind}
+use Rattle.sheet.specs.declared.Expect.the-variants.{Control, One, All}
+use Rattle.sheet.specs.Parts.{Part}
 use Rattle.sheet.specs.Registers.{backplanes, bankRow}
 use Rattle.sheet.specs.Protocol.{addressOf, heardBy, next}
-use Rattle.sheet.specs.Checks.{checkTransfer}
-use Rattle.sheet.specs.Long.{Group, After, begun, byte, dataByte, heard, registersOf, columnsOf, taken, answered, transferCall}
-use Rattle.sheet.specs.Plain.{putRows, afterColumn, afterColumns, chipData, chipByte, any, hears, takes, Plain, PlainAfter, plainHeard, plainTaken, plainSaid, plainAnswered, checkPlain, plainCall}
-use Rattle.sheet.specs.Places.{position}
+use Rattle.sheet.specs.Long.{Group, After, begun, byteOf, byte, dataByte, heard, registersOf, columnsOf, taken, transferCall}
+use Rattle.sheet.specs.Plain.{putRows, afterColumn, afterColumns, chipData, chipByteOf, chipByte, any, hears, takes, Plain, plainHeard, plainTaken, plainSaid, plainAnswered, checkPlain, plainCall}
 use Rattle.sheet.specs.Data.{bitOf, rowOf, withRow, changed, putBits, widthOf}
-use Rattle.sheet.specs.Lands.{bitsOn, byteOn, heardOn, Missed, LongStays, rowsOn, columnOn, columnsOn, chipByteOn, chipHeardOn, PlainStays, Untouched}
+use Rattle.sheet.specs.Lands.{bitsOn, kindOn, byteOn, heardOn, Missed, LongStays, rowsOn, columnOn, columnsOn, chipKindOn, chipByteOn, chipHeardOn, PlainStays, Untouched}
 use Rattle.laws.proofs.Rows.{row-other, row-kept, row-stays, changed-other, bit-lt}
 use Rattle.laws.proofs.Fits.{Fits}
-use Rattle.laws.proofs.Groups.{length-heard, zero-kept, one-kept, fitting, zero-stays, one-stays}
+use Rattle.laws.proofs.Lens.{own-columns, other-columns}
+use Rattle.laws.proofs.Groups.{Calls, calls, of-call, groupAfter, length-after, stays}
 
 -- row q of column c is the same in two lists of columns
 abbrev SameRow : ℕ → ℕ → List ℕ → List ℕ → Type 0
@@ -51,76 +51,49 @@ bits-missed (suc n) m b v x c q ram e =
     row-stays (b + n % m) (bitOf x n) (v + n / m) (putBits n m b v x ram) c q (bit-lt x n) (not-both c (v + n / m) q (b + n % m) (d .0))
     ∙ bits-missed n m b v x c q ram (d .1)
 
-byte-missed : (C L : ℕ) (e : Expect) (x : ℕ) (g : Group) (c q : ℕ) → byteOn C e (g .registers) c q ≡ false → SameRow c q (byte C L e x g .ram) (g .ram)
+kind-missed : (K : Part) (k : Kind) (x : ℕ) (g : Group) (c q : ℕ) → kindOn K k (g .registers) c q ≡ false → SameRow c q (byteOf K k x g .ram) (g .ram)
 unfolding dataByte
-byte-missed C L Control x g c q h = refl
-byte-missed C L OneCommand x g c q h = refl
-byte-missed C L Commands x g c q h = refl
-byte-missed C L OneData x g c q h = bits-missed 8 _ _ _ x c q (g .ram) h
-byte-missed C L Run x g c q h = bits-missed 8 _ _ _ x c q (g .ram) h
+kind-missed K Kind.Command x g c q h = refl
+kind-missed K Kind.Data x g c q h = bits-missed 8 _ _ _ x c q (g .ram) h
 
-heard-missed : (C L : ℕ) (e : Expect) (xs : List ℕ) (g : Group) (c q : ℕ) → heardOn C L e xs g c q ≡ false → SameRow c q (heard C L e xs g .ram) (g .ram)
+byte-missed : (K : Part) (e : Expect) (x : ℕ) (g : Group) (c q : ℕ) → byteOn K e (g .registers) c q ≡ false → SameRow c q (byte K e x g .ram) (g .ram)
+byte-missed K Control x g c q h = refl
+byte-missed K (One k) x g c q h = kind-missed K k x g c q h
+byte-missed K (All k) x g c q h = kind-missed K k x g c q h
+
+heard-missed : (K : Part) (e : Expect) (xs : List ℕ) (g : Group) (c q : ℕ) → heardOn K e xs g c q ≡ false → SameRow c q (heard K e xs g .ram) (g .ram)
 unfolding heardOn heard
-heard-missed C L e [] g c q h = refl
-heard-missed C L e (x ∷ xs) g c q h =
-    let d = either-false (byteOn C e (g .registers) c q) (heardOn C L (next e x) xs (byte C L e x g) c q) h in
-    heard-missed C L (next e x) xs (byte C L e x g) c q (d .1) ∙ byte-missed C L e x g c q (d .0)
+heard-missed K e [] g c q h = refl
+heard-missed K e (x ∷ xs) g c q h =
+    let d = either-false (byteOn K e (g .registers) c q) (heardOn K (next e x) xs (byte K e x g) c q) h in
+    heard-missed K (next e x) xs (byte K e x g) c q (d .1) ∙ byte-missed K e x g c q (d .0)
 
-module _ (C L : ℕ) (n : Chips) (r : Both) (ram bytes : List ℕ) where
-  -- the group after the bytes
-  abbrev after : ℕ → Group
-  after g = heard C L Control (drop 1 bytes) (begun (registersOf g r) (columnsOf C n g ram))
+module _ (K : Part) (n : Chips) (r : Both) (ram bytes : List ℕ) (h : ℕ) (ph : h < 2) (c q : ℕ) (missed : Missed K n r ram bytes h c q) where
+  abbrev RowStays : After → Type 0
+  RowStays a = SameRow c q (columnsOf K n h (a .ram)) (columnsOf K n h ram)
 
-  abbrev RowStays : ℕ → ℕ → ℕ → After → Type 0
-  RowStays g c q a = SameRow c q (columnsOf C n g (a .ram)) (columnsOf C n g ram)
+  -- the group that hears is this one, or it is not
+  row-by : Fits K n r ram → (to : Addressed) → Calls (getD bytes 0 0) to → RowStays (taken K n r ram bytes to)
+  row-by f (To g) calls =
+      ⊎-elim
+      (λ (e : g ≡ h). subst (λ (k : ℕ). RowStays (taken K n r ram bytes (To k))) (sym e)
+      (ap (λ (l : List ℕ). rowOf (getD l c 0) q) (own-columns K n r ram f h (groupAfter K n r ram bytes h .ram) (length-after K n r ram bytes f h))
+      ∙ heard-missed K Control (drop 1 bytes) (begun (registersOf h r) (columnsOf K n h ram)) c q (missed (calls .1 ∙ ap addressOf e))))
+      (λ (ne : g ≢ h). ap (λ (l : List ℕ). rowOf (getD l c 0) q) (other-columns K n r ram f g h (calls .0) ph ne (groupAfter K n r ram bytes g .ram) (length-after K n r ram bytes f g)))
+      (equal-or-not g h)
+  row-by f Nobody calls = refl
 
-  -- by who hears byte 0
-  row-zero : (c q : ℕ) → Missed C L n r ram bytes 0 c q → Fits C L n r ram → (t u : Bool) → (t ≡ true → getD bytes 0 0 ≡ addressOf 0)
-      → RowStays 0 c q (taken C L n r ram bytes (cond t (To 0) (cond u (To 1) Nobody)))
-  row-zero c q m f true u h =
-      ap (λ (l : List ℕ). rowOf (getD l c 0) q)
-      (take-at (after 0 .ram) (drop (0 + C * n .zero) ram) (C * n .zero) (length-heard C L Control (drop 1 bytes) (begun (r .zero) (take (C * n .zero) ram)) ∙ length-take-le (C * n .zero) ram (omega (arith, f .columns))))
-      ∙ heard-missed C L Control (drop 1 bytes) (begun (r .zero) (take (C * n .zero) ram)) c q (m (h refl))
-  row-zero c q m f false u h = ap (λ (l : List ℕ). rowOf (getD l c 0) q) (zero-kept C L n r ram bytes f u .columns)
+  row-stays-so : RowStays (transferCall K n r ram bytes)
+  row-stays-so =
+      of-call K n r ram bytes RowStays (λ x er em. ap (λ (l : List ℕ). rowOf (getD (columnsOf K n h l) c 0) q) em)
+      (λ f. row-by f (heardBy n (getD bytes 0 0)) (calls n (getD bytes 0 0)))
 
-  row-one : (c q : ℕ) → Missed C L n r ram bytes 1 c q → Fits C L n r ram → (t u : Bool) → (u ≡ true → getD bytes 0 0 ≡ addressOf 1)
-      → RowStays 1 c q (taken C L n r ram bytes (cond t (To 0) (cond u (To 1) Nobody)))
-  row-one c q m f true u h = ap (λ (l : List ℕ). rowOf (getD l c 0) q) (one-kept C L n r ram bytes f true .columns)
-  row-one c q m f false true h =
-      let before = begun (r .one) (columnsOf C n 1 ram) in
-      let size : length (after 1 .ram) ≡ C * n .one =
-      length-heard C L Control (drop 1 bytes) before ∙ length-take-le (C * n .one) (drop (C * n .zero) ram) (omega (arith, length-drop (C * n .zero) ram, f .columns)) in
-      ap (λ (l : List ℕ). rowOf (getD l c 0) q)
-      (ap (λ (l : List ℕ). take (C * n .one) l)
-      (drop-at (take (C * n .zero) ram) (after 1 .ram ++ drop (C * n .zero + C * n .one) ram) (C * n .zero) (length-take-le (C * n .zero) ram (omega (arith, f .columns))))
-      ∙ take-at (after 1 .ram) (drop (C * n .zero + C * n .one) ram) (C * n .one) size)
-      ∙ heard-missed C L Control (drop 1 bytes) before c q (m (h refl))
-  row-one c q m f false false h = refl
-
-  by-check : (g c q : ℕ) (k : Check) (a : After) → (k ≡ Passed → RowStays g c q a) → RowStays g c q (answered k r ram a)
-  by-check g c q Passed a h = h refl
-  by-check g c q (Refused x) a h = refl
-
-  -- byte 0 is the address where the test for it is true
-  abbrev calls : ℕ → ℕ → Bool
-  calls g k = eqb (getD bytes 0 0) (addressOf g) && ltb 0 k
-
-  called : (g k : ℕ) → calls g k ≡ true → getD bytes 0 0 ≡ addressOf g
-  called g k e = eqb-true (getD bytes 0 0) (addressOf g) (both-true (eqb (getD bytes 0 0) (addressOf g)) (ltb 0 k) e .0)
-
-  long-stays : (g : ℕ) → g < 2 → LongStays C L n r ram bytes g
-  unfolding transferCall heardBy
-  long-stays zero pg = record {
-    row = λ c q m. by-check 0 c q (checkTransfer C L n r ram bytes) _ (λ e. row-zero c q m (fitting C L n r ram bytes e) (calls 0 (n .zero)) (calls 1 (n .one)) (called 0 (n .zero)));
-    columns = λ other. zero-stays C L n r ram bytes other .columns;
-    registers = λ other. zero-stays C L n r ram bytes other .registers;
-  }
-  long-stays (suc zero) pg = record {
-    row = λ c q m. by-check 1 c q (checkTransfer C L n r ram bytes) _ (λ e. row-one c q m (fitting C L n r ram bytes e) (calls 0 (n .zero)) (calls 1 (n .one)) (called 1 (n .one)));
-    columns = λ other. one-stays C L n r ram bytes other .columns;
-    registers = λ other. one-stays C L n r ram bytes other .registers;
-  }
-  long-stays (suc (suc g)) pg = absurd (omega arith)
+long-stays : (K : Part) (n : Chips) (r : Both) (ram bytes : List ℕ) (h : ℕ) → h < 2 → LongStays K n r ram bytes h
+long-stays K n r ram bytes h ph = record {
+  row = λ c q m. row-stays-so K n r ram bytes h ph c q m;
+  columns = λ other. stays K n r ram bytes h ph other .columns;
+  registers = λ other. stays K n r ram bytes h ph other .registers;
+}
 
 -- ---- one chip
 
@@ -141,9 +114,9 @@ change-missed : (f : ℕ → ℕ) (at p q : ℕ) (t : Bool) (ram : List ℕ) →
 change-missed f at p q t ram e keeps =
     ⊎-elim (λ (h : p ≡ at). row-kept f q (keeps (sym (rw (eq-eqb p at h)) ∙ e)) at p ram) (λ (h : p ≢ at). ap (λ (column : ℕ). rowOf column q) (changed-other f at p ram h)) (equal-or-not p at)
 
-column-missed : (C L x j : ℕ) (c : Chip) (p q : ℕ) → columnOn j c p q ≡ false → SameRow p q (afterColumn C L x j c .columns) (c .columns)
+column-missed : (K : Part) (x j : ℕ) (c : Chip) (p q : ℕ) → columnOn j c p q ≡ false → SameRow p q (afterColumn K x j c .columns) (c .columns)
 unfolding afterColumn
-column-missed C L x j c p q e = stored (eqb (c .registers .a) (c .subaddress)) e
+column-missed K x j c p q e = stored (eqb (c .registers .a) (c .subaddress)) e
   where
     m : ℕ
     m = backplanes (c .registers)
@@ -156,49 +129,51 @@ column-missed C L x j c p q e = stored (eqb (c .registers .a) (c .subaddress)) e
     stored true h = change-missed (putRows m b (m * j) x) (c .registers .p) p q (rowsOn m b (m * j) q) (c .columns) h (λ o column. rows-missed m b (m * j) x q column o)
     stored false h = refl
 
-columns-missed : (C L x n : ℕ) (c : Chip) (p q : ℕ) → columnsOn C L x n c p q ≡ false → SameRow p q (afterColumns C L x n c .columns) (c .columns)
+columns-missed : (K : Part) (x n : ℕ) (c : Chip) (p q : ℕ) → columnsOn K x n c p q ≡ false → SameRow p q (afterColumns K x n c .columns) (c .columns)
 unfolding columnsOn afterColumns
-columns-missed C L x zero c p q e = refl
-columns-missed C L x (suc n) c p q e =
-    let d = either-false (columnOn n (afterColumns C L x n c) p q) (columnsOn C L x n c p q) e in
-    column-missed C L x n (afterColumns C L x n c) p q (d .0) ∙ columns-missed C L x n c p q (d .1)
+columns-missed K x zero c p q e = refl
+columns-missed K x (suc n) c p q e =
+    let d = either-false (columnOn n (afterColumns K x n c) p q) (columnsOn K x n c p q) e in
+    column-missed K x n (afterColumns K x n c) p q (d .0) ∙ columns-missed K x n c p q (d .1)
 
-chip-byte-missed : (C L : ℕ) (e : Expect) (x : ℕ) (c : Chip) (p q : ℕ) → chipByteOn C L e x c p q ≡ false → SameRow p q (chipByte C L e x c .columns) (c .columns)
+chip-kind-missed : (K : Part) (k : Kind) (x : ℕ) (c : Chip) (p q : ℕ) → chipKindOn K k x c p q ≡ false → SameRow p q (chipByteOf K k x c .columns) (c .columns)
 unfolding chipData
-chip-byte-missed C L Control x c p q h = refl
-chip-byte-missed C L OneCommand x c p q h = refl
-chip-byte-missed C L Commands x c p q h = refl
-chip-byte-missed C L OneData x c p q h = columns-missed C L x (widthOf (backplanes (c .registers))) c p q h
-chip-byte-missed C L Run x c p q h = columns-missed C L x (widthOf (backplanes (c .registers))) c p q h
+chip-kind-missed K Kind.Command x c p q h = refl
+chip-kind-missed K Kind.Data x c p q h = columns-missed K x (widthOf (backplanes (c .registers))) c p q h
+
+chip-byte-missed : (K : Part) (e : Expect) (x : ℕ) (c : Chip) (p q : ℕ) → chipByteOn K e x c p q ≡ false → SameRow p q (chipByte K e x c .columns) (c .columns)
+chip-byte-missed K Control x c p q h = refl
+chip-byte-missed K (One k) x c p q h = chip-kind-missed K k x c p q h
+chip-byte-missed K (All k) x c p q h = chip-kind-missed K k x c p q h
 
 -- ---- a list of chips
 
 -- a chip of the list after the bytes that are left
-unfoldable alone : ℕ → ℕ → ℕ → Expect → List ℕ → Chip → Chip
-alone C L address e [] c = c
-alone C L address e (x ∷ xs) c = alone C L address (next e x) xs (takes C L address e x c)
+unfoldable alone : Part → ℕ → Expect → List ℕ → Chip → Chip
+alone K address e [] c = c
+alone K address e (x ∷ xs) c = alone K address (next e x) xs (takes K address e x c)
 
-each-alone : (C L address : ℕ) (e : Expect) (xs : List ℕ) (s : Plain) → plainHeard C L address e xs s .chips ≡ map (alone C L address e xs) (s .chips)
+each-alone : (K : Part) (address : ℕ) (e : Expect) (xs : List ℕ) (s : Plain) → plainHeard K address e xs s .chips ≡ map (alone K address e xs) (s .chips)
 unfolding plainHeard alone
-each-alone C L address e [] s = sym (map-id (s .chips))
-each-alone C L address e (x ∷ xs) s = each-alone C L address (next e x) xs _ ∙ map-map (alone C L address (next e x) xs) (takes C L address e x) (s .chips)
+each-alone K address e [] s = sym (map-id (s .chips))
+each-alone K address e (x ∷ xs) s = each-alone K address (next e x) xs _ ∙ map-map (alone K address (next e x) xs) (takes K address e x) (s .chips)
 
 -- one that does not hear
-deaf-alone : (C L address : ℕ) (e : Expect) (xs : List ℕ) (c : Chip) → hears address c ≡ false → alone C L address e xs c ≡ c
+deaf-alone : (K : Part) (address : ℕ) (e : Expect) (xs : List ℕ) (c : Chip) → hears address c ≡ false → alone K address e xs c ≡ c
 unfolding alone
-deaf-alone C L address e [] c h = refl
-deaf-alone C L address e (x ∷ xs) c h = rw h (deaf-alone C L address (next e x) xs c h)
+deaf-alone K address e [] c h = refl
+deaf-alone K address e (x ∷ xs) c h = rw h (deaf-alone K address (next e x) xs c h)
 
-alone-missed : (C L address : ℕ) (e : Expect) (xs : List ℕ) (c : Chip) (p q : ℕ) → chipHeardOn C L e xs c p q ≡ false → SameRow p q (alone C L address e xs c .columns) (c .columns)
+alone-missed : (K : Part) (address : ℕ) (e : Expect) (xs : List ℕ) (c : Chip) (p q : ℕ) → chipHeardOn K e xs c p q ≡ false → SameRow p q (alone K address e xs c .columns) (c .columns)
 unfolding chipHeardOn alone
-alone-missed C L address e [] c p q h = refl
-alone-missed C L address e (x ∷ xs) c p q h =
-    let d = either-false (chipByteOn C L e x c p q) (chipHeardOn C L (next e x) xs (chipByte C L e x c) p q) h in
-    by-hearing (hears address c) (deaf-alone C L address (next e x) xs c)
-    (alone-missed C L address (next e x) xs (chipByte C L e x c) p q (d .1) ∙ chip-byte-missed C L e x c p q (d .0))
+alone-missed K address e [] c p q h = refl
+alone-missed K address e (x ∷ xs) c p q h =
+    let d = either-false (chipByteOn K e x c p q) (chipHeardOn K (next e x) xs (chipByte K e x c) p q) h in
+    by-hearing (hears address c) (deaf-alone K address (next e x) xs c)
+    (alone-missed K address (next e x) xs (chipByte K e x c) p q (d .1) ∙ chip-byte-missed K e x c p q (d .0))
   where
-    by-hearing : (t : Bool) → (t ≡ false → alone C L address (next e x) xs c ≡ c) → SameRow p q (alone C L address (next e x) xs (chipByte C L e x c) .columns) (c .columns)
-        → SameRow p q (alone C L address (next e x) xs (cond t (chipByte C L e x c) c) .columns) (c .columns)
+    by-hearing : (t : Bool) → (t ≡ false → alone K address (next e x) xs c ≡ c) → SameRow p q (alone K address (next e x) xs (chipByte K e x c) .columns) (c .columns)
+        → SameRow p q (alone K address (next e x) xs (cond t (chipByte K e x c) c) .columns) (c .columns)
     by-hearing true deaf missed = missed
     by-hearing false deaf missed = ap (λ (k : Chip). rowOf (getD (k .columns) p 0) q) (deaf refl)
 
@@ -207,32 +182,32 @@ map-at f [] i d l = absurd (not-suc-le-zero l)
 map-at f (c ∷ cs) zero d l = refl
 map-at f (c ∷ cs) (suc i) d l = map-at f cs i d (le-of-suc-le-suc l)
 
-module _ (C L : ℕ) (cs : List Chip) (bytes : List ℕ) (i : ℕ) (d : Chip) (l : i < length cs) where
+module _ (K : Part) (cs : List Chip) (bytes : List ℕ) (i : ℕ) (d : Chip) (l : i < length cs) where
   abbrev followed : Chip
-  followed = alone C L (getD bytes 0 0) Control (drop 1 bytes) (getD cs i d)
+  followed = alone K (getD bytes 0 0) Control (drop 1 bytes) (getD cs i d)
 
   -- a chip of the list is as it was, or followed the bytes alone
-  chip-after : (P : Chip → Type 0) → P (getD cs i d) → P followed → P (getD (plainCall C L cs bytes .chips) i d)
+  chip-after : (P : Chip → Type 0) → P (getD cs i d) → P followed → P (getD (plainCall K cs bytes .chips) i d)
   unfolding plainCall
-  chip-after P kept moved = by-check (checkPlain C L cs bytes) (plainTaken C L cs bytes) (by-hearers (any (hears (getD bytes 0 0)) cs))
+  chip-after P kept moved = by-check (checkPlain K cs bytes) (plainTaken K cs bytes) (by-hearers (any (hears (getD bytes 0 0)) cs))
     where
-      by-hearers : (t : Bool) → P (getD (cond t (plainHeard C L (getD bytes 0 0) Control (drop 1 bytes) (record { acknowledged = 1; chips = cs })) (record { acknowledged = 0; chips = cs }) .chips) i d)
-      by-hearers true = subst P (sym (ap (λ (k : List Chip). getD k i d) (each-alone C L (getD bytes 0 0) Control (drop 1 bytes) _) ∙ map-at _ cs i d l)) moved
+      by-hearers : (t : Bool) → P (getD (cond t (plainHeard K (getD bytes 0 0) Control (drop 1 bytes) (record { acknowledged = 1; chips = cs })) (record { acknowledged = 0; chips = cs }) .chips) i d)
+      by-hearers true = subst P (sym (ap (λ (k : List Chip). getD k i d) (each-alone K (getD bytes 0 0) Control (drop 1 bytes) _) ∙ map-at _ cs i d l)) moved
       by-hearers false = kept
 
       by-check : (k : Check) (s : Plain) → P (getD (s .chips) i d) → P (getD (plainAnswered k cs (plainSaid s) .chips) i d)
       by-check Passed s h = h
       by-check (Refused x) s h = kept
 
-  plain-stays : PlainStays C L bytes (getD cs i d) (getD (plainCall C L cs bytes .chips) i d)
+  plain-stays : PlainStays K bytes (getD cs i d) (getD (plainCall K cs bytes .chips) i d)
   plain-stays = record {
-    row = λ p q missed. chip-after (λ c. SameRow p q (c .columns) (getD cs i d .columns)) refl (alone-missed C L (getD bytes 0 0) Control (drop 1 bytes) (getD cs i d) p q missed);
-    chip = λ other. chip-after (λ c. c ≡ getD cs i d) refl (deaf-alone C L (getD bytes 0 0) Control (drop 1 bytes) (getD cs i d) (ne-eqb (getD bytes 0 0) (addressOf (getD cs i d .sa0)) other));
+    row = λ p q missed. chip-after (λ c. SameRow p q (c .columns) (getD cs i d .columns)) refl (alone-missed K (getD bytes 0 0) Control (drop 1 bytes) (getD cs i d) p q missed);
+    chip = λ other. chip-after (λ c. c ≡ getD cs i d) refl (deaf-alone K (getD bytes 0 0) Control (drop 1 bytes) (getD cs i d) (ne-eqb (getD bytes 0 0) (addressOf (getD cs i d .sa0)) other));
   }
 
 -- the law, for any column count and limit
-pub untouched : (C L : ℕ) → Untouched C L
-untouched C L = record {
-  long = λ n r ram bytes g pg. long-stays C L n r ram bytes g pg;
-  plain = λ cs bytes i d l. plain-stays C L cs bytes i d l;
+pub untouched : (K : Part) → Untouched K
+untouched K = record {
+  long = λ n r ram bytes g pg. long-stays K n r ram bytes g pg;
+  plain = λ cs bytes i d l. plain-stays K cs bytes i d l;
 }

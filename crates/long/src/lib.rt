@@ -14,14 +14,15 @@ ghost use mathlib.Core.Path.{_≡_};
 ghost use Prim.Native.Nat.{_*_, _<_};
 ghost use lib.ListN.{length, getD};
 ghost use Rattle.sheet.specs.Refusals.{numbers, pictureNumbers, checkNumbers};
+ghost use Rattle.sheet.specs.Parts.{pcf8532};
 ghost use Rattle.sheet.specs.Protocol.{heardBy, chipsIn};
-ghost use Rattle.sheet.specs.Checks.{unless, checkRegisters, checkRam, checkCommands, checkState, checkPowerOn, checkTransfer, checkPicture};
+ghost use Rattle.sheet.specs.Checks.{unless, checkRegisters, checkRam, checkBytes, checkState, checkPowerOn, checkTransfer, checkPicture};
 ghost use Rattle.sheet.specs.Long.{noCounts, registersOf, replaced, startOf, endOf, taken, powerOnCall, transferCall, pictureCall};
 
 // ---- the checks, in the order of their numbers in each call; a later one is looked at only if the earlier ones passed
 
 fn check_registers(registers: Both) -> Check
-    ensures { λ r. ⌜ r ≡ checkRegisters 160 4 registers ⌝ }
+    ensures { λ r. ⌜ r ≡ checkRegisters pcf8532 registers ⌝ }
 {
     let zero = registers.zero;
     let one = registers.one;
@@ -32,7 +33,7 @@ fn check_registers(registers: Both) -> Check
 }
 
 fn check_ram(chips: Chips, ram: &[u8]) -> Check
-    ensures { λ r. ⌜ r ≡ checkRam 160 chips (now (ram .entry)) ⌝ }
+    ensures { λ r. ⌜ r ≡ checkRam pcf8532 chips (now (ram .entry)) ⌝ }
 {
     let size = 160 * (chips.zero as usize + chips.one as usize);
     if ram.len() == size {
@@ -43,7 +44,7 @@ fn check_ram(chips: Chips, ram: &[u8]) -> Check
 }
 
 fn check_power_on(chips: Chips, ram: &[u8]) -> Check
-    ensures { λ r. ⌜ r ≡ checkPowerOn 160 4 chips (now (ram .entry)) ⌝ }
+    ensures { λ r. ⌜ r ≡ checkPowerOn pcf8532 chips (now (ram .entry)) ⌝ }
 {
     match checks::check_chips(chips) {
         Check::Refused(refusal) => Check::Refused(refusal),
@@ -52,7 +53,7 @@ fn check_power_on(chips: Chips, ram: &[u8]) -> Check
 }
 
 fn check_state(chips: Chips, registers: Both, ram: &[u8]) -> Check
-    ensures { λ r. ⌜ r ≡ checkState 160 4 chips registers (now (ram .entry)) ⌝ }
+    ensures { λ r. ⌜ r ≡ checkState pcf8532 chips registers (now (ram .entry)) ⌝ }
 {
     match checks::check_chips(chips) {
         Check::Refused(refusal) => Check::Refused(refusal),
@@ -76,23 +77,23 @@ fn heard_by(chips: Chips, address: u8) -> Addressed
     Addressed::Nobody
 }
 
-fn check_commands(chips: Chips, bytes: &[u8]) -> Check
-    ensures { λ r. ⌜ r ≡ checkCommands (heardBy chips (getD (now (bytes .entry)) 0 0)) (now (bytes .entry)) ⌝ }
+fn check_bytes(chips: Chips, bytes: &[u8]) -> Check
+    ensures { λ r. ⌜ r ≡ checkBytes pcf8532 (heardBy chips (getD (now (bytes .entry)) 0 0)) (now (bytes .entry)) ⌝ }
 {
     match heard_by(chips, checks::byte_at(bytes, 0)) {
-        Addressed::To(_) => protocol::first_undefined(bytes),
+        Addressed::To(_) => protocol::first_fault(bytes),
         Addressed::Nobody => Check::Passed,
     }
 }
 
 fn check_transfer(chips: Chips, registers: Both, ram: &[u8], bytes: &[u8]) -> Check
-    ensures { λ r. ⌜ r ≡ checkTransfer 160 4 chips registers (now (ram .entry)) (now (bytes .entry)) ⌝ }
+    ensures { λ r. ⌜ r ≡ checkTransfer pcf8532 chips registers (now (ram .entry)) (now (bytes .entry)) ⌝ }
 {
     match check_state(chips, registers, ram) {
         Check::Refused(refusal) => Check::Refused(refusal),
         Check::Passed => match checks::check_length(bytes.len()) {
             Check::Refused(refusal) => Check::Refused(refusal),
-            Check::Passed => check_commands(chips, bytes),
+            Check::Passed => check_bytes(chips, bytes),
         },
     }
 }
@@ -111,7 +112,7 @@ fn check_picture(
     phase: u8,
     size: usize,
 ) -> Check
-    ensures { λ r. ⌜ r ≡ checkPicture 160 4 chips registers (now (ram .entry)) group phase size ⌝ }
+    ensures { λ r. ⌜ r ≡ checkPicture pcf8532 chips registers (now (ram .entry)) group phase size ⌝ }
 {
     match check_state(chips, registers, ram) {
         Check::Refused(refusal) => Check::Refused(refusal),
@@ -149,7 +150,7 @@ fn replaced(group: u8, after: Registers, registers: Both) -> Both
 }
 
 fn start_of(chips: Chips, group: u8) -> usize
-    ensures { λ r. ⌜ r ≡ startOf 160 chips group ⌝ }
+    ensures { λ r. ⌜ r ≡ startOf pcf8532 chips group ⌝ }
 {
     if group == 0 {
         0
@@ -159,7 +160,7 @@ fn start_of(chips: Chips, group: u8) -> usize
 }
 
 fn end_of(chips: Chips, group: u8) -> usize
-    ensures { λ r. ⌜ r ≡ endOf 160 chips group ⌝ }
+    ensures { λ r. ⌜ r ≡ endOf pcf8532 chips group ⌝ }
 {
     start_of(chips, group) + 160 * (chips_in(group, chips) as usize)
 }
@@ -168,8 +169,8 @@ fn end_of(chips: Chips, group: u8) -> usize
 
 // Power-on: the power-on registers, taken or refused by 3, 4, 5; the RAM is only read.
 pub fn power_on(chips: Chips, ram: &[u8]) -> PowerOn
-    ensures { λ r. ⌜ r ≡ powerOnCall 160 4 chips (now (ram .entry)) ⌝ }
-    ensures { λ r. ⌜ checkNumbers (r .check) ≡ checkNumbers (powerOnCall 160 4 chips (now (ram .entry)) .check) ⌝ }
+    ensures { λ r. ⌜ r ≡ powerOnCall pcf8532 chips (now (ram .entry)) ⌝ }
+    ensures { λ r. ⌜ checkNumbers (r .check) ≡ checkNumbers (powerOnCall pcf8532 chips (now (ram .entry)) .check) ⌝ }
 {
     let check = check_power_on(chips, ram);
     let registers = Both {
@@ -181,14 +182,13 @@ pub fn power_on(chips: Chips, ram: &[u8]) -> PowerOn
 
 // A transfer that passed its checks, at the group that hears it.
 fn deliver(chips: Chips, registers: Both, ram: &mut [u8], bytes: &[u8], group: u8) -> Transferred
-    requires { ⌜ (checkState 160 4 chips registers (now ram) ≡ Check.Passed) × (0 < length (now bytes)) × (length (now bytes) < 4097) ⌝ }
-    ensures { λ _. ⌜ now (ram .exit) ≡ taken 160 4 chips registers (now (ram .entry)) (now (bytes .entry)) (Addressed.To group) .ram ⌝ }
-    ensures { λ r. ⌜ r ≡ taken 160 4 chips registers (now (ram .entry)) (now (bytes .entry)) (Addressed.To group) .result ⌝ }
+    requires { ⌜ (checkState pcf8532 chips registers (now ram) ≡ Check.Passed) × (0 < length (now bytes)) × (length (now bytes) < 4097) ⌝ }
+    ensures { λ r. ⌜ record { result = r; ram = now (ram .exit) } ≡ taken pcf8532 chips registers (now (ram .entry)) (now (bytes .entry)) (Addressed.To group) ⌝ }
 {
     let start = start_of(chips, group);
     let end = end_of(chips, group);
     let before = registers_of(group, registers);
-    let heard = protocol::hear(&mut ram[start..end], before, bytes);
+    let heard = group::hear(&mut ram[start..end], before, bytes);
     let after = heard.registers;
     let counts = heard.counts;
     Transferred {
@@ -213,9 +213,8 @@ fn unheard(registers: Both) -> Transferred
 
 // A transfer, START to STOP, taken or refused by 3, 6, 4, 5, 1, 2, 7.
 pub fn transfer(chips: Chips, registers: Both, ram: &mut [u8], bytes: &[u8]) -> Transferred
-    ensures { λ _. ⌜ now (ram .exit) ≡ transferCall 160 4 chips registers (now (ram .entry)) (now (bytes .entry)) .ram ⌝ }
-    ensures { λ r. ⌜ r ≡ transferCall 160 4 chips registers (now (ram .entry)) (now (bytes .entry)) .result ⌝ }
-    ensures { λ r. ⌜ numbers (r .answer) ≡ numbers (transferCall 160 4 chips registers (now (ram .entry)) (now (bytes .entry)) .result .answer) ⌝ }
+    ensures { λ r. ⌜ record { result = r; ram = now (ram .exit) } ≡ transferCall pcf8532 chips registers (now (ram .entry)) (now (bytes .entry)) ⌝ }
+    ensures { λ r. ⌜ numbers (r .answer) ≡ numbers (transferCall pcf8532 chips registers (now (ram .entry)) (now (bytes .entry)) .result .answer) ⌝ }
 {
     match check_transfer(chips, registers, ram, bytes) {
         Check::Refused(refusal) => Transferred {
@@ -238,9 +237,8 @@ pub fn picture(
     phase: u8,
     out: &mut [u8],
 ) -> Pictured
-    ensures { λ _. ⌜ now (out .exit) ≡ pictureCall 160 4 chips registers (now (ram .entry)) group phase (now (out .entry)) .out ⌝ }
-    ensures { λ r. ⌜ r ≡ pictureCall 160 4 chips registers (now (ram .entry)) group phase (now (out .entry)) .result ⌝ }
-    ensures { λ r. ⌜ pictureNumbers r ≡ pictureNumbers (pictureCall 160 4 chips registers (now (ram .entry)) group phase (now (out .entry)) .result) ⌝ }
+    ensures { λ r. ⌜ record { result = r; out = now (out .exit) } ≡ pictureCall pcf8532 chips registers (now (ram .entry)) group phase (now (out .entry)) ⌝ }
+    ensures { λ r. ⌜ pictureNumbers r ≡ pictureNumbers (pictureCall pcf8532 chips registers (now (ram .entry)) group phase (now (out .entry)) .result) ⌝ }
 {
     match check_picture(chips, registers, ram, group, phase, out.len()) {
         Check::Refused(refusal) => Pictured::Refused(refusal),

@@ -9,6 +9,7 @@ use native.Mathlib.Omega.{arith}
 use lib.Dec.{eqb}
 use Rattle.sheet.specs.declared.Registers.{Registers}
 use Rattle.sheet.specs.declared.Shown.the-variants.{Dark, Rows}
+use Rattle.sheet.specs.Parts.{pcf8532}
 use Rattle.sheet.specs.Registers.{inRange, backplanes, bankRow}
 use Rattle.sheet.specs.Pictures.{blinked, shown, lit, pictureOf}
 use Rattle.laws.proofs.Ranges.{range-of, rows-fit}
@@ -19,7 +20,7 @@ bank-in true o h = omega arith
 bank-in false o h = h
 
 -- the rows shown are rows of a column
-pub rows-in : (r : Registers) (phase first : ℕ) → inRange 160 4 r ≡ true → shown r phase ≡ Rows first → first + backplanes r < 5
+pub rows-in : (r : Registers) (phase first : ℕ) → inRange pcf8532 r ≡ true → shown r phase ≡ Rows first → first + backplanes r < 5
 unfolding shown
 rows-in r phase first t e = go (eqb (r .e) 0 || blinked r phase && eqb (r .ab) 0) e
   where
@@ -30,7 +31,7 @@ rows-in r phase first t e = go (eqb (r .e) 0 || blinked r phase && eqb (r .ab) 0
     go true e = let z : _≡_ {A = ℕ} 0 1 = cc in omega arith
     go false e =
         let same : bankRow (backplanes r) bank ≡ first = cc in
-        let h = range-of 160 4 r t in
+        let h = range-of pcf8532 r t in
         omega (arith, rows-fit r bank (h .m-in) (bank-in (blinked r phase) (r .o) (h .o-in)) .1)
 
 -- a dark picture is one of no rows

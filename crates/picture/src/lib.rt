@@ -6,6 +6,7 @@ ghost use mathlib.Core.Bool.{cond, true};
 ghost use mathlib.Core.List.{map};
 ghost use Prim.Native.Nat.{_-_, _≤_, _<_};
 ghost use lib.ListN.{length};
+ghost use Rattle.sheet.specs.Parts.{pcf8532};
 ghost use Rattle.sheet.specs.Registers.{inRange};
 ghost use Rattle.sheet.specs.Pictures.{shown, lit, pictureOf, litIn};
 
@@ -24,8 +25,8 @@ pub fn shown(registers: Registers, phase: u8) -> Shown
     if (registers.e == 0) | (blinked & (registers.ab == 0)) {
         return Shown::Dark;
     }
-    let m = command::backplanes(registers);
-    Shown::Rows(command::bank_row(m, bank_shown(registers.o, blinked)))
+    let m = arithmetic::backplanes(registers);
+    Shown::Rows(arithmetic::bank_row(m, bank_shown(registers.o, blinked)))
 }
 
 // A column's rows from a first one on, moved down to row 0.
@@ -50,12 +51,12 @@ fn write_rows(columns: &[u8], first: usize, height: usize, out: &mut [u8])
 
 // Writes the picture, a byte a column. Dark is a picture of no rows.
 fn write(columns: &[u8], registers: Registers, phase: u8, out: &mut [u8])
-    requires { ⌜ (length (now out) ≡ length (now columns)) × (inRange 160 4 registers ≡ true) ⌝ }
+    requires { ⌜ (length (now out) ≡ length (now columns)) × (inRange pcf8532 registers ≡ true) ⌝ }
     ensures { λ _. ⌜ now (out .exit) ≡ pictureOf registers phase (now (columns .entry)) ⌝ }
 {
     match shown(registers, phase) {
         Shown::Dark => write_rows(columns, 0, 0, out),
-        Shown::Rows(first) => write_rows(columns, first, command::backplanes(registers), out),
+        Shown::Rows(first) => write_rows(columns, first, arithmetic::backplanes(registers), out),
     }
 }
 
@@ -75,7 +76,7 @@ fn count(picture: &[u8]) -> usize
 
 // The picture is written and then walked again to count what is lit.
 pub fn show(columns: &[u8], registers: Registers, phase: u8, out: &mut [u8]) -> usize
-    requires { ⌜ (length (now out) ≡ length (now columns)) × (length (now out) ≤ 1280) × (inRange 160 4 registers ≡ true) ⌝ }
+    requires { ⌜ (length (now out) ≡ length (now columns)) × (length (now out) ≤ 1280) × (inRange pcf8532 registers ≡ true) ⌝ }
     ensures { λ _. ⌜ now (out .exit) ≡ pictureOf registers phase (now (columns .entry)) ⌝ }
     ensures { λ r. ⌜ r ≡ litIn (pictureOf registers phase (now (columns .entry))) ⌝ }
 {

@@ -10,6 +10,7 @@ use lib.ListN.{length, drop, drop-of-length-le, length-map}
 use Rattle.lemmas.proofs.Lists.{next as next-of}
 use Rattle.laws.proofs.Counts.{present-le}
 use Rattle.sheet.specs.declared.Chip.{Chip}
+use Rattle.sheet.specs.Parts.{within, pcf8532}
 use Rattle.sheet.specs.Protocol.{next}
 use Rattle.sheet.specs.Plain.{Plain, plainHeard, hears, any, acknowledgesByte}
 use Rattle.plain.specs.declared.Turn.{Turn}
@@ -31,7 +32,7 @@ module _ (cs₀ : List Chip) (bytes : List ℕ) (t₀ t : Turn) (cs : List Chip)
   unfolding plainHeard
   ended l =
       let all : record { acknowledged = t .acknowledged; chips = cs } ≡ followed cs₀ bytes t₀ =
-      sym (ap (λ (l : List ℕ). plainHeard 160 4 (t .heard .address) (t .heard .expect) l (record { acknowledged = t .acknowledged; chips = cs })) (drop-of-length-le bytes l)) ∙ s .left in
+      sym (ap (λ (l : List ℕ). plainHeard pcf8532 (t .heard .address) (t .heard .expect) l (record { acknowledged = t .acknowledged; chips = cs })) (drop-of-length-le bytes l)) ∙ s .left in
       (ap (λ (p : Plain). p .acknowledged) all, ap (λ (p : Plain). p .chips) all)
 
   abbrev found : ℕ
@@ -43,9 +44,9 @@ module _ (cs₀ : List Chip) (bytes : List ℕ) (t₀ t : Turn) (cs : List Chip)
   stepped l =
       let h = t .heard in
       let i : AllIn cs = s .ready .right l in
-      let counted : any (λ c. hears (h .address) c && acknowledgesByte 160 4 (h .expect) (h .byte) c) cs ≡ ltb found (length cs₀) = asked h cs i ∙ any-first (yes (Acknowledges h)) cs ∙ ap (ltb found) (s .same) in
-      ap (λ (l : List ℕ). plainHeard 160 4 (h .address) (h .expect) l (record { acknowledged = t .acknowledged; chips = cs })) (next-of bytes (t .at) l ∙ ap (λ (x : ℕ). x ∷ drop (t .at + 1) bytes) (sym (s .ready .byte)))
-      ∙ (λ j. plainHeard 160 4 (h .address) (next (h .expect) (h .byte)) (drop (t .at + 1) bytes) (record { acknowledged = t .acknowledged + cond (counted j) 1 0; chips = all-taken h cs i j }))
+      let counted : any (λ c. hears (h .address) c && acknowledgesByte pcf8532 (h .expect) (h .byte) c) cs ≡ ltb found (length cs₀) = asked h cs i ∙ any-first (yes (Acknowledges h)) cs ∙ ap (ltb found) (s .same) in
+      ap (λ (l : List ℕ). plainHeard pcf8532 (h .address) (h .expect) l (record { acknowledged = t .acknowledged; chips = cs })) (next-of bytes (t .at) l ∙ ap (λ (x : ℕ). x ∷ drop (t .at + 1) bytes) (sym (s .ready .byte)))
+      ∙ (λ j. plainHeard pcf8532 (h .address) (next (h .expect) (h .byte)) (drop (t .at + 1) bytes) (record { acknowledged = t .acknowledged + cond (counted j) 1 0; chips = all-taken h cs i j }))
 
   pub turn-more : t .at < length bytes → Following cs₀ bytes t₀ (turnAfter bytes t found (length cs₀)) (map (taken (t .heard)) cs)
   turn-more l = record {

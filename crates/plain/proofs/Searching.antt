@@ -9,6 +9,7 @@ use lib.Dec.{T, ltb, leb·zero, leb·suc-suc}
 use lib.ListN.{length, getD, drop}
 use lib.Seq.{drop-cons, drop-length}
 use Rattle.sheet.specs.declared.Chip.{Chip}
+use Rattle.sheet.specs.Parts.{within}
 use Rattle.sheet.specs.Plain.{any}
 use Rattle.plain.specs.Asking.{firstYes}
 

@@ -7,6 +7,7 @@ use lib.ListN.{take, drop}
 use Rattle.sheet.specs.declared.Chip.{Chip}
 use Rattle.sheet.specs.declared.Refusal.the-variants.{ManyChips}
 use Rattle.sheet.specs.declared.PlainAnswer.{PlainAnswer}
+use Rattle.sheet.specs.Parts.{pcf8532}
 use Rattle.sheet.specs.Plain.{plainCall}
 use Rattle.plain.specs.declared.Bench.{Bench}
 use Rattle.plain.specs.declared.BenchTransferred.{BenchTransferred}
@@ -17,7 +18,7 @@ withFirst b cs = record { chips = cs ++ drop (b .count) (b .chips); count = b .c
 
 abbrev pub firstTransferred : Bench → List ℕ → BenchTransferred
 firstTransferred b bytes =
-    let a = plainCall 160 4 (take (b .count) (b .chips)) bytes in
+    let a = plainCall pcf8532 (take (b .count) (b .chips)) bytes in
     record { answer = a .answer; bench = withFirst b (a .chips) }
 
 abbrev pub benchTransferred : Bench → List ℕ → BenchTransferred

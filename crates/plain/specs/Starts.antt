@@ -9,8 +9,8 @@ use Rattle.sheet.specs.declared.Refusal.the-variants.{ChipField}
 use Rattle.sheet.specs.declared.Check.{Check}
 use Rattle.sheet.specs.declared.Check.the-variants.{Passed, Refused}
 use Rattle.sheet.specs.declared.PlainAnswer.{PlainAnswer}
-use Rattle.sheet.specs.Protocol.{undefinedIn}
-use Rattle.sheet.specs.Checks.{unless, orElse, checkLength, passed}
+use Rattle.sheet.specs.Parts.{pcf8532}
+use Rattle.sheet.specs.Checks.{unless, orElse, checkLength, passed, faultIn}
 use Rattle.plain.specs.declared.Turn.{Turn}
 use Rattle.plain.specs.declared.Start.{Start}
 
@@ -19,7 +19,7 @@ abbrev pub checkOf : List ℕ → ℕ → ℕ → ℕ → Check
 checkOf bytes count misfit hearer =
     orElse (unless (leb count misfit) (ChipField misfit))
     (orElse (checkLength (length bytes))
-    (cond (ltb hearer count) (undefinedIn Control 1 (drop 1 bytes)) Passed))
+    (cond (ltb hearer count) (faultIn pcf8532 Control 1 (drop 1 bytes)) Passed))
 
 -- the turn at a place after the address
 abbrev pub turnAt : List ℕ → ℕ → ℕ → Turn

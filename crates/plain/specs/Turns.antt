@@ -6,6 +6,7 @@ use mathlib.Core.List.{List, [], _∷_}
 use lib.Dec.{ltb}
 use lib.ListN.{length, getD, drop}
 use Rattle.sheet.specs.declared.Chip.{Chip}
+use Rattle.sheet.specs.Parts.{within, pcf8532}
 use Rattle.sheet.specs.Registers.{inRange}
 use Rattle.sheet.specs.Protocol.{next}
 use Rattle.sheet.specs.Plain.{Plain, plainHeard}
@@ -21,12 +22,12 @@ turnAfter bytes t found count = record {
 
 -- what the chips hold and acknowledge after the bytes from t on
 abbrev pub followed : List Chip → List ℕ → Turn → Plain
-followed cs bytes t = plainHeard 160 4 (t .heard .address) (t .heard .expect) (drop (t .at) bytes) (record { acknowledged = t .acknowledged; chips = cs })
+followed cs bytes t = plainHeard pcf8532 (t .heard .address) (t .heard .expect) (drop (t .at) bytes) (record { acknowledged = t .acknowledged; chips = cs })
 
 -- every chip's registers are in range
 abbrev pub AllIn : List Chip → Type 0
 AllIn [] = Unit {0}
-AllIn (c ∷ cs) = (inRange 160 4 (c .registers) ≡ true) × AllIn cs
+AllIn (c ∷ cs) = (inRange pcf8532 (c .registers) ≡ true) × AllIn cs
 
 -- a turn of this transfer; where a byte is left, the chips are in range
 pub record Ready (cs : List Chip) (bytes : List ℕ) (t : Turn) : Type 0 where

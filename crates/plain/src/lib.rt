@@ -12,7 +12,8 @@ ghost use Prim.Native.Nat.{_+_, _≤_, _<_, _^_};
 ghost use lib.Dec.{ltb};
 ghost use lib.ListN.{length, getD, drop};
 ghost use Rattle.sheet.specs.Refusals.{plainNumbers};
-ghost use Rattle.sheet.specs.Protocol.{undefinedIn};
+ghost use Rattle.sheet.specs.Parts.{pcf8532};
+ghost use Rattle.sheet.specs.Checks.{faultIn};
 ghost use Rattle.sheet.specs.Plain.{plainCall};
 ghost use Rattle.plain.specs.Asking.{yes, taken, firstYes};
 ghost use Rattle.plain.specs.Turns.{turnAfter, followed, Ready};
@@ -156,11 +157,11 @@ fn hail(bytes: &[u8]) -> Question
     Question::Hears(checks::byte_at(bytes, 0))
 }
 
-fn check_commands(bytes: &[u8], heard: bool) -> Check
-    ensures { λ r. ⌜ r ≡ cond heard (undefinedIn Expect.Control 1 (drop 1 (now (bytes .entry)))) Check.Passed ⌝ }
+fn check_bytes(bytes: &[u8], heard: bool) -> Check
+    ensures { λ r. ⌜ r ≡ cond heard (faultIn pcf8532 Expect.Control 1 (drop 1 (now (bytes .entry)))) Check.Passed ⌝ }
 {
     if heard {
-        protocol::first_undefined(bytes)
+        protocol::first_fault(bytes)
     } else {
         Check::Passed
     }
@@ -173,7 +174,7 @@ fn check_transfer(bytes: &[u8], count: usize, misfit: usize, hearer: usize) -> C
     if count <= misfit {
         match checks::check_length(bytes.len()) {
             Check::Refused(refusal) => Check::Refused(refusal),
-            Check::Passed => check_commands(bytes, hearer < count),
+            Check::Passed => check_bytes(bytes, hearer < count),
         }
     } else {
         Check::Refused(Refusal::ChipField(misfit))
@@ -230,8 +231,8 @@ fn answer(check: Check, acknowledged: usize) -> PlainAnswer
 // A transfer to at most eight chips.
 fn transfer_few(chips: &mut [Chip], bytes: &[u8]) -> PlainAnswer
     requires { ⌜ length (now chips) ≤ 8 ⌝ }
-    ensures { λ r. ⌜ r ≡ plainCall 160 4 (now (chips .entry)) (now (bytes .entry)) .answer ⌝ }
-    ensures { λ _. ⌜ now (chips .exit) ≡ plainCall 160 4 (now (chips .entry)) (now (bytes .entry)) .chips ⌝ }
+    ensures { λ r. ⌜ r ≡ plainCall pcf8532 (now (chips .entry)) (now (bytes .entry)) .answer ⌝ }
+    ensures { λ _. ⌜ now (chips .exit) ≡ plainCall pcf8532 (now (chips .entry)) (now (bytes .entry)) .chips ⌝ }
 {
     let misfit = first(chips, Question::Misfit);
     let hearer = first(chips, hail(bytes));
@@ -248,8 +249,8 @@ fn many_chips() -> PlainAnswer
 
 // A transfer, START to STOP, taken or refused by 10, 11, 1, 2, 7. Of more than eight chips none is looked at.
 pub fn transfer(chips: &mut [Chip], bytes: &[u8]) -> PlainAnswer
-    ensures { λ r. ⌜ (r ≡ plainCall 160 4 (now (chips .entry)) (now (bytes .entry)) .answer) × (plainNumbers r ≡ plainNumbers (plainCall 160 4 (now (chips .entry)) (now (bytes .entry)) .answer)) ⌝ }
-    ensures { λ _. ⌜ now (chips .exit) ≡ plainCall 160 4 (now (chips .entry)) (now (bytes .entry)) .chips ⌝ }
+    ensures { λ r. ⌜ (r ≡ plainCall pcf8532 (now (chips .entry)) (now (bytes .entry)) .answer) × (plainNumbers r ≡ plainNumbers (plainCall pcf8532 (now (chips .entry)) (now (bytes .entry)) .answer)) ⌝ }
+    ensures { λ _. ⌜ now (chips .exit) ≡ plainCall pcf8532 (now (chips .entry)) (now (bytes .entry)) .chips ⌝ }
 {
     if 8 < chips.len() {
         return many_chips();

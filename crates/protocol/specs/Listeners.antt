@@ -1,11 +1,20 @@
--- The code's state beside the RAM, and the group of `sheet` that the two stand for.
+-- The code's state, which has no RAM: with a RAM it stands for a group of `sheet`. What a byte that is no data, and what a run of data, make of it.
+use Prim.Native.Nat.{ℕ, _+_, _<_, _^_}
+use mathlib.Core.Path.{_≡_}
+use mathlib.Core.Bool.{Bool, true, false}
 use mathlib.Core.List.{List}
-use Prim.Native.Nat.{ℕ}
+use Rattle.sheet.specs.declared.Registers.{Registers}
+use Rattle.sheet.specs.declared.Counts.{Counts}
+use Rattle.sheet.specs.declared.Kind.{Kind}
 use Rattle.sheet.specs.declared.Expect.{Expect}
-use Rattle.sheet.specs.declared.Expect.the-variants.{Control, OneCommand, Commands, OneData, Run}
-use Rattle.sheet.specs.Long.{Group}
+use Rattle.sheet.specs.declared.Expect.the-variants.{Control, One, All}
+use Rattle.sheet.specs.Parts.{pcf8532}
+use Rattle.sheet.specs.Registers.{inRange}
+use Rattle.sheet.specs.Commands.{obeyed}
+use Rattle.sheet.specs.Protocol.{next}
+use Rattle.sheet.specs.Long.{Group, oneAcknowledged}
+use Rattle.sheet.specs.Runs.{countedBy, movedBy}
 use Rattle.protocol.specs.declared.Listener.{Listener}
-use Rattle.protocol.specs.declared.Heard.{Heard}
 
 abbrev pub groupOf : Listener → List ℕ → Group
 groupOf l ram = record { registers = l .registers; ram = ram; counts = l .counts }
@@ -13,13 +22,54 @@ groupOf l ram = record { registers = l .registers; ram = ram; counts = l .counts
 abbrev pub listenerOf : Expect → Group → Listener
 listenerOf e g = record { expect = e; registers = g .registers; counts = g .counts }
 
-abbrev pub heardOf : Group → Heard
-heardOf g = record { registers = g .registers; counts = g .counts }
+-- ---- a byte that is no data
 
--- where data of n bytes ends: a run at the end, one byte before the next byte j
+abbrev pub obeyedBy : Expect → ℕ → Registers → Registers
+obeyedBy Control x r = r
+obeyedBy (One k) x r = obeyed r (pcf8532 .command x)
+obeyedBy (All k) x r = obeyed r (pcf8532 .command x)
+
+abbrev pub stepped : Listener → ℕ → Listener
+stepped l x = record { expect = next (l .expect) x; registers = obeyedBy (l .expect) x (l .registers); counts = oneAcknowledged (l .counts) }
+
+-- ---- data
+
+-- where the data that begins with byte i of n bytes ends; at i, if that byte is no data
 abbrev pub dataEnd : Expect → ℕ → ℕ → ℕ
-dataEnd Control j n = j
-dataEnd OneCommand j n = j
-dataEnd Commands j n = j
-dataEnd OneData j n = j
-dataEnd Run j n = n
+dataEnd Control i n = i
+dataEnd (One Kind.Command) i n = i
+dataEnd (One Kind.Data) i n = i + 1
+dataEnd (All Kind.Command) i n = i
+dataEnd (All Kind.Data) i n = n
+
+-- all bytes that are left are data
+abbrev pub onlyData : Expect → Bool
+onlyData Control = false
+onlyData (One k) = false
+onlyData (All Kind.Command) = false
+onlyData (All Kind.Data) = true
+
+abbrev pub afterData : Expect → Expect
+afterData Control = Control
+afterData (One k) = Control
+afterData (All k) = All k
+
+-- a run of n data bytes, where size columns are there
+abbrev pub ran : Listener → ℕ → ℕ → Listener
+ran l n size = record { expect = afterData (l .expect); registers = movedBy pcf8532 n (l .registers); counts = countedBy pcf8532 (l .registers) n size (l .counts) }
+
+-- counts that have room for n data bytes more
+pub record Countable (t : Counts) (m n : ℕ) : Type 0 where
+  pub some : 0 < m
+  pub four : m < 5
+  pub short : n < 65536
+  pub acknowledged : t .acknowledged < 2 ^ 32
+  pub stored : t .stored < 2 ^ 32
+  pub discarded : t .discarded < 2 ^ 32
+
+pub record Runs (l : Listener) (n : ℕ) : Type 0 where
+  pub range : inRange pcf8532 (l .registers) ≡ true
+  pub short : n < 65536
+  pub acknowledged : l .counts .acknowledged < 2 ^ 32
+  pub stored : l .counts .stored < 2 ^ 32
+  pub discarded : l .counts .discarded < 2 ^ 32

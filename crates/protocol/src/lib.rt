@@ -1,38 +1,43 @@
-// The bytes of a transfer after its address, as one group hears them.
+// The bytes of a transfer after its address, as one group follows them: position, registers and counts, by value and without the RAM.
 use sheet::Check;
 use sheet::Counts;
 use sheet::Expect;
+use sheet::Kind;
 use sheet::Refusal;
 use sheet::Registers;
 ghost use mathlib.Core.Path.{_≡_};
-ghost use mathlib.Core.Bool.{true, _&&_, not};
 ghost use mathlib.Core.List.{[]};
-ghost use Prim.Native.Nat.{_+_, _≤_, _<_, _^_};
-ghost use lib.ListN.{length, drop};
-ghost use Rattle.sheet.specs.Registers.{inRange};
-ghost use Rattle.sheet.specs.Commands.{commandOf, defined};
-ghost use Rattle.sheet.specs.Protocol.{controlOf, next, isCommand, undefinedIn};
-ghost use Rattle.sheet.specs.Checks.{overIn};
-ghost use Rattle.sheet.specs.Long.{oneAcknowledged, begun, control, command, heard};
-ghost use Rattle.sheet.specs.Places.{atPosition};
-ghost use Rattle.protocol.specs.Listeners.{groupOf, listenerOf, dataEnd, heardOf};
+ghost use Prim.Native.Nat.{_<_, _^_};
+ghost use lib.ListN.{drop};
+ghost use Rattle.sheet.specs.Parts.{pcf8532};
+ghost use Rattle.sheet.specs.Protocol.{kindOf, controlOf, next};
+ghost use Rattle.sheet.specs.Checks.{faultOf, fault, faultIn};
+ghost use Rattle.sheet.specs.Long.{oneAcknowledged, begun};
+ghost use Rattle.sheet.specs.Runs.{countedRun};
+ghost use Rattle.protocol.specs.Listeners.{listenerOf, obeyedBy, dataEnd, onlyData, afterData, stepped, ran, Countable, Runs};
 
-// What follows a control byte.
+// ---- what a byte is
+
+// The kind of what follows a control byte: its RS.
+fn kind_of(byte: u8) -> Kind
+    ensures { λ r. ⌜ r ≡ kindOf byte ⌝ }
+{
+    if byte / 64 % 2 == 1 {
+        Kind::Data
+    } else {
+        Kind::Command
+    }
+}
+
+// What follows a control byte, by its Co.
 fn after_control(byte: u8) -> Expect
     ensures { λ r. ⌜ r ≡ controlOf byte ⌝ }
 {
+    let kind = kind_of(byte);
     if byte / 128 % 2 == 1 {
-        if byte / 64 % 2 == 1 {
-            Expect::OneData
-        } else {
-            Expect::OneCommand
-        }
+        Expect::One(kind)
     } else {
-        if byte / 64 % 2 == 1 {
-            Expect::Run
-        } else {
-            Expect::Commands
-        }
+        Expect::All(kind)
     }
 }
 
@@ -42,38 +47,60 @@ pub fn follow(expect: Expect, byte: u8) -> Expect
 {
     match expect {
         Expect::Control => after_control(byte),
-        Expect::OneCommand => Expect::Control,
-        Expect::Commands => Expect::Commands,
-        Expect::OneData => Expect::Control,
-        Expect::Run => Expect::Run,
+        Expect::One(_) => Expect::Control,
+        Expect::All(kind) => Expect::All(kind),
     }
 }
 
-fn is_undefined(expect: Expect, byte: u8) -> bool
-    ensures { λ r. ⌜ r ≡ (isCommand expect && not (defined (commandOf byte))) ⌝ }
+// ---- the first fault
+
+// The fault of a byte of a kind, at place i.
+fn fault_of(kind: Kind, i: usize, byte: u8) -> Check
+    ensures { λ r. ⌜ r ≡ faultOf pcf8532 kind i byte ⌝ }
+{
+    match kind {
+        Kind::Command => checks::unless(command::is_defined(byte), Refusal::UndefinedCommand(i)),
+        Kind::Data => Check::Passed,
+    }
+}
+
+fn fault(expect: Expect, i: usize, byte: u8) -> Check
+    ensures { λ r. ⌜ r ≡ fault pcf8532 expect i byte ⌝ }
 {
     match expect {
-        Expect::OneCommand => !command::is_defined(byte),
-        Expect::Commands => !command::is_defined(byte),
-        Expect::Control => false,
-        Expect::OneData => false,
-        Expect::Run => false,
+        Expect::Control => Check::Passed,
+        Expect::One(kind) => fault_of(kind, i, byte),
+        Expect::All(kind) => fault_of(kind, i, byte),
     }
 }
 
-// The first undefined command after the address byte. Nothing is changed.
-pub fn first_undefined(bytes: &[u8]) -> Check
-    ensures { λ r. ⌜ r ≡ undefinedIn Expect.Control 1 (drop 1 (now (bytes .entry))) ⌝ }
+// Whether all bytes that are left are data, in which there is no fault.
+fn only_data(expect: Expect) -> bool
+    ensures { λ r. ⌜ r ≡ onlyData expect ⌝ }
+{
+    match expect {
+        Expect::Control => false,
+        Expect::One(_) => false,
+        Expect::All(kind) => match kind {
+            Kind::Command => false,
+            Kind::Data => true,
+        },
+    }
+}
+
+// The first fault after the address byte. Nothing is changed.
+pub fn first_fault(bytes: &[u8]) -> Check
+    ensures { λ r. ⌜ r ≡ faultIn pcf8532 Expect.Control 1 (drop 1 (now (bytes .entry))) ⌝ }
 {
     let mut expect = Expect::Control;
     let mut i: usize = 1;
     while i < bytes.len() {
         let byte = bytes[i];
-        if is_undefined(expect, byte) {
-            return Check::Refused(Refusal::UndefinedCommand(i));
+        if let Check::Refused(refusal) = fault(expect, i, byte) {
+            return Check::Refused(refusal);
         }
         expect = follow(expect, byte);
-        if let Expect::Run = expect {
+        if only_data(expect) {
             return Check::Passed;
         }
         i += 1;
@@ -81,20 +108,7 @@ pub fn first_undefined(bytes: &[u8]) -> Check
     Check::Passed
 }
 
-// The registers at a position.
-fn moved(mut registers: Registers, v: usize) -> Registers
-    ensures { λ r. ⌜ r ≡ atPosition 160 4 registers v ⌝ }
-{
-    let a = v / 160;
-    registers.p = v % 160;
-    if a < 4 {
-        registers.a = a;
-        registers
-    } else {
-        registers.a = 4;
-        registers
-    }
-}
+// ---- a group that listens
 
 // The protocol position, with the registers and the counts.
 pub struct Listener {
@@ -103,17 +117,8 @@ pub struct Listener {
     pub counts: Counts,
 }
 
-// One byte more is acknowledged.
-fn acknowledged(mut counts: Counts) -> Counts
-    requires { ⌜ counts .acknowledged < 2 ^ 32 ⌝ }
-    ensures { λ r. ⌜ r ≡ oneAcknowledged counts ⌝ }
-{
-    counts.acknowledged += 1;
-    counts
-}
-
 // After the address byte.
-fn begun(registers: Registers) -> Listener
+pub fn begun(registers: Registers) -> Listener
     ensures { λ r. ⌜ r ≡ listenerOf Expect.Control (begun registers []) ⌝ }
 {
     Listener {
@@ -127,111 +132,110 @@ fn begun(registers: Registers) -> Listener
     }
 }
 
-// Where data of n bytes ends: a run at the end, one byte before the next.
-fn data_end(expect: Expect, next: usize, n: usize) -> usize
-    ensures { λ r. ⌜ r ≡ dataEnd expect next n ⌝ }
+// Where the data that begins with byte i of n bytes ends: at i, if that byte is no data.
+pub fn data_end(expect: Expect, i: usize, n: usize) -> usize
+    requires { ⌜ i < n ⌝ }
+    ensures { λ r. ⌜ r ≡ dataEnd expect i n ⌝ }
 {
     match expect {
-        Expect::Run => n,
-        Expect::OneData => next,
-        Expect::Control => next,
-        Expect::OneCommand => next,
-        Expect::Commands => next,
+        Expect::Control => i,
+        Expect::One(kind) => match kind {
+            Kind::Command => i,
+            Kind::Data => i + 1,
+        },
+        Expect::All(kind) => match kind {
+            Kind::Command => i,
+            Kind::Data => n,
+        },
+    }
+}
+
+// What follows data.
+fn after_data(expect: Expect) -> Expect
+    ensures { λ r. ⌜ r ≡ afterData expect ⌝ }
+{
+    match expect {
+        Expect::Control => Expect::Control,
+        Expect::One(_) => Expect::Control,
+        Expect::All(kind) => Expect::All(kind),
+    }
+}
+
+// One byte more is acknowledged.
+fn acknowledged(mut counts: Counts) -> Counts
+    requires { ⌜ counts .acknowledged < 2 ^ 32 ⌝ }
+    ensures { λ r. ⌜ r ≡ oneAcknowledged counts ⌝ }
+{
+    counts.acknowledged += 1;
+    counts
+}
+
+// The registers after a byte that is no data: a command is obeyed.
+fn obeyed_by(expect: Expect, byte: u8, registers: Registers) -> Registers
+    ensures { λ r. ⌜ r ≡ obeyedBy expect byte registers ⌝ }
+{
+    match expect {
+        Expect::Control => registers,
+        Expect::One(_) => command::obey(registers, byte),
+        Expect::All(_) => command::obey(registers, byte),
+    }
+}
+
+// What n data bytes from column v on count. A byte is acknowledged if all its columns are there; of the first that is cut the columns left are stored.
+fn counted(counts: Counts, v: usize, size: usize, m: usize, n: usize) -> Counts
+    requires { ⌜ Countable counts m n ⌝ }
+    ensures { λ r. ⌜ r ≡ countedRun n m v size counts ⌝ }
+{
+    let w = arithmetic::width(m);
+    let left = arithmetic::columns_from(v, size);
+    let whole = left / w;
+    if n <= whole {
+        Counts {
+            acknowledged: counts.acknowledged + n,
+            stored: counts.stored + 8 * n,
+            discarded: counts.discarded,
+        }
+    } else {
+        let stored = 8 * whole + m * (left % w);
+        Counts {
+            acknowledged: counts.acknowledged + whole,
+            stored: counts.stored + stored,
+            discarded: counts.discarded + (8 * n - stored),
+        }
     }
 }
 
 impl Listener {
-    // After a control byte.
-    fn control(self, byte: u8) -> Listener
+    // After a byte that is no data: a control byte, or a command.
+    pub fn step(self, byte: u8) -> Listener
         requires { ⌜ self .counts .acknowledged < 2 ^ 32 ⌝ }
-        ensures { λ r. ⌜ r ≡ listenerOf (controlOf byte) (control (groupOf self [])) ⌝ }
+        ensures { λ r. ⌜ r ≡ stepped self byte ⌝ }
     {
+        let expect = self.expect;
         let registers = self.registers;
         let counts = self.counts;
         Listener {
-            expect: after_control(byte),
-            registers,
+            expect: follow(expect, byte),
+            registers: obeyed_by(expect, byte, registers),
             counts: acknowledged(counts),
         }
     }
 
-    // After a command byte, with what follows it.
-    fn command(self, then: Expect, byte: u8) -> Listener
-        requires { ⌜ self .counts .acknowledged < 2 ^ 32 ⌝ }
-        ensures { λ r. ⌜ r ≡ listenerOf then (command byte (groupOf self [])) ⌝ }
+    // After a run of n data bytes, `size` columns being there.
+    pub fn run(self, n: usize, size: usize) -> Listener
+        requires { ⌜ Runs self n ⌝ }
+        ensures { λ r. ⌜ r ≡ ran self n size ⌝ }
     {
+        let expect = self.expect;
         let registers = self.registers;
         let counts = self.counts;
+        let m = arithmetic::backplanes(registers);
+        let v = arithmetic::position(registers);
+        let after = v + arithmetic::width(m) * n;
         Listener {
-            expect: then,
-            registers: command::obey(registers, byte),
-            counts: acknowledged(counts),
+            expect: after_data(expect),
+            registers: arithmetic::at_position(registers, after),
+            counts: counted(counts, v, size, m, n),
         }
-    }
-
-    // After a run of data bytes, with what follows it.
-    fn data(self, then: Expect, ram: &mut [u8], run: &[u8]) -> Listener
-        requires { ⌜ (inRange 160 4 (self .registers) ≡ true) × (length (now ram) ≤ 640) × (length (now run) < 65536) × (self .counts .acknowledged < 2 ^ 32) × (self .counts .stored < 2 ^ 32) × (self .counts .discarded < 2 ^ 32) × (overIn 0 (now ram) ≡ Check.Passed) ⌝ }
-        ensures { λ _. ⌜ now (ram .exit) ≡ heard 160 4 Expect.Run (now (run .entry)) (groupOf self (now (ram .entry))) .ram ⌝ }
-        ensures { λ r. ⌜ r ≡ listenerOf then (heard 160 4 Expect.Run (now (run .entry)) (groupOf self (now (ram .entry)))) ⌝ }
-    {
-        let registers = self.registers;
-        let counts = self.counts;
-        let m = command::backplanes(registers);
-        let v = 160 * registers.a + registers.p;
-        let after = v + (7 / m + 1) * run.len();
-        let counted = ram::run(ram, v, m, registers.i, run, counts);
-        Listener {
-            expect: then,
-            registers: moved(registers, after),
-            counts: counted,
-        }
-    }
-}
-
-// A group after a transfer.
-pub struct Heard {
-    pub registers: Registers,
-    pub counts: Counts,
-}
-
-// What a group makes of a transfer that is for it. Data is handed on as a part of the bytes, from one place, so that the call is inlined.
-pub fn hear(ram: &mut [u8], registers: Registers, bytes: &[u8]) -> Heard
-    requires { ⌜ (inRange 160 4 registers ≡ true) × (length (now ram) ≤ 640) × (0 < length (now bytes)) × (length (now bytes) < 4097) × (overIn 0 (now ram) ≡ Check.Passed) ⌝ }
-    ensures { λ _. ⌜ now (ram .exit) ≡ heard 160 4 Expect.Control (drop 1 (now (bytes .entry))) (begun registers (now (ram .entry))) .ram ⌝ }
-    ensures { λ r. ⌜ r ≡ heardOf (heard 160 4 Expect.Control (drop 1 (now (bytes .entry))) (begun registers (now (ram .entry)))) ⌝ }
-{
-    let n = bytes.len();
-    let mut listener = begun(registers);
-    let mut i: usize = 1;
-    while i < n {
-        let expect = listener.expect;
-        let next = i + 1;
-        match expect {
-            Expect::Control => {
-                listener = listener.control(bytes[i]);
-                i = next;
-            }
-            Expect::OneCommand => {
-                listener = listener.command(Expect::Control, bytes[i]);
-                i = next;
-            }
-            Expect::Commands => {
-                listener = listener.command(Expect::Commands, bytes[i]);
-                i = next;
-            }
-            _ => {
-                let then = follow(expect, bytes[i]);
-                let end = data_end(expect, next, n);
-                listener = listener.data(then, ram, &bytes[i..end]);
-                i = end;
-            }
-        }
-    }
-    let after = listener.registers;
-    let counts = listener.counts;
-    Heard {
-        registers: after,
-        counts,
     }
 }

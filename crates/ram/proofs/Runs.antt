@@ -10,7 +10,8 @@ use lib.ListN.{length, getD, take}
 use lib.Seq.{take-suc, take-all, length-take-le}
 use Rattle.sheet.specs.declared.Check.the-variants.{Passed}
 use Rattle.sheet.specs.Checks.{overIn}
-use Rattle.sheet.specs.Data.{putBits, putRun, widthOf}
+use Rattle.sheet.specs.Data.{putBits, widthOf}
+use Rattle.sheet.specs.Runs.{putRun}
 use Rattle.laws.proofs.Runs.{length-bits, length-run, run-past}
 use Rattle.laws.proofs.Nibbles.{Nibbles, nibbles-of, run-nibbles}
 

@@ -1,6 +1,6 @@
 -- Demand 3, stated: "Chips 0 upwards of one slave address, powered on together, followed one by one, hold, acknowledge and show after any
--- sequence of accepted transfers what one long RAM does." Proved in `agreement` for any column count C and subaddress limit L
--- within which the PCF8532's commands keep P and A (`Keeps`), which is shown for 160 and 4; of other commands nothing is said.
+-- sequence of accepted transfers what one long RAM does." Proved in `agreement` for any part K
+-- with a column whose commands keep P and A (`Keeps`); that the PCF8532's do is shown there too.
 use Prim.Native.Nat.{ℕ, zero, suc, _+_, _*_, _<_}
 use mathlib.Core.Path.{_≡_}
 use mathlib.Core.Bool.{true, cond}
@@ -15,8 +15,9 @@ use Rattle.sheet.specs.declared.Check.the-variants.{Passed}
 use Rattle.sheet.specs.declared.Answer.{Answer}
 use Rattle.sheet.specs.declared.PlainAnswer.{PlainAnswer}
 use Rattle.sheet.specs.declared.Pictured.{Pictured}
+use Rattle.sheet.specs.Parts.{Part}
 use Rattle.sheet.specs.Registers.{inRange}
-use Rattle.sheet.specs.Commands.{commandOf, obeyed}
+use Rattle.sheet.specs.Commands.{obeyed}
 use Rattle.sheet.specs.Protocol.{chipsIn}
 use Rattle.sheet.specs.Checks.{checkState}
 use Rattle.sheet.specs.Pictures.{Seen}
@@ -25,19 +26,19 @@ use Rattle.sheet.specs.Plain.{chipPowerOn, chipPictureCall, plainCall}
 
 -- ---- the chips of a long state
 
--- the next n chips of group g, from subaddress i on: each has the next C columns, and all have the group's registers
-unfoldable pub groupChips : ℕ → ℕ → ℕ → ℕ → Registers → List ℕ → List Chip
-groupChips C zero g i r columns = []
-groupChips C (suc n) g i r columns =
-    record { columns = take C columns; sa0 = g; subaddress = i; registers = r } ∷ groupChips C n g (suc i) r (drop C columns)
+-- the next n chips of group g, from subaddress i on: each has the next columns of a chip, and all have the group's registers
+unfoldable pub groupChips : Part → ℕ → ℕ → ℕ → Registers → List ℕ → List Chip
+groupChips K zero g i r columns = []
+groupChips K (suc n) g i r columns =
+    record { columns = take (K .columns) columns; sa0 = g; subaddress = i; registers = r } ∷ groupChips K n g (suc i) r (drop (K .columns) columns)
 
 -- the chips of group g
-abbrev pub groupOf : ℕ → ℕ → Chips → State → List Chip
-groupOf C g n s = groupChips C (chipsIn g n) g 0 (registersOf g (s .registers)) (drop (startOf C n g) (s .ram))
+abbrev pub groupOf : Part → ℕ → Chips → State → List Chip
+groupOf K g n s = groupChips K (chipsIn g n) g 0 (registersOf g (s .registers)) (drop (startOf K n g) (s .ram))
 
 -- both groups' chips in order
-abbrev pub chipsOf : ℕ → Chips → State → List Chip
-chipsOf C n s = groupOf C 0 n s ++ groupOf C 1 n s
+abbrev pub chipsOf : Part → Chips → State → List Chip
+chipsOf K n s = groupOf K 0 n s ++ groupOf K 1 n s
 
 -- ---- what the two accounts make of one transfer
 
@@ -46,55 +47,55 @@ abbrev pub plainly : Answer → PlainAnswer
 plainly (Answer.Taken t) = PlainAnswer.Acknowledged (t .acknowledged)
 plainly (Answer.Refused r) = PlainAnswer.Refused r
 
-abbrev pub answerTo : ℕ → ℕ → Chips → State → List ℕ → PlainAnswer
-answerTo C L n s bytes = plainly (transferCall C L n (s .registers) (s .ram) bytes .result .answer)
+abbrev pub answerTo : Part → Chips → State → List ℕ → PlainAnswer
+answerTo K n s bytes = plainly (transferCall K n (s .registers) (s .ram) bytes .result .answer)
 
 -- ---- and of a sequence
 
-unfoldable pub longAnswers : ℕ → ℕ → Chips → State → List (List ℕ) → List PlainAnswer
-longAnswers C L n s [] = []
-longAnswers C L n s (t ∷ ts) = answerTo C L n s t ∷ longAnswers C L n (stateAfter C L n s t) ts
+unfoldable pub longAnswers : Part → Chips → State → List (List ℕ) → List PlainAnswer
+longAnswers K n s [] = []
+longAnswers K n s (t ∷ ts) = answerTo K n s t ∷ longAnswers K n (stateAfter K n s t) ts
 
-unfoldable pub plainAll : ℕ → ℕ → List Chip → List (List ℕ) → List Chip
-plainAll C L cs [] = cs
-plainAll C L cs (t ∷ ts) = plainAll C L (plainCall C L cs t .chips) ts
+unfoldable pub plainAll : Part → List Chip → List (List ℕ) → List Chip
+plainAll K cs [] = cs
+plainAll K cs (t ∷ ts) = plainAll K (plainCall K cs t .chips) ts
 
-unfoldable pub plainAnswers : ℕ → ℕ → List Chip → List (List ℕ) → List PlainAnswer
-plainAnswers C L cs [] = []
-plainAnswers C L cs (t ∷ ts) = plainCall C L cs t .answer ∷ plainAnswers C L (plainCall C L cs t .chips) ts
+unfoldable pub plainAnswers : Part → List Chip → List (List ℕ) → List PlainAnswer
+plainAnswers K cs [] = []
+plainAnswers K cs (t ∷ ts) = plainCall K cs t .answer ∷ plainAnswers K (plainCall K cs t .chips) ts
 
 -- ---- the claims
 
 -- a state that no call refuses
-abbrev pub Valid : ℕ → ℕ → Chips → State → Type 0
-Valid C L n s = checkState C L n (s .registers) (s .ram) ≡ Passed
+abbrev pub Valid : Part → Chips → State → Type 0
+Valid K n s = checkState K n (s .registers) (s .ram) ≡ Passed
 
--- what is asked of the commands: P stays below C and A at most L
-abbrev pub Keeps : ℕ → ℕ → Type 0
-Keeps C L = (r : Registers) (x : ℕ) → inRange C L r ≡ true → inRange C L (obeyed r (commandOf x)) ≡ true
+-- what is asked of the commands: P stays below the columns and A at most at the limit
+abbrev pub Keeps : Part → Type 0
+Keeps K = (r : Registers) (x : ℕ) → inRange K r ≡ true → inRange K (obeyed r (K .command x)) ≡ true
 
 -- hold and acknowledge: one transfer
-pub record Agrees (C L : ℕ) (n : Chips) (s : State) (bytes : List ℕ) : Type 0 where
-  pub hold : plainCall C L (chipsOf C n s) bytes .chips ≡ chipsOf C n (stateAfter C L n s bytes)
-  pub acknowledge : plainCall C L (chipsOf C n s) bytes .answer ≡ answerTo C L n s bytes
-  pub valid : Valid C L n (stateAfter C L n s bytes)
+pub record Agrees (K : Part) (n : Chips) (s : State) (bytes : List ℕ) : Type 0 where
+  pub hold : plainCall K (chipsOf K n s) bytes .chips ≡ chipsOf K n (stateAfter K n s bytes)
+  pub acknowledge : plainCall K (chipsOf K n s) bytes .answer ≡ answerTo K n s bytes
+  pub valid : Valid K n (stateAfter K n s bytes)
 
--- each chip shown alone, into a buffer of C bytes
-abbrev pub chipSeen : ℕ → ℕ → ℕ → Chip → Seen
-chipSeen C L phase c = chipPictureCall C L c phase (replicate C 0)
+-- each chip shown alone, into a buffer of a byte a column
+abbrev pub chipSeen : Part → ℕ → Chip → Seen
+chipSeen K phase c = chipPictureCall K c phase (replicate (K .columns) 0)
 
-abbrev pub chipPictures : ℕ → ℕ → ℕ → List Chip → List ℕ
-chipPictures C L phase [] = []
-chipPictures C L phase (c ∷ cs) = chipSeen C L phase c .out ++ chipPictures C L phase cs
+abbrev pub chipPictures : Part → ℕ → List Chip → List ℕ
+chipPictures K phase [] = []
+chipPictures K phase (c ∷ cs) = chipSeen K phase c .out ++ chipPictures K phase cs
 
 -- a picture that is refused has no lit elements
 abbrev pub litOf : Pictured → ℕ
 litOf (Pictured.Lit k) = k
 litOf (Pictured.Refused r) = 0
 
-abbrev pub chipsLit : ℕ → ℕ → ℕ → List Chip → ℕ
-chipsLit C L phase [] = 0
-chipsLit C L phase (c ∷ cs) = litOf (chipSeen C L phase c .result) + chipsLit C L phase cs
+abbrev pub chipsLit : Part → ℕ → List Chip → ℕ
+chipsLit K phase [] = 0
+chipsLit K phase (c ∷ cs) = litOf (chipSeen K phase c .result) + chipsLit K phase cs
 
 -- the chips of a list that have slave address bit g
 abbrev pub withAddress : ℕ → List Chip → List Chip
@@ -102,28 +103,28 @@ withAddress g [] = []
 withAddress g (c ∷ cs) = cond (eqb (c .sa0) g) (c ∷ withAddress g cs) (withAddress g cs)
 
 -- show: the picture of group g is its chips' one after the other, and their lit elements add up
-pub record Shows (C L : ℕ) (n : Chips) (s : State) (cs : List Chip) (g phase : ℕ) (out : List ℕ) : Type 0 where
-  pub picture : pictureCall C L n (s .registers) (s .ram) g phase out .out ≡ chipPictures C L phase (withAddress g cs)
-  pub lit : pictureCall C L n (s .registers) (s .ram) g phase out .result ≡ Pictured.Lit (chipsLit C L phase (withAddress g cs))
+pub record Shows (K : Part) (n : Chips) (s : State) (cs : List Chip) (g phase : ℕ) (out : List ℕ) : Type 0 where
+  pub picture : pictureCall K n (s .registers) (s .ram) g phase out .out ≡ chipPictures K phase (withAddress g cs)
+  pub lit : pictureCall K n (s .registers) (s .ram) g phase out .result ≡ Pictured.Lit (chipsLit K phase (withAddress g cs))
 
 -- hold, acknowledge and show: chips cs and state s, after any sequence of transfers
-pub record AgreesAll (C L : ℕ) (n : Chips) (s : State) (cs : List Chip) (ts : List (List ℕ)) : Type 0 where
-  pub hold : plainAll C L cs ts ≡ chipsOf C n (stateAfterAll C L n s ts)
-  pub acknowledge : plainAnswers C L cs ts ≡ longAnswers C L n s ts
-  pub show : (g phase : ℕ) (out : List ℕ) → g < 2 → phase < 2 → length out ≡ C * chipsIn g n → Shows C L n (stateAfterAll C L n s ts) (plainAll C L cs ts) g phase out
-  pub valid : Valid C L n (stateAfterAll C L n s ts)
+pub record AgreesAll (K : Part) (n : Chips) (s : State) (cs : List Chip) (ts : List (List ℕ)) : Type 0 where
+  pub hold : plainAll K cs ts ≡ chipsOf K n (stateAfterAll K n s ts)
+  pub acknowledge : plainAnswers K cs ts ≡ longAnswers K n s ts
+  pub show : (g phase : ℕ) (out : List ℕ) → g < 2 → phase < 2 → length out ≡ K .columns * chipsIn g n → Shows K n (stateAfterAll K n s ts) (plainAll K cs ts) g phase out
+  pub valid : Valid K n (stateAfterAll K n s ts)
 
 -- chips with any registers, each powered on by itself
-abbrev pub poweredOn : ℕ → ℕ → List Chip → List Chip
-poweredOn C L cs = map (λ c. chipPowerOn C L c .chip) cs
+abbrev pub poweredOn : Part → List Chip → List Chip
+poweredOn K cs = map (λ c. chipPowerOn K c .chip) cs
 
 -- the demand: from any valid state, and from power-on
-pub record Demand3 (C L : ℕ) : Type 1 where
-  pub transfer : (n : Chips) (s : State) (bytes : List ℕ) → Valid C L n s → Agrees C L n s bytes
-  pub sequence : (n : Chips) (s : State) (ts : List (List ℕ)) → Valid C L n s → AgreesAll C L n s (chipsOf C n s) ts
-  pub powered-on : (n : Chips) (r : Both) (ram : List ℕ) (ts : List (List ℕ)) → powerOnCall C L n ram .check ≡ Passed
-      → AgreesAll C L n (stateOf (powerOnCall C L n ram .registers) ram) (poweredOn C L (chipsOf C n (stateOf r ram))) ts
+pub record Demand3 (K : Part) : Type 1 where
+  pub transfer : (n : Chips) (s : State) (bytes : List ℕ) → Valid K n s → Agrees K n s bytes
+  pub sequence : (n : Chips) (s : State) (ts : List (List ℕ)) → Valid K n s → AgreesAll K n s (chipsOf K n s) ts
+  pub powered-on : (n : Chips) (r : Both) (ram : List ℕ) (ts : List (List ℕ)) → powerOnCall K n ram .check ≡ Passed
+      → AgreesAll K n (stateOf (powerOnCall K n ram .registers) ram) (poweredOn K (chipsOf K n (stateOf r ram))) ts
 
--- wherever the commands keep the ranges
+-- of any part with a column, wherever its commands keep the ranges. A state with more chips than the limit is not valid
 abbrev pub Claim : Type 1
-Claim = (C L : ℕ) → 0 < C → Keeps C L → Demand3 C L
+Claim = (K : Part) → 0 < K .columns → Keeps K → Demand3 K

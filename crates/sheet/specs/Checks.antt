@@ -8,13 +8,17 @@ use Rattle.sheet.specs.declared.Both.{Both}
 use Rattle.sheet.specs.declared.Chips.{Chips}
 use Rattle.sheet.specs.declared.Addressed.{Addressed}
 use Rattle.sheet.specs.declared.Addressed.the-variants.{To, Nobody}
-use Rattle.sheet.specs.declared.Expect.the-variants.{Control}
+use Rattle.sheet.specs.declared.Kind.{Kind}
+use Rattle.sheet.specs.declared.Expect.{Expect}
+use Rattle.sheet.specs.declared.Expect.the-variants.{Control, One, All}
 use Rattle.sheet.specs.declared.Refusal.{Refusal}
-use Rattle.sheet.specs.declared.Refusal.the-variants.{EmptyTransfer, LongTransfer, ChipCount, RamLength, RamByte, Register, GroupOrPhase, PictureLength}
+use Rattle.sheet.specs.declared.Refusal.the-variants.{EmptyTransfer, LongTransfer, ChipCount, RamLength, RamByte, Register, UndefinedCommand, GroupOrPhase, PictureLength}
 use Rattle.sheet.specs.declared.Check.{Check}
 use Rattle.sheet.specs.declared.Check.the-variants.{Passed, Refused}
+use Rattle.sheet.specs.Parts.{Part}
 use Rattle.sheet.specs.Registers.{inRange}
-use Rattle.sheet.specs.Protocol.{heardBy, chipsIn, undefinedIn}
+use Rattle.sheet.specs.Commands.{defined}
+use Rattle.sheet.specs.Protocol.{heardBy, chipsIn, next}
 
 -- ---- one check
 
@@ -31,12 +35,12 @@ passed Passed = Bool.true
 passed (Refused r) = Bool.false
 
 -- 3
-unfoldable pub checkChips : ℕ → Chips → Check
-checkChips L n = unless (leb (n .zero) L && leb (n .one) L) ChipCount
+unfoldable pub checkChips : Part → Chips → Check
+checkChips K n = unless (leb (n .zero) (K .limit) && leb (n .one) (K .limit)) ChipCount
 
 -- 6, of either group, also of one with no chip
-unfoldable pub checkRegisters : ℕ → ℕ → Both → Check
-checkRegisters C L r = unless (inRange C L (r .zero) && inRange C L (r .one)) Register
+unfoldable pub checkRegisters : Part → Both → Check
+checkRegisters K r = unless (inRange K (r .zero) && inRange K (r .one)) Register
 
 -- the first column over 15, counted from i
 unfoldable pub overIn : ℕ → List ℕ → Check
@@ -44,35 +48,50 @@ overIn i [] = Passed
 overIn i (q ∷ qs) = cond (ltb 15 q) (Refused (RamByte i)) (overIn (suc i) qs)
 
 -- 4, 5
-unfoldable pub checkRam : ℕ → Chips → List ℕ → Check
-checkRam C n ram = orElse (unless (eqb (length ram) (C * (n .zero + n .one))) RamLength) (overIn 0 ram)
+unfoldable pub checkRam : Part → Chips → List ℕ → Check
+checkRam K n ram = orElse (unless (eqb (length ram) (K .columns * (n .zero + n .one))) RamLength) (overIn 0 ram)
 
 -- 1, 2
 unfoldable pub checkLength : ℕ → Check
 checkLength size = orElse (unless (ltb 0 size) EmptyTransfer) (unless (leb size 4096) LongTransfer)
 
+-- the fault of byte x at place i, by what it is: a command that is none
+abbrev pub faultOf : Part → Kind → ℕ → ℕ → Check
+faultOf K Kind.Command i x = unless (defined (K .command x)) (UndefinedCommand i)
+faultOf K Kind.Data i x = Passed
+
+abbrev pub fault : Part → Expect → ℕ → ℕ → Check
+fault K Control i x = Passed
+fault K (One k) i x = faultOf K k i x
+fault K (All k) i x = faultOf K k i x
+
+-- the first fault of the bytes from place i on
+unfoldable pub faultIn : Part → Expect → ℕ → List ℕ → Check
+faultIn K e i [] = Passed
+faultIn K e i (x ∷ xs) = orElse (fault K e i x) (faultIn K (next e x) (suc i) xs)
+
 -- 7: only a transfer that a chip hears is looked at
-abbrev pub checkCommands : Addressed → List ℕ → Check
-checkCommands (To g) bytes = undefinedIn Control 1 (drop 1 bytes)
-checkCommands Nobody bytes = Passed
+abbrev pub checkBytes : Part → Addressed → List ℕ → Check
+checkBytes K (To g) bytes = faultIn K Control 1 (drop 1 bytes)
+checkBytes K Nobody bytes = Passed
 
 -- ---- the calls of the long account
 
 -- 3, 6, 4, 5
-unfoldable pub checkState : ℕ → ℕ → Chips → Both → List ℕ → Check
-checkState C L n r ram = orElse (checkChips L n) (orElse (checkRegisters C L r) (checkRam C n ram))
+unfoldable pub checkState : Part → Chips → Both → List ℕ → Check
+checkState K n r ram = orElse (checkChips K n) (orElse (checkRegisters K r) (checkRam K n ram))
 
 -- power-on: 3, 4, 5
-unfoldable pub checkPowerOn : ℕ → ℕ → Chips → List ℕ → Check
-checkPowerOn C L n ram = orElse (checkChips L n) (checkRam C n ram)
+unfoldable pub checkPowerOn : Part → Chips → List ℕ → Check
+checkPowerOn K n ram = orElse (checkChips K n) (checkRam K n ram)
 
 -- transfer: 3, 6, 4, 5, 1, 2, 7
-unfoldable pub checkTransfer : ℕ → ℕ → Chips → Both → List ℕ → List ℕ → Check
-checkTransfer C L n r ram bytes =
-    orElse (checkState C L n r ram) (orElse (checkLength (length bytes)) (checkCommands (heardBy n (getD bytes 0 0)) bytes))
+unfoldable pub checkTransfer : Part → Chips → Both → List ℕ → List ℕ → Check
+checkTransfer K n r ram bytes =
+    orElse (checkState K n r ram) (orElse (checkLength (length bytes)) (checkBytes K (heardBy n (getD bytes 0 0)) bytes))
 
 -- picture into a buffer of the given size: 3, 6, 4, 5, 8, 9
-unfoldable pub checkPicture : ℕ → ℕ → Chips → Both → List ℕ → ℕ → ℕ → ℕ → Check
-checkPicture C L n r ram group phase size =
-    orElse (checkState C L n r ram)
-    (orElse (unless (ltb group 2 && ltb phase 2) GroupOrPhase) (unless (eqb size (C * chipsIn group n)) PictureLength))
+unfoldable pub checkPicture : Part → Chips → Both → List ℕ → ℕ → ℕ → ℕ → Check
+checkPicture K n r ram group phase size =
+    orElse (checkState K n r ram)
+    (orElse (unless (ltb group 2 && ltb phase 2) GroupOrPhase) (unless (eqb size (K .columns * chipsIn group n)) PictureLength))

@@ -1,27 +1,10 @@
--- The command bytes and what they do to a group's registers (paper 01, "A transfer, byte by byte"; sheet 003, tables 5 to 12).
-use Prim.Native.Nat.{ℕ, _+_, _-_, _*_, _/_, _%_}
-use mathlib.Core.Bool.{Bool, cond, _&&_}
-use lib.Dec.{leb}
+-- What the commands do to a group's registers (paper 01, "A transfer, byte by byte"; sheet 003, tables 5 to 12).
+use Prim.Native.Nat.{_+_, _-_, _*_, _%_}
+use mathlib.Core.Bool.{Bool}
 use Rattle.sheet.specs.declared.Registers.{Registers}
 use Rattle.sheet.specs.declared.Command.{Command}
 use Rattle.sheet.specs.declared.Command.the-variants.{PointerHigh, PointerLow, ModeSet, DeviceSelect, FrequencyCtrl, BlinkSelect, BankSelect, Undefined}
 use Rattle.sheet.specs.Registers.{atPlace}
-
--- lo to hi, both included
-unfoldable pub within : ℕ → ℕ → ℕ → Bool
-within lo hi x = leb lo x && leb x hi
-
--- commands are told apart by ranges of the byte
-unfoldable pub commandOf : ℕ → Command
-commandOf x =
-    cond (within 0x00 0x09 x) (PointerHigh (x % 16))
-    (cond (within 0x40 0x4F x) (PointerLow (x % 16))
-    (cond (within 0xC0 0xCF x) (ModeSet (record { e = x / 8 % 2; b = x / 4 % 2; m = x % 4 }))
-    (cond (within 0xE0 0xE3 x) (DeviceSelect (x % 4))
-    (cond (within 0xE8 0xEF x) FrequencyCtrl
-    (cond (within 0xF0 0xF7 x) (BlinkSelect (x / 4 % 2) (x % 4))
-    (cond (within 0xF8 0xFB x) (BankSelect (x / 2 % 2) (x % 2))
-    Undefined))))))
 
 abbrev pub defined : Command → Bool
 defined (PointerHigh n) = Bool.true

@@ -1,5 +1,5 @@
 -- Computed: what `Lands` says is exact. A data bit lands on a row just if a transfer leaves the same there over RAM of 0 as over RAM of 15.
-use Prim.Native.Nat.{ℕ, zero, suc, _*_, _/_, _%_}
+use Prim.Native.Nat.{ℕ, zero, suc, _/_, _%_}
 use mathlib.Core.Bool.{Bool, true, cond, _&&_, not}
 use mathlib.Core.List.{List, [], _∷_}
 use lib.Dec.{T, eqb}
@@ -7,7 +7,7 @@ use lib.ListN.{getD, replicate}
 use Rattle.sheet.specs.declared.Chip.{Chip}
 use Rattle.sheet.specs.declared.Expect.the-variants.{Control}
 use Rattle.sheet.specs.Registers.{powerOn, backplanes, bankRow}
-use Rattle.sheet.specs.Commands.{commandOf, within}
+use Rattle.sheet.specs.Parts.{within, commandOf, pcf8532}
 use Rattle.sheet.specs.Protocol.{addressOf, controlOf}
 use Rattle.sheet.specs.Long.{begun, dataByte, heard}
 use Rattle.sheet.specs.Plain.{putRows, afterColumn, afterColumns, chipData, acknowledgesData, plainHeard}
@@ -18,13 +18,13 @@ use Rattle.sheet.specs.Starred.{chipColumns}
 
 -- the bytes after the address, to two chips that hold the same in each column: the long RAM, and chip i followed alone
 abbrev pub over : List ℕ → ℕ → List ℕ
-over bytes fill = heard 160 4 Control bytes (begun powerOn (replicate 320 fill)) .ram
+over bytes fill = heard pcf8532 Control bytes (begun powerOn (replicate 320 fill)) .ram
 
 abbrev pub chipOf : ℕ → ℕ → Chip
 chipOf i fill = record { columns = replicate 160 fill; sa0 = 0; subaddress = i; registers = powerOn }
 
 abbrev pub chipOver : List ℕ → ℕ → ℕ → List ℕ
-chipOver bytes i fill = chipColumns (plainHeard 160 4 (addressOf 0) Control bytes (record { acknowledged = 0; chips = chipOf i fill ∷ [] }) .chips)
+chipOver bytes i fill = chipColumns (plainHeard pcf8532 (addressOf 0) Control bytes (record { acknowledged = 0; chips = chipOf i fill ∷ [] }) .chips)
 
 -- row q of column c is the same in both just if a bit lands on it
 abbrev pub just : List ℕ → List ℕ → ℕ → ℕ → Bool → Bool
@@ -33,8 +33,8 @@ just zeros fifteens c q lands = let same = eqb (rowOf (getD zeros c 0) q) (rowOf
 abbrev pub exactAt : List ℕ → ℕ → ℕ → Bool
 exactAt bytes c q =
     let i = c / 160 in
-    just (over bytes 0) (over bytes 15) c q (heardOn 160 4 Control bytes (begun powerOn []) c q)
-    && just (chipOver bytes i 0) (chipOver bytes i 15) (c % 160) q (chipHeardOn 160 4 Control bytes (chipOf i 0) (c % 160) q)
+    just (over bytes 0) (over bytes 15) c q (heardOn pcf8532 Control bytes (begun powerOn []) c q)
+    && just (chipOver bytes i 0) (chipOver bytes i 15) (c % 160) q (chipHeardOn pcf8532 Control bytes (chipOf i 0) (c % 160) q)
 
 -- the n columns from c on, each with its four rows
 abbrev pub exactFrom : ℕ → ℕ → List ℕ → Bool

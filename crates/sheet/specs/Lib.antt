@@ -1,8 +1,10 @@
 pub mod Refusals
+pub mod Parts
 pub mod Registers
 pub mod Commands
 pub mod Places
 pub mod Data
+pub mod Runs
 pub mod Protocol
 pub mod Checks
 pub mod Long

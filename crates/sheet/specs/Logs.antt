@@ -9,6 +9,7 @@ use Rattle.sheet.specs.declared.Check.{Check}
 use Rattle.sheet.specs.declared.Check.the-variants.{Passed, Refused}
 use Rattle.sheet.specs.declared.Refusal.the-variants.{LogHead, CutRecord, LongLog}
 use Rattle.sheet.specs.Refusals.{numberOf, placeOf, numbers}
+use Rattle.sheet.specs.Parts.{pcf8532}
 use Rattle.sheet.specs.Checks.{unless, orElse, checkChips}
 use Rattle.sheet.specs.Pictures.{pictureOf, litIn}
 use Rattle.sheet.specs.Long.{State, stateOf, bothOn, transferCall, stateAfter, stateAfterAll, registersOf, columnsOf}
@@ -43,7 +44,7 @@ unfoldable pub checkLog : List ℕ → Check
 checkLog log =
     orElse (unless (leb (length log) 65536) LongLog)
     (orElse (unless (leb 3 (length log) && eqb (getD log 0 0) 1) LogHead)
-    (orElse (checkChips 4 (logChips log)) (cutIn (length log) 3 (drop 3 log))))
+    (orElse (checkChips pcf8532 (logChips log)) (cutIn (length log) 3 (drop 3 log))))
 
 -- ---- lines
 
@@ -71,7 +72,7 @@ line letter ns = letter ∷ (spaced ns ++ (10 ∷ []))
 unfoldable pub transferLines : Chips → ℕ → State → List (List ℕ) → List ℕ
 transferLines n i s [] = []
 transferLines n i s (t ∷ ts) =
-    line 84 (i ∷ numbers (transferCall 160 4 n (s .registers) (s .ram) t .result .answer)) ++ transferLines n (suc i) (stateAfter 160 4 n s t) ts
+    line 84 (i ∷ numbers (transferCall pcf8532 n (s .registers) (s .ram) t .result .answer)) ++ transferLines n (suc i) (stateAfter pcf8532 n s t) ts
 
 -- `S group column value`, a lit column a line
 unfoldable pub columnLines : ℕ → ℕ → List ℕ → List ℕ
@@ -80,7 +81,7 @@ columnLines g c (q ∷ qs) = cond (eqb q 0) [] (line 83 (g ∷ c ∷ q ∷ [])) 
 
 -- group g's picture at phase 0
 abbrev pub shownAt : Chips → State → ℕ → List ℕ
-shownAt n s g = pictureOf (registersOf g (s .registers)) 0 (columnsOf 160 n g (s .ram))
+shownAt n s g = pictureOf (registersOf g (s .registers)) 0 (columnsOf pcf8532 n g (s .ram))
 
 abbrev pub endLines : Chips → State → List ℕ
 endLines n s =
@@ -93,7 +94,7 @@ abbrev pub logStart : Chips → State
 logStart n = stateOf bothOn (replicate (160 * (n .zero + n .one)) 0)
 
 abbrev pub logLines : Chips → List (List ℕ) → List ℕ
-logLines n ts = transferLines n 0 (logStart n) ts ++ endLines n (stateAfterAll 160 4 n (logStart n) ts)
+logLines n ts = transferLines n 0 (logStart n) ts ++ endLines n (stateAfterAll pcf8532 n (logStart n) ts)
 
 -- a refused log gives one line, `X number place`
 abbrev pub textBy : Check → Chips → List (List ℕ) → List ℕ

@@ -11,13 +11,15 @@ use Rattle.sheet.specs.declared.Counts.{Counts}
 use Rattle.sheet.specs.declared.Addressed.{Addressed}
 use Rattle.sheet.specs.declared.Addressed.the-variants.{To, Nobody}
 use Rattle.sheet.specs.declared.Expect.{Expect}
-use Rattle.sheet.specs.declared.Expect.the-variants.{Control, OneCommand, Commands, OneData, Run}
+use Rattle.sheet.specs.declared.Kind.{Kind}
+use Rattle.sheet.specs.declared.Expect.the-variants.{Control, One, All}
 use Rattle.sheet.specs.declared.Check.{Check}
 use Rattle.sheet.specs.declared.Answer.{Answer}
 use Rattle.sheet.specs.declared.Transferred.{Transferred}
 use Rattle.sheet.specs.declared.PowerOn.{PowerOn}
+use Rattle.sheet.specs.Parts.{Part}
 use Rattle.sheet.specs.Registers.{backplanes, bankRow, powerOn}
-use Rattle.sheet.specs.Commands.{commandOf, obeyed}
+use Rattle.sheet.specs.Commands.{obeyed}
 use Rattle.sheet.specs.Protocol.{heardBy, next, chipsIn}
 use Rattle.sheet.specs.Checks.{checkPowerOn, checkTransfer, checkPicture}
 use Rattle.sheet.specs.Pictures.{pictureOf, Seen, seen}
@@ -46,32 +48,34 @@ begun r ram = record { registers = r; ram = ram; counts = oneAcknowledged noCoun
 abbrev pub control : Group → Group
 control g = record { registers = g .registers; ram = g .ram; counts = oneAcknowledged (g .counts) }
 
-abbrev pub command : ℕ → Group → Group
-command x g = record { registers = obeyed (g .registers) (commandOf x); ram = g .ram; counts = oneAcknowledged (g .counts) }
+abbrev pub command : Part → ℕ → Group → Group
+command K x g = record { registers = obeyed (g .registers) (K .command x); ram = g .ram; counts = oneAcknowledged (g .counts) }
 
-unfoldable pub dataByte : ℕ → ℕ → ℕ → Group → Group
-dataByte C L x g =
+unfoldable pub dataByte : Part → ℕ → Group → Group
+dataByte K x g =
     let r = g .registers in
     let m = backplanes r in
-    let v = position C r in
+    let v = position K r in
     record {
-      registers = atPosition C L r (v + widthOf m);
+      registers = atPosition K r (v + widthOf m);
       ram = putBits 8 m (bankRow m (r .i)) v x (g .ram);
       counts = counted m v (length (g .ram)) (g .counts);
     }
 
 -- a byte, by what it is
-abbrev pub byte : ℕ → ℕ → Expect → ℕ → Group → Group
-byte C L Control x g = control g
-byte C L OneCommand x g = command x g
-byte C L Commands x g = command x g
-byte C L OneData x g = dataByte C L x g
-byte C L Run x g = dataByte C L x g
+abbrev pub byteOf : Part → Kind → ℕ → Group → Group
+byteOf K Kind.Command x g = command K x g
+byteOf K Kind.Data x g = dataByte K x g
+
+abbrev pub byte : Part → Expect → ℕ → Group → Group
+byte K Control x g = control g
+byte K (One k) x g = byteOf K k x g
+byte K (All k) x g = byteOf K k x g
 
 -- the bytes of a transfer that are left. It may end anywhere
-unfoldable pub heard : ℕ → ℕ → Expect → List ℕ → Group → Group
-heard C L e [] g = g
-heard C L e (x ∷ xs) g = heard C L (next e x) xs (byte C L e x g)
+unfoldable pub heard : Part → Expect → List ℕ → Group → Group
+heard K e [] g = g
+heard K e (x ∷ xs) g = heard K (next e x) xs (byte K e x g)
 
 -- ---- two groups in one RAM
 
@@ -82,14 +86,18 @@ abbrev pub replaced : ℕ → Registers → Both → Both
 replaced g s r = cond (eqb g 0) (record { zero = s; one = r .one }) (record { zero = r .zero; one = s })
 
 -- where group g's columns begin, and where they end
-abbrev pub startOf : ℕ → Chips → ℕ → ℕ
-startOf C n g = cond (eqb g 0) 0 (C * n .zero)
+abbrev pub startOf : Part → Chips → ℕ → ℕ
+startOf K n g = cond (eqb g 0) 0 (K .columns * n .zero)
 
-abbrev pub endOf : ℕ → Chips → ℕ → ℕ
-endOf C n g = startOf C n g + C * chipsIn g n
+abbrev pub endOf : Part → Chips → ℕ → ℕ
+endOf K n g = startOf K n g + K .columns * chipsIn g n
 
-abbrev pub columnsOf : ℕ → Chips → ℕ → List ℕ → List ℕ
-columnsOf C n g ram = take (C * chipsIn g n) (drop (startOf C n g) ram)
+abbrev pub columnsOf : Part → Chips → ℕ → List ℕ → List ℕ
+columnsOf K n g ram = take (K .columns * chipsIn g n) (drop (startOf K n g) ram)
+
+-- the RAM with group g's columns made others
+abbrev pub withColumns : Part → Chips → ℕ → List ℕ → List ℕ → List ℕ
+withColumns K n g columns ram = take (startOf K n g) ram ++ (columns ++ drop (endOf K n g) ram)
 
 -- ---- the calls. Each gives its result and what a lent buffer holds after it
 
@@ -97,32 +105,32 @@ abbrev pub bothOn : Both
 bothOn = record { zero = powerOn; one = powerOn }
 
 -- power-on: RAM keeps what it held
-unfoldable pub powerOnCall : ℕ → ℕ → Chips → List ℕ → PowerOn
-powerOnCall C L n ram = record { check = checkPowerOn C L n ram; registers = bothOn }
+unfoldable pub powerOnCall : Part → Chips → List ℕ → PowerOn
+powerOnCall K n ram = record { check = checkPowerOn K n ram; registers = bothOn }
 
 pub record After : Type 0 where
   pub result : Transferred
   pub ram : List ℕ
 
 -- a group hears the bytes after the address, which is acknowledged; the rest of the RAM and the other registers stay
-abbrev pub heardIn : ℕ → Chips → ℕ → Both → List ℕ → Group → After
-heardIn C n g r ram h = record {
+abbrev pub heardIn : Part → Chips → ℕ → Both → List ℕ → Group → After
+heardIn K n g r ram h = record {
   result = record { answer = Answer.Taken (h .counts); registers = replaced g (h .registers) r };
-  ram = take (startOf C n g) ram ++ (h .ram ++ drop (endOf C n g) ram);
+  ram = withColumns K n g (h .ram) ram;
 }
 
-abbrev pub taken : ℕ → ℕ → Chips → Both → List ℕ → List ℕ → Addressed → After
-taken C L n r ram bytes (To g) =
-    heardIn C n g r ram (heard C L Control (drop 1 bytes) (begun (registersOf g r) (columnsOf C n g ram)))
-taken C L n r ram bytes Nobody = record { result = record { answer = Answer.Taken noCounts; registers = r }; ram = ram }
+abbrev pub taken : Part → Chips → Both → List ℕ → List ℕ → Addressed → After
+taken K n r ram bytes (To g) =
+    heardIn K n g r ram (heard K Control (drop 1 bytes) (begun (registersOf g r) (columnsOf K n g ram)))
+taken K n r ram bytes Nobody = record { result = record { answer = Answer.Taken noCounts; registers = r }; ram = ram }
 
 abbrev pub answered : Check → Both → List ℕ → After → After
 answered Check.Passed r ram a = a
 answered (Check.Refused x) r ram a = record { result = record { answer = Answer.Refused x; registers = r }; ram = ram }
 
-unfoldable pub transferCall : ℕ → ℕ → Chips → Both → List ℕ → List ℕ → After
-transferCall C L n r ram bytes =
-    answered (checkTransfer C L n r ram bytes) r ram (taken C L n r ram bytes (heardBy n (getD bytes 0 0)))
+unfoldable pub transferCall : Part → Chips → Both → List ℕ → List ℕ → After
+transferCall K n r ram bytes =
+    answered (checkTransfer K n r ram bytes) r ram (taken K n r ram bytes (heardBy n (getD bytes 0 0)))
 
 -- what the calls go on with, and what it is after a transfer, taken or refused
 pub record State : Type 0 where
@@ -132,16 +140,16 @@ pub record State : Type 0 where
 abbrev pub stateOf : Both → List ℕ → State
 stateOf r ram = record { registers = r; ram = ram }
 
-abbrev pub stateAfter : ℕ → ℕ → Chips → State → List ℕ → State
-stateAfter C L n s bytes =
-    let a = transferCall C L n (s .registers) (s .ram) bytes in
+abbrev pub stateAfter : Part → Chips → State → List ℕ → State
+stateAfter K n s bytes =
+    let a = transferCall K n (s .registers) (s .ram) bytes in
     stateOf (a .result .registers) (a .ram)
 
 -- after a sequence of transfers; a refused one changes nothing
-unfoldable pub stateAfterAll : ℕ → ℕ → Chips → State → List (List ℕ) → State
-stateAfterAll C L n s [] = s
-stateAfterAll C L n s (t ∷ ts) = stateAfterAll C L n (stateAfter C L n s t) ts
+unfoldable pub stateAfterAll : Part → Chips → State → List (List ℕ) → State
+stateAfterAll K n s [] = s
+stateAfterAll K n s (t ∷ ts) = stateAfterAll K n (stateAfter K n s t) ts
 
-unfoldable pub pictureCall : ℕ → ℕ → Chips → Both → List ℕ → ℕ → ℕ → List ℕ → Seen
-pictureCall C L n r ram group phase out =
-    seen (checkPicture C L n r ram group phase (length out)) (pictureOf (registersOf group r) phase (columnsOf C n group ram)) out
+unfoldable pub pictureCall : Part → Chips → Both → List ℕ → ℕ → ℕ → List ℕ → Seen
+pictureCall K n r ram group phase out =
+    seen (checkPicture K n r ram group phase (length out)) (pictureOf (registersOf group r) phase (columnsOf K n group ram)) out

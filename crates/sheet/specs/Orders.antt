@@ -1,18 +1,17 @@
 -- The orders of refusals (paper 01, "Refusal numbers"), computed: each call, given every set of its faults, answers the first of them in the paper's order, and its place.
-use Prim.Native.Nat.{ℕ, zero, suc, _+_, _*_}
+use Prim.Native.Nat.{ℕ, zero, suc, _+_}
 use mathlib.Core.Bool.{Bool, true, false, cond, _&&_}
 use mathlib.Core.List.{List, [], _∷_, _++_}
-use lib.Dec.{T, eqb}
-use lib.ListN.{getD, take, replicate}
-use Rattle.sheet.specs.declared.Registers.{Registers}
+use lib.Dec.{T}
+use lib.ListN.{take, replicate}
 use Rattle.sheet.specs.declared.Both.{Both}
 use Rattle.sheet.specs.declared.Chips.{Chips}
 use Rattle.sheet.specs.declared.Chip.{Chip}
 use Rattle.sheet.specs.Refusals.{numbers, plainNumbers, pictureNumbers, checkNumbers}
 use Rattle.sheet.specs.Registers.{powerOn, inRange, backplanes, bankRow}
-use Rattle.sheet.specs.Commands.{within, commandOf}
-use Rattle.sheet.specs.Protocol.{heardBy, controlOf, undefinedIn}
-use Rattle.sheet.specs.Checks.{checkChips, checkRegisters, overIn, checkRam, checkLength, checkState, checkPowerOn, checkTransfer, checkPicture}
+use Rattle.sheet.specs.Parts.{within, commandOf, pcf8532}
+use Rattle.sheet.specs.Protocol.{heardBy, controlOf}
+use Rattle.sheet.specs.Checks.{checkChips, checkRegisters, overIn, checkRam, checkLength, faultIn, checkState, checkPowerOn, checkTransfer, checkPicture}
 use Rattle.sheet.specs.Pictures.{shown, pictureOf, litIn}
 use Rattle.sheet.specs.Long.{heard, dataByte, powerOnCall, transferCall, pictureCall}
 use Rattle.sheet.specs.Plain.{putRows, afterColumn, afterColumns, chipData, acknowledgesData, plainHeard, chipFits, chipPowerOn, checkChipPicture, chipPictureCall, misfitIn, checkPlain, plainCall}
@@ -81,15 +80,15 @@ abbrev state : List Fault
 state = refusal 3 0 ∷ refusal 6 0 ∷ refusal 4 0 ∷ refusal 5 2 ∷ []
 
 abbrev sent : (Bool → List ℕ → List ℕ) → List Bool → List ℕ
-sent length f = numbers (transferCall 160 4 (chips (is f 0)) (both (is f 1)) (ram (is f 0) (is f 2) (is f 3)) (length (is f 4) (commands (is f 5))) .result .answer)
+sent length f = numbers (transferCall pcf8532 (chips (is f 0)) (both (is f 1)) (ram (is f 0) (is f 2) (is f 3)) (length (is f 4) (commands (is f 5))) .result .answer)
 
 abbrev shownTo : (Bool → ℕ) → (Bool → ℕ) → List Bool → List ℕ
 shownTo group phase f =
-    pictureNumbers (pictureCall 160 4 (chips (is f 0)) (both (is f 1)) (ram (is f 0) (is f 2) (is f 3)) (group (is f 4)) (phase (is f 4)) (replicate (cond (is f 0) 800 160 + cond (is f 5) 1 0) 0) .result)
+    pictureNumbers (pictureCall pcf8532 (chips (is f 0)) (both (is f 1)) (ram (is f 0) (is f 2) (is f 3)) (group (is f 4)) (phase (is f 4)) (replicate (cond (is f 0) 800 160 + cond (is f 5) 1 0) 0) .result)
 
 abbrev pub long : Bool
 long =
-    inOrder (refusal 3 0 ∷ refusal 4 0 ∷ refusal 5 2 ∷ []) (λ f. checkNumbers (powerOnCall 160 4 (chips (is f 0)) (ram (is f 0) (is f 1) (is f 2)) .check))
+    inOrder (refusal 3 0 ∷ refusal 4 0 ∷ refusal 5 2 ∷ []) (λ f. checkNumbers (powerOnCall pcf8532 (chips (is f 0)) (ram (is f 0) (is f 1) (is f 2)) .check))
     && (inOrder (state ++ (refusal 1 0 ∷ refusal 7 2 ∷ [])) (sent empty) && (inOrder (state ++ (refusal 2 0 ∷ refusal 7 2 ∷ [])) (sent over4096)
     && (inOrder (state ++ (refusal 8 0 ∷ refusal 9 0 ∷ [])) (shownTo (λ bad. cond bad 2 0) (λ bad. 0))
     && inOrder (state ++ (refusal 8 0 ∷ refusal 9 0 ∷ [])) (shownTo (λ bad. 0) (λ bad. cond bad 2 0)))))
@@ -103,15 +102,15 @@ abbrev list : Bool → Bool → List Chip
 list many misfit = chip 0 ∷ chip (cond misfit 4 1) ∷ cond many (replicate 7 (chip 2)) []
 
 abbrev called : (Bool → List ℕ → List ℕ) → List Bool → List ℕ
-called length f = plainNumbers (plainCall 160 4 (list (is f 0) (is f 1)) (length (is f 2) (commands (is f 3))) .answer)
+called length f = plainNumbers (plainCall pcf8532 (list (is f 0) (is f 1)) (length (is f 2) (commands (is f 3))) .answer)
 
 abbrev pub plain : Bool
 plain =
     inOrder (refusal 10 0 ∷ refusal 11 1 ∷ refusal 1 0 ∷ refusal 7 2 ∷ []) (called empty)
     && (inOrder (refusal 10 0 ∷ refusal 11 1 ∷ refusal 2 0 ∷ refusal 7 2 ∷ []) (called over4096)
-    && (inOrder (refusal 11 0 ∷ []) (λ f. checkNumbers (chipPowerOn 160 4 (chip (cond (is f 0) 4 1)) .check))
+    && (inOrder (refusal 11 0 ∷ []) (λ f. checkNumbers (chipPowerOn pcf8532 (chip (cond (is f 0) 4 1)) .check))
     && inOrder (refusal 11 0 ∷ refusal 8 0 ∷ refusal 9 0 ∷ [])
-    (λ f. pictureNumbers (chipPictureCall 160 4 (chip (cond (is f 0) 4 1)) (cond (is f 1) 2 0) (replicate (160 + cond (is f 2) 1 0) 0) .result))))
+    (λ f. pictureNumbers (chipPictureCall pcf8532 (chip (cond (is f 0) 4 1)) (cond (is f 1) 2 0) (replicate (160 + cond (is f 2) 1 0) 0) .result))))
 
 -- ---- a log: version 1 or 2, one chip or five, an empty record or one cut short, and too many empty records
 
@@ -122,5 +121,5 @@ abbrev pub logs : Bool
 logs = inOrder (refusal 14 0 ∷ refusal 12 0 ∷ refusal 3 0 ∷ refusal 13 3 ∷ []) (λ f. checkNumbers (checkLog (log f)))
 
 pub orders : T (long && (plain && logs))
-unfolding checkLog cutIn powerOnCall checkPowerOn pictureCall checkPicture chipPowerOn chipPictureCall checkChipPicture litIn ones onesIn plainCall checkPlain misfitIn chipFits plainHeard chipData afterColumn afterColumns putRows advanced acknowledgesData transferCall checkTransfer checkState checkChips checkRegisters checkRam checkLength overIn undefinedIn heardBy heard dataByte controlOf commandOf within inRange backplanes bankRow position atPosition putBits changed withRow storedBits counted shown pictureOf
+unfolding checkLog cutIn powerOnCall checkPowerOn pictureCall checkPicture chipPowerOn chipPictureCall checkChipPicture litIn ones onesIn plainCall checkPlain misfitIn chipFits plainHeard chipData afterColumn afterColumns putRows advanced acknowledgesData transferCall checkTransfer checkState checkChips checkRegisters checkRam checkLength overIn faultIn heardBy heard dataByte controlOf commandOf within inRange backplanes bankRow position atPosition putBits changed withRow storedBits counted shown pictureOf
 orders = tt

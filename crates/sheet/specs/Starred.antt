@@ -11,9 +11,9 @@ use Rattle.sheet.specs.declared.Chips.{Chips}
 use Rattle.sheet.specs.declared.Chip.{Chip}
 use Rattle.sheet.specs.Refusals.{numbers, plainNumbers, pictureNumbers, checkNumbers}
 use Rattle.sheet.specs.Registers.{inRange, backplanes, bankRow}
-use Rattle.sheet.specs.Commands.{within, commandOf}
-use Rattle.sheet.specs.Protocol.{heardBy, controlOf, undefinedIn}
-use Rattle.sheet.specs.Checks.{checkChips, checkRegisters, overIn, checkRam, checkLength, checkState, checkPowerOn, checkTransfer, checkPicture}
+use Rattle.sheet.specs.Parts.{within, commandOf, pcf8532}
+use Rattle.sheet.specs.Protocol.{heardBy, controlOf}
+use Rattle.sheet.specs.Checks.{checkChips, checkRegisters, overIn, checkRam, checkLength, faultIn, checkState, checkPowerOn, checkTransfer, checkPicture}
 use Rattle.sheet.specs.Pictures.{shown, pictureOf, litIn}
 use Rattle.sheet.specs.Long.{heard, dataByte, registersOf, columnsOf, powerOnCall, transferCall, pictureCall, stateOf}
 use Rattle.sheet.specs.Plain.{putRows, afterColumn, afterColumns, chipData, acknowledgesData, plainHeard, chipFits, chipPowerOn, checkChipPicture, chipPictureCall, misfitIn, checkPlain, plainCall}
@@ -68,13 +68,13 @@ abbrev pub passes : Row → Bool
 passes row =
     let n = chipsOn row in
     let g = row .group in
-    let on = powerOnCall 160 4 n (columnsOn row) in
-    let s = transferCall 160 4 n (on .registers) (columnsOn row) (row .bytes) in
+    let on = powerOnCall pcf8532 n (columnsOn row) in
+    let s = transferCall pcf8532 n (on .registers) (columnsOn row) (row .bytes) in
     let r = registersOf g (s .result .registers) in
-    let seen = pictureCall 160 4 n (s .result .registers) (s .ram) g (row .phase) (replicate (160 * row .chips) 99) in
+    let seen = pictureCall pcf8532 n (s .result .registers) (s .ram) g (row .phase) (replicate (160 * row .chips) 99) in
     same (checkNumbers (on .check)) (oneCount 0) && (same (numbers (s .result .answer)) (row .answer)
     && (eqb (r .a) (row .a) && (eqb (r .p) (row .p)
-    && (holds (columnsOf 160 n g (s .ram)) (row .columns) && (same (columnsOf 160 n (1 - g) (s .ram)) (replicate (160 * row .others) (row .fill))
+    && (holds (columnsOf pcf8532 n g (s .ram)) (row .columns) && (same (columnsOf pcf8532 n (1 - g) (s .ram)) (replicate (160 * row .others) (row .fill))
     && (same (pictureNumbers (seen .result)) (oneCount (row .lit)) && holds (seen .out) (row .picture)))))))
 
 -- the plain account: the group's chips are the first or the last of the list
@@ -99,16 +99,16 @@ busy = record { e = 1; b = 1; m = 1; p = 7; a = 2; i = 1; o = 1; ab = 1; bf = 1 
 
 abbrev pub allOn : List Chip → Bool
 allOn [] = Bool.true
-allOn (c ∷ cs) = same (checkNumbers (chipPowerOn 160 4 c .check)) (oneCount 0) && allOn cs
+allOn (c ∷ cs) = same (checkNumbers (chipPowerOn pcf8532 c .check)) (oneCount 0) && allOn cs
 
 abbrev pub passesPlain : Row → Bool
 passesPlain row =
-    let found = chipsOf 160 (chipsOn row) (stateOf (record { zero = busy; one = busy }) (columnsOn row)) in
-    let s = plainCall 160 4 (map (λ c. chipPowerOn 160 4 c .chip) found) (row .bytes) in
+    let found = chipsOf pcf8532 (chipsOn row) (stateOf (record { zero = busy; one = busy }) (columnsOn row)) in
+    let s = plainCall pcf8532 (map (λ c. chipPowerOn pcf8532 c .chip) found) (row .bytes) in
     let called = calledOf row (s .chips) in
     allOn found && (same (plainNumbers (s .answer)) (take 3 (row .answer) ++ (0 ∷ 0 ∷ [])) && (allAt (row .a) (row .p) called
     && (holds (chipColumns called) (row .columns) && (same (chipColumns (othersOf row (s .chips))) (replicate (160 * row .others) (row .fill))
-    && (eqb (chipsLit 160 4 (row .phase) called) (row .lit) && holds (chipPictures 160 4 (row .phase) called) (row .picture))))))
+    && (eqb (chipsLit pcf8532 (row .phase) called) (row .lit) && holds (chipPictures pcf8532 (row .phase) called) (row .picture))))))
 
 abbrev pub every : List Row → Bool
 every [] = Bool.true
@@ -179,5 +179,5 @@ table =
     ∷ []
 
 pub starred : T (every table)
-unfolding powerOnCall checkPowerOn pictureCall checkPicture chipPowerOn chipPictureCall checkChipPicture litIn ones onesIn plainCall checkPlain misfitIn chipFits plainHeard groupChips chipData afterColumn afterColumns putRows advanced acknowledgesData transferCall checkTransfer checkState checkChips checkRegisters checkRam checkLength overIn undefinedIn heardBy heard dataByte controlOf commandOf within inRange backplanes bankRow position atPosition putBits changed withRow storedBits counted shown pictureOf
+unfolding powerOnCall checkPowerOn pictureCall checkPicture chipPowerOn chipPictureCall checkChipPicture litIn ones onesIn plainCall checkPlain misfitIn chipFits plainHeard groupChips chipData afterColumn afterColumns putRows advanced acknowledgesData transferCall checkTransfer checkState checkChips checkRegisters checkRam checkLength overIn faultIn heardBy heard dataByte controlOf commandOf within inRange backplanes bankRow position atPosition putBits changed withRow storedBits counted shown pictureOf
 starred = tt

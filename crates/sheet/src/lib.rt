@@ -66,13 +66,17 @@ pub enum Check {
     Refused(Refusal),
 }
 
-// What the next byte of a transfer is.
+// What follows a control byte: commands or display data, by its RS.
+pub enum Kind {
+    Command,
+    Data,
+}
+
+// What the next byte of a transfer is: a control byte; the one byte after a control byte with Co = 1; or one of all that are left.
 pub enum Expect {
     Control,
-    OneCommand,
-    Commands,
-    OneData,
-    Run,
+    One(Kind),
+    All(Kind),
 }
 
 // The group that hears an address byte.

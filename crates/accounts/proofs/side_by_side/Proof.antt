@@ -9,18 +9,9 @@ use Rattle.accounts.proofs.side_by_side.Tie as tie
 returns : tie.Need-returns
 returns c = let s = c .before .before .before .before .before .before .before in
     let a = s .args in
-    let ram = c .before .before .transfer .ensures .0 in
-    let long = c .before .before .transfer .ensures .1 .0 in
-    let plain = c .before .before .before .before .transfer-bench .ensures .0 in (
-      long,
-      (
-        ram,
-        (
-          plain,
-          sides-agree (a .chips) (a .registers) (now (a .ram)) (a .bench) (now (a .bytes)) (c .before .before .transfer .last .1 .1 .0) (c .before .before .transfer .result) (c .before .before .before .before .transfer-bench .result) (s .pre) ram long plain,
-        ),
-      ),
-    )
+    let long = c .before .before .transfer .ensures .0 in
+    let plain = c .before .before .before .before .transfer-bench .ensures .0 in
+    (long, (plain, sides-agree (a .chips) (a .registers) (now (a .ram)) (a .bench) (now (a .bytes)) _ (c .before .before .before .before .transfer-bench .result) (s .pre) long plain))
 
 pub side-by-side-spec : {M : Type 1} → statement M
 side-by-side-spec =

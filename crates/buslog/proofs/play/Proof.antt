@@ -5,12 +5,13 @@ use mathlib.Core.List.{List, _++_}
 use Prim.Native.Nat.{ℕ, _+_, _≤_}
 use native.Mathlib.Omega.{arith}
 use lib.ListN.{length}
+use Rattle.sheet.specs.Parts.{pcf8532}
 use Rattle.sheet.specs.Long.{stateOf, State, stateAfterAll}
 use Rattle.sheet.specs.Logs.{transferLines, endLines, logStart, logLines}
 use Rattle.sheet.specs.Agree.{Valid}
 use Rattle.buslog.specs.Records.{recordsFrom}
 use Rattle.buslog.proofs.Writing.{Writing, begin, rest-is, turn, last, room, room-left}
-use Rattle.agreement.proofs.Demand.{pcf8532}
+use Rattle.agreement.proofs.Demand.{pcf8532-agrees}
 use Rattle.buslog.proofs.States.{start-valid}
 use borrow.Author.Needs.{needs}
 use Rattle.buslog.proofs.play.Statement.{statement}
@@ -34,10 +35,10 @@ powered : (c : tie.After-power-on2) → initial c ≡ logStart (c .before .befor
 powered c j = record { registers = record { zero = c .before .power-on .ensures j; one = c .power-on2 .ensures j }; ram = c .before .before .before .before .before .pre .0 .2 j }
 
 opened : (c : tie.After-power-on2) → let s = c .before .before .before .before .before in let n = s .args .chips in
-    Writing 0 (text s) (s .args .out .now) 0 (transferLines n 0 (initial c) (transfers s) ++ endLines n (stateAfterAll 160 4 n (initial c) (transfers s))) (s .args .out .now)
+    Writing 0 (text s) (s .args .out .now) 0 (transferLines n 0 (initial c) (transfers s) ++ endLines n (stateAfterAll pcf8532 n (initial c) (transfers s))) (s .args .out .now)
 opened c = let s = c .before .before .before .before .before in
     let n = s .args .chips in
-    rest-is (begin 0 (text s) (s .args .out .now)) (ap (λ (t : State). transferLines n 0 t (transfers s) ++ endLines n (stateAfterAll 160 4 n t (transfers s))) (sym (powered c)))
+    rest-is (begin 0 (text s) (s .args .out .now)) (ap (λ (t : State). transferLines n 0 t (transfers s) ++ endLines n (stateAfterAll pcf8532 n t (transfers s))) (sym (powered c)))
 
 -- after the transfers' lines
 played : (c : tie.After-put-transfers) → let s = c .before .before .before .before .before .before .before .before in
@@ -45,11 +46,11 @@ played : (c : tie.After-put-transfers) → let s = c .before .before .before .be
 played c = let s = c .before .before .before .before .before .before .before .before in
     rest-is (turn (opened (c .before .before .before)) (c .put-transfers .ensures .1)) (ap (endLines (s .args .chips)) (sym (c .put-transfers .ensures .0)))
 
-valid : (c : tie.After-put-transfers) → Valid 160 4 (c .before .before .before .before .before .before .before .before .args .chips) (stateOf (c .put-transfers .result .registers) (c .put-transfers .last .1 .1 .1 .0))
+valid : (c : tie.After-put-transfers) → Valid pcf8532 (c .before .before .before .before .before .before .before .before .args .chips) (stateOf (c .put-transfers .result .registers) (c .put-transfers .last .1 .1 .1 .0))
 valid c = let d = c .before .before .before in
     let s = d .before .before .before .before .before in
     let n = s .args .chips in
-    subst (Valid 160 4 n) (sym (c .put-transfers .ensures .0)) (pcf8532 .sequence n (initial d) (transfers s) (subst (Valid 160 4 n) (sym (powered d)) (start-valid n (s .pre .0 .0))) .valid)
+    subst (Valid pcf8532 n) (sym (c .put-transfers .ensures .0)) (pcf8532-agrees .sequence n (initial d) (transfers s) (subst (Valid pcf8532 n) (sym (powered d)) (start-valid n (s .pre .0 .0))) .valid)
 
 put-transfers-requires : tie.Need-put-transfers-requires
 put-transfers-requires c κs = let d = c .before .before in

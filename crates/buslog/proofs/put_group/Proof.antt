@@ -7,6 +7,7 @@ use native.Mathlib.Omega.{arith}
 use lib.ListN.{length, take, drop, length-append}
 use lib.Seq.{length-take-le, take-at}
 use Rattle.sheet.specs.declared.Pictured.{Pictured}
+use Rattle.sheet.specs.Parts.{pcf8532}
 use Rattle.sheet.specs.Pictures.{litIn, Seen}
 use Rattle.sheet.specs.Long.{stateOf, State, pictureCall}
 use Rattle.sheet.specs.Logs.{shownAt, columnLines}
@@ -21,7 +22,7 @@ use Rattle.buslog.proofs.put_group.Tie as tie
 small : (c : tie.After-blank-picture) → c .before .before .before .args .size ≤ length (c .blank-picture .result)
 small c = let s = c .before .before .before in
     let a = s .args in
-    omega (arith, s .pre .0 .1, c .blank-picture .ensures, part-few (a .chips) (a .registers) (a .ram .now) (a .group) (fits-of 160 4 (a .chips) (a .registers) (a .ram .now) (s .pre .0 .2)))
+    omega (arith, s .pre .0 .1, c .blank-picture .ensures, part-few (a .chips) (a .registers) (a .ram .now) (a .group) (fits-of pcf8532 (a .chips) (a .registers) (a .ram .now) (s .pre .0 .2)))
 
 -- the part that is lent has their size
 lent : (c : tie.After-blank-picture) → length (take (c .before .before .before .args .size) (c .blank-picture .result)) ≡ c .before .before .before .args .size
@@ -31,7 +32,7 @@ abbrev state : (c : tie.After-blank-picture) → State
 state c = let a = c .before .before .before .args in stateOf (a .registers) (a .ram .now)
 
 -- what the call sees
-seen : (c : tie.After-picture2) → let d = c .before .before in let a = d .before .before .before .args in pictureCall 160 4 (a .chips) (a .registers) (a .ram .now) (a .group) 0 (take (a .size) (d .blank-picture .result)) ≡ seenAt (a .chips) (state d) (a .group)
+seen : (c : tie.After-picture2) → let d = c .before .before in let a = d .before .before .before .args in pictureCall pcf8532 (a .chips) (a .registers) (a .ram .now) (a .group) 0 (take (a .size) (d .blank-picture .result)) ≡ seenAt (a .chips) (state d) (a .group)
 seen c = let d = c .before .before in
     let s = d .before .before .before in
     shown-valid (s .args .chips) (state d) (s .args .group) (take (s .args .size) (d .blank-picture .result)) (s .pre .0 .0) (lent d ∙ s .pre .0 .1) (s .pre .0 .2)

@@ -9,6 +9,7 @@ use lib.ListN.{length, take, replicate, length-replicate}
 use lib.Seq.{length-take-le}
 use Rattle.sheet.specs.declared.Chips.{Chips}
 use Rattle.sheet.specs.declared.Check.the-variants.{Passed}
+use Rattle.sheet.specs.Parts.{pcf8532}
 use Rattle.sheet.specs.Checks.{checkChips}
 use Rattle.sheet.specs.Logs.{logLines, textOf}
 use Rattle.buslog.specs.Records.{recordsFrom}
@@ -25,12 +26,12 @@ zeros (suc k) zero h = absurd (omega arith)
 zeros (suc k) (suc n) h = ap (λ (l : List ℕ). 0 ∷ l) (zeros k n (le-of-suc-le-suc h))
 
 -- the chips passed their check
-chips : (c : tie.After-chips-of) → checkChips 4 (c .chips-of .result) ≡ Passed
+chips : (c : tie.After-chips-of) → checkChips pcf8532 (c .chips-of .result) ≡ Passed
 chips c = let s = c .before .before .before in rw (c .chips-of .ensures) (checked (s .args .log .now) (s .pre .0) .chips)
 
 -- so their columns are at most those of the array
 few : (c : tie.After-blank-ram) → let n = c .before .chips-of .result in 160 * (n .zero + n .one) ≤ 1280
-few c = let h = few-chips 4 (c .before .chips-of .result) (chips (c .before)) in omega arith
+few c = let h = few-chips pcf8532 (c .before .chips-of .result) (chips (c .before)) in omega arith
 
 small : (c : tie.After-blank-ram) → let n = c .before .chips-of .result in 160 * (n .zero + n .one) ≤ length (c .blank-ram .result)
 small c = omega (arith, few c, ap length (c .blank-ram .ensures), length-replicate {A = ℕ} 1280 0)

@@ -11,6 +11,7 @@ use denote.Enum.Declared.{tagOf}
 use types.Run.{OneOf}
 use Rattle.sheet.specs.declared.Check.{Check}
 use Rattle.sheet.specs.declared.Check.the-variants.{Passed}
+use Rattle.sheet.specs.Parts.{pcf8532}
 use Rattle.sheet.specs.Checks.{passed}
 use Rattle.sheet.specs.Long.{stateOf, stateAfterAll}
 use Rattle.sheet.specs.Logs.{cutIn, recordsIn, transferLines, line}
@@ -96,7 +97,7 @@ returns : tie.Need-returns Inv-loop μ-loop
 unfolding stateAfterAll
 returns c = let p = c .before .before in
     let a = p .before .before .before .before .args in
-    (ap (stateAfterAll 160 4 (a .chips) (stateOf (p .loop .registers) (p .loop .ram))) (sym (over c)) ∙ p .loop .inv .state, ended c)
+    (ap (stateAfterAll pcf8532 (a .chips) (stateOf (p .loop .registers) (p .loop .ram))) (sym (over c)) ∙ p .loop .inv .state, ended c)
 
 pub put-transfers-spec : {M : Type 1} → statement M
 put-transfers-spec =

@@ -6,6 +6,7 @@ use denote.Ref.{now}
 use Rattle.sheet.specs.declared.Chip.{Chip}
 use Rattle.sheet.specs.declared.Pictured.{Pictured}
 use Rattle.sheet.specs.Refusals.{pictureNumbers}
+use Rattle.sheet.specs.Parts.{pcf8532}
 use Rattle.sheet.specs.Plain.{chipPictureCall}
 use Rattle.cabi.specs.Bytes.{chipIn}
 use Rattle.cabi.specs.Calls.{chipPictureC}
@@ -29,12 +30,12 @@ unfolding chipPictureC
 returns c = let on = c .before .before .before .before .before .before in
     let a = on .before .before .before .before .before .before .before .args in
     let before = on .before .before .chip-of .ensures in
-    let shown : on .picture .result ≡ chipPictureCall 160 4 (chipIn (now (a .chip))) (a .phase) (now (a .out)) .result =
-    on .picture .ensures .0 ∙ ap (λ (k : Chip). chipPictureCall 160 4 k (a .phase) (now (a .out)) .result) before in
+    let shown : on .picture .result ≡ chipPictureCall pcf8532 (chipIn (now (a .chip))) (a .phase) (now (a .out)) .result =
+    on .picture .ensures .0 ∙ ap (λ (k : Chip). chipPictureCall pcf8532 k (a .phase) (now (a .out)) .result) before in
     rw (on .before .before .before .if1 .taken) (
       c .before .before .put-pictured .ensures .0 ∙ ap (λ (t : Pictured). getD (pictureNumbers t) 0 0) shown,
       (
-        on .picture .ensures .1 .0 ∙ ap (λ (k : Chip). chipPictureCall 160 4 k (a .phase) (now (a .out)) .out) before,
+        on .picture .ensures .1 .0 ∙ ap (λ (k : Chip). chipPictureCall pcf8532 k (a .phase) (now (a .out)) .out) before,
         c .before .before .put-pictured .ensures .1 ∙ ap pictureNumbers shown,
       ),
     )

@@ -5,6 +5,7 @@ use lib.ListN.{length, getD}
 use denote.Ref.{now}
 use Rattle.sheet.specs.declared.ChipPowerOn.{ChipPowerOn}
 use Rattle.sheet.specs.Refusals.{checkNumbers}
+use Rattle.sheet.specs.Parts.{pcf8532}
 use Rattle.sheet.specs.Plain.{chipPowerOn}
 use Rattle.cabi.specs.Bytes.{chipIn, chipBytes}
 use Rattle.cabi.specs.Calls.{chipPowerOnC}
@@ -29,8 +30,8 @@ put-check-requires c κs = sizes (c .before .before .before .before .before .bef
 returns : tie.Need-returns
 unfolding chipPowerOnC
 returns c = let on = c .before .before .before .before .before .before .before .before .before in
-    let after : on .power-on .result ≡ chipPowerOn 160 4 (chipIn (now (on .before .before .before .before .before .before .args .chip))) =
-    on .power-on .ensures .0 ∙ ap (chipPowerOn 160 4) (on .before .chip-of .ensures) in
+    let after : on .power-on .result ≡ chipPowerOn pcf8532 (chipIn (now (on .before .before .before .before .before .before .args .chip))) =
+    on .power-on .ensures .0 ∙ ap (chipPowerOn pcf8532) (on .before .chip-of .ensures) in
     rw (on .before .before .before .if1 .taken) (
       c .before .before .put-check .ensures .0 ∙ ap (λ (p : ChipPowerOn). getD (checkNumbers (p .check)) 0 0) after,
       (

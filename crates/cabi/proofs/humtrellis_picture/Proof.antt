@@ -5,6 +5,7 @@ use lib.ListN.{length, getD}
 use denote.Ref.{now}
 use Rattle.sheet.specs.declared.Both.{Both}
 use Rattle.sheet.specs.declared.Pictured.{Pictured}
+use Rattle.sheet.specs.Parts.{pcf8532}
 use Rattle.sheet.specs.Long.{pictureCall}
 use Rattle.sheet.specs.Refusals.{pictureNumbers}
 use Rattle.cabi.specs.Bytes.{bothOf}
@@ -28,12 +29,12 @@ returns : tie.Need-returns
 unfolding pictureC
 returns c = let a = c .before .before .before .before .before .before .before .before .before .before .before .before .before .before .args in
     let before = c .before .before .before .before .before .before .before .before .both-of .ensures in
-    let shown : c .before .before .before .before .before .before .picture .result ≡ pictureCall 160 4 (chipsOf (a .chips0) (a .chips1)) (bothOf (now (a .registers))) (now (a .ram)) (a .group) (a .phase) (now (a .out)) .result =
-    c .before .before .before .before .before .before .picture .ensures .1 .0 ∙ ap (λ (r : Both). pictureCall 160 4 (chipsOf (a .chips0) (a .chips1)) r (now (a .ram)) (a .group) (a .phase) (now (a .out)) .result) before in
+    let shown : c .before .before .before .before .before .before .picture .result ≡ pictureCall pcf8532 (chipsOf (a .chips0) (a .chips1)) (bothOf (now (a .registers))) (now (a .ram)) (a .group) (a .phase) (now (a .out)) .result =
+    c .before .before .before .before .before .before .picture .ensures .1 .0 ∙ ap (λ (r : Both). pictureCall pcf8532 (chipsOf (a .chips0) (a .chips1)) r (now (a .ram)) (a .group) (a .phase) (now (a .out)) .result) before in
     rw (c .before .before .before .before .before .before .before .before .before .if1 .taken) (
       c .before .before .put-pictured .ensures .0 ∙ ap (λ (t : Pictured). getD (pictureNumbers t) 0 0) shown,
       (
-        c .before .before .before .before .before .before .picture .ensures .0 ∙ ap (λ (r : Both). pictureCall 160 4 (chipsOf (a .chips0) (a .chips1)) r (now (a .ram)) (a .group) (a .phase) (now (a .out)) .out) before,
+        c .before .before .before .before .before .before .picture .ensures .0 ∙ ap (λ (r : Both). pictureCall pcf8532 (chipsOf (a .chips0) (a .chips1)) r (now (a .ram)) (a .group) (a .phase) (now (a .out)) .out) before,
         c .before .before .put-pictured .ensures .1 ∙ ap pictureNumbers shown,
       ),
     )

@@ -6,6 +6,7 @@ use denote.Ref.{now}
 use Rattle.sheet.specs.declared.Both.{Both}
 use Rattle.sheet.specs.declared.Transferred.{Transferred}
 use Rattle.sheet.specs.Refusals.{numbers}
+use Rattle.sheet.specs.Parts.{pcf8532}
 use Rattle.sheet.specs.Long.{transferCall}
 use Rattle.cabi.specs.Bytes.{bothOf, bothBytes}
 use Rattle.cabi.specs.Calls.{chipsOf, transferC}
@@ -31,14 +32,14 @@ returns : tie.Need-returns
 unfolding transferC
 returns c = let a = c .before .before .before .before .before .before .before .before .before .before .before .before .before .before .before .before .before .before .before .before .args in
     let before = c .before .before .before .before .before .before .before .before .before .before .before .before .before .both-of .ensures in
-    let after : c .before .before .before .before .before .before .before .before .before .before .before .transfer .result ≡ transferCall 160 4 (chipsOf (a .chips0) (a .chips1)) (bothOf (now (a .registers))) (now (a .ram)) (now (a .bytes)) .result =
-    c .before .before .before .before .before .before .before .before .before .before .before .transfer .ensures .1 .0 ∙ ap (λ (r : Both). transferCall 160 4 (chipsOf (a .chips0) (a .chips1)) r (now (a .ram)) (now (a .bytes)) .result) before in
+    let after : c .before .before .before .before .before .before .before .before .before .before .before .transfer .result ≡ transferCall pcf8532 (chipsOf (a .chips0) (a .chips1)) (bothOf (now (a .registers))) (now (a .ram)) (now (a .bytes)) .result =
+    c .before .before .before .before .before .before .before .before .before .before .before .transfer .ensures .1 .0 ∙ ap (λ (r : Both). transferCall pcf8532 (chipsOf (a .chips0) (a .chips1)) r (now (a .ram)) (now (a .bytes)) .result) before in
     rw (c .before .before .before .before .before .before .before .before .before .before .before .before .before .before .before .if1 .taken) (
       c .before .before .put-answer .ensures .0 ∙ ap (λ (t : Transferred). getD (numbers (t .answer)) 0 0) after,
       (
         c .before .before .before .before .before .before .put-both .ensures ∙ ap (λ (t : Transferred). bothBytes (t .registers)) after,
         (
-          c .before .before .before .before .before .before .before .before .before .before .before .transfer .ensures .0 ∙ ap (λ (r : Both). transferCall 160 4 (chipsOf (a .chips0) (a .chips1)) r (now (a .ram)) (now (a .bytes)) .ram) before,
+          c .before .before .before .before .before .before .before .before .before .before .before .transfer .ensures .0 ∙ ap (λ (r : Both). transferCall pcf8532 (chipsOf (a .chips0) (a .chips1)) r (now (a .ram)) (now (a .bytes)) .ram) before,
           c .before .before .put-answer .ensures .1 ∙ ap (λ (t : Transferred). numbers (t .answer)) after,
         ),
       ),

@@ -1,14 +1,20 @@
 -- answers: by the case of what the byte is.
 -- Assumes nothing.
+use mathlib.Core.Path.{sym, ap, _∙_}
+use Rattle.sheet.specs.declared.Expect.{Expect}
+use Rattle.sheet.specs.Parts.{pcf8532}
+use Rattle.sheet.specs.Plain.{acknowledgesByte}
 use borrow.Author.Needs.{needs}
 use Rattle.chip.proofs.answers.Statement.{statement}
 use Rattle.chip.proofs.answers.Tie as tie
 
-returns-4 : tie.Need-returns-4
-returns-4 c = rw (c .before .enum-told4 .given .1) (c .acknowledges-data .ensures)
+returns-2 : tie.Need-returns-2
+returns-2 c = let a = c .before .before .before .before .args in
+    c .answers-byte .ensures ∙ sym (ap (λ (e : Expect). acknowledgesByte pcf8532 e (a .byte) (a .chip)) (c .before .before .expect .given .1))
 
-returns-5 : tie.Need-returns-5
-returns-5 c = rw (c .before .enum-told5 .given .1) (c .acknowledges-data2 .ensures)
+returns-3 : tie.Need-returns-3
+returns-3 c = let a = c .before .before .before .before .args in
+    c .answers-byte2 .ensures ∙ sym (ap (λ (e : Expect). acknowledgesByte pcf8532 e (a .byte) (a .chip)) (c .before .before .expect2 .given .1))
 
 pub answers-spec : {M : Type 1} → statement M
 answers-spec =
@@ -16,13 +22,9 @@ answers-spec =
     (tie.spec
     (λ c. search needs)
     (λ c. search needs)
-    (λ c. search needs)
-    (λ c. search needs)
     (λ c κs. search needs)
     (λ c. search needs)
     (λ c κs. search needs)
     (λ c. search needs)
-    (λ c. search needs)
-    (λ c. search needs)
-    returns-4
-    returns-5)
+    returns-2
+    returns-3)

@@ -1,20 +1,20 @@
 -- follow: by the case of what the byte is.
 -- Assumes nothing.
+use mathlib.Core.Path.{sym, ap, _∙_}
+use Rattle.sheet.specs.declared.Expect.{Expect}
+use Rattle.sheet.specs.Parts.{pcf8532}
+use Rattle.sheet.specs.Plain.{chipByte}
 use borrow.Author.Needs.{needs}
 use Rattle.chip.proofs.follow.Statement.{statement}
 use Rattle.chip.proofs.follow.Tie as tie
 
 returns-2 : tie.Need-returns-2
-returns-2 c = rw (c .before .enum-told2 .given .1) (c .take-command .ensures)
+returns-2 c = let a = c .before .before .before .before .args in
+    c .take-byte .ensures ∙ sym (ap (λ (e : Expect). chipByte pcf8532 e (a .byte) (a .chip)) (c .before .before .expect .given .1))
 
 returns-3 : tie.Need-returns-3
-returns-3 c = rw (c .before .enum-told3 .given .1) (c .take-command2 .ensures)
-
-returns-4 : tie.Need-returns-4
-returns-4 c = rw (c .before .enum-told4 .given .1) (c .take-data .ensures)
-
-returns-5 : tie.Need-returns-5
-returns-5 c = rw (c .before .enum-told5 .given .1) (c .take-data2 .ensures)
+returns-3 c = let a = c .before .before .before .before .args in
+    c .take-byte2 .ensures ∙ sym (ap (λ (e : Expect). chipByte pcf8532 e (a .byte) (a .chip)) (c .before .before .expect2 .given .1))
 
 pub follow-spec : {M : Type 1} → statement M
 follow-spec =
@@ -26,11 +26,5 @@ follow-spec =
     (λ c. search needs)
     (λ c κs. search needs)
     (λ c. search needs)
-    (λ c κs. search needs)
-    (λ c. search needs)
-    (λ c κs. search needs)
-    (λ c. search needs)
     returns-2
-    returns-3
-    returns-4
-    returns-5)
+    returns-3)

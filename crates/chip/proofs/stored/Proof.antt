@@ -6,6 +6,7 @@ use native.Mathlib.Omega.{arith}
 use lib.ListN.{set}
 use borrow.Author.Tests.{eq-eqb, ne-eqb}
 use borrow.Author.Needs.{needs}
+use Rattle.sheet.specs.Parts.{pcf8532}
 use Rattle.sheet.specs.Data.{changed}
 use Rattle.sheet.specs.Plain.{afterColumn}
 use Rattle.laws.proofs.Ranges.{InRange, range-of, rows-fit}
@@ -13,8 +14,8 @@ use Rattle.chip.proofs.stored.Statement.{statement}
 use Rattle.chip.proofs.stored.Tie as tie
 
 -- the registers are in range
-range : (s : tie.Start) → InRange 160 4 (s .args .chip .registers)
-range s = range-of 160 4 (s .args .chip .registers) (s .pre .0)
+range : (s : tie.Start) → InRange pcf8532 (s .args .chip .registers)
+range s = range-of pcf8532 (s .args .chip .registers) (s .pre .0)
 
 mul-put-rows : tie.Need-mul-put-rows
 mul-put-rows c = rw (c .before .backplanes .ensures) (omega (arith, c .before .before .before .before .before .before .before .pre .1))

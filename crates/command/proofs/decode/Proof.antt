@@ -2,10 +2,10 @@
 -- Assumes nothing.
 use mathlib.Core.Path.{refl, sym}
 use native.Mathlib.Omega.{arith}
-use Rattle.sheet.specs.Commands.{within}
 use Rattle.command.proofs.Stretches.{as-first}
 use Rattle.command.proofs.decode.Statement.{statement}
 use Rattle.command.proofs.decode.Tie as tie
+use Rattle.sheet.specs.Parts.{within}
 
 returns : tie.Need-returns
 unfolding within

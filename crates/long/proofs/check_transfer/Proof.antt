@@ -20,7 +20,7 @@ returns-3 : tie.Need-returns-3
 unfolding checkTransfer
 returns-3 c =
     let passed = c .before .before .before .before in
-    rw (sym (passed .before .before .check-state .ensures) ∙ passed .enum-told .given .1, sym (c .before .before .before .check-length .ensures) ∙ c .before .enum-told2 .given .1) (c .check-commands .ensures)
+    rw (sym (passed .before .before .check-state .ensures) ∙ passed .enum-told .given .1, sym (c .before .before .before .check-length .ensures) ∙ c .before .enum-told2 .given .1) (c .check-bytes .ensures)
 
 pub check-transfer-spec : {M : Type 1} → statement M
 check-transfer-spec = tie.close (tie.spec (λ c κs. search needs) (λ c. search needs) (λ c. search needs) (λ c κs. search needs) (λ c. search needs) (λ c. search needs) (λ c κs. search needs) returns returns-2 returns-3)

@@ -1,48 +1,59 @@
 -- `long::deliver` meets its contract: the group hears the bytes in its part of the RAM, and the part is put back.
 -- Assumes nothing.
-use mathlib.Core.Path.{ap, _∙_}
+use mathlib.Core.Path.{_≡_, ap, _∙_}
+use Prim.Native.Nat.{_-_}
 use native.Mathlib.Omega.{arith}
-use lib.ListN.{length, drop}
+use lib.ListN.{length, take, drop}
 use denote.Ref.{now}
 use Rattle.sheet.specs.declared.Registers.{Registers}
 use Rattle.sheet.specs.declared.Answer.{Answer}
 use Rattle.sheet.specs.declared.Expect.the-variants.{Control}
+use Rattle.sheet.specs.Parts.{pcf8532}
 use Rattle.sheet.specs.Checks.{overIn}
-use Rattle.sheet.specs.Long.{Group, oneAcknowledged, noCounts, heard, replaced}
+use Rattle.sheet.specs.Long.{Group, oneAcknowledged, noCounts, heard, replaced, columnsOf}
 use Rattle.laws.proofs.Ranges.{in-range}
-use Rattle.laws.proofs.Fits.{fits-of}
-use Rattle.protocol.specs.Listeners.{heardOf}
-use Rattle.long.proofs.Parts.{part-in, part-ends, part-few, part-long, part-passes, part-taken, put-back}
+use Rattle.laws.proofs.Fits.{Fits, fits-of}
+use Rattle.laws.proofs.Nibbles.{check-nibbles}
+use Rattle.laws.proofs.Lens.{few-chips-in, ends-in-ram, group-kept}
+use Rattle.long.proofs.Parts.{part-taken, put-back}
 use borrow.Author.Needs.{needs}
 use Rattle.long.proofs.deliver.Statement.{statement}
 use Rattle.long.proofs.deliver.Tie as tie
 
+-- the state fits
+fitting : (c : tie.Start) → Fits pcf8532 (c .args .chips) (c .args .registers) (now (c .args .ram))
+fitting c = fits-of pcf8532 (c .args .chips) (c .args .registers) (now (c .args .ram)) (c .pre .0)
+
+-- the part is the group's
+part : (c : tie.After-end-of) → let a = c .before .before .before .before .args in take (c .end-of .result - c .before .start-of .result) (drop (c .before .start-of .result) (now (a .ram))) ≡ columnsOf pcf8532 (a .chips) (a .group) (now (a .ram))
+part c = let a = c .before .before .before .before .args in
+    part-taken (a .chips) (now (a .ram)) (a .group) (c .before .start-of .result) (c .end-of .result) (c .before .start-of .ensures) (c .end-of .ensures)
+
 part-hear-end : tie.Need-part-hear-end
 part-hear-end c = let s = c .before .before .before .before .before in
-    let a = s .args in
-    omega (arith, c .before .end-of .ensures, part-ends (a .chips) (a .registers) (now (a .ram)) (a .group) (fits-of 160 4 (a .chips) (a .registers) (now (a .ram)) (s .pre .0)))
+    omega (arith, c .before .end-of .ensures, ends-in-ram pcf8532 (s .args .chips) (s .args .registers) (now (s .args .ram)) (fitting s) (s .args .group))
 
 hear-requires : tie.Need-hear-requires
 hear-requires c κs = let s = c .before .before .before .before .before .before in
     let a = s .args in
-    let f = fits-of 160 4 (a .chips) (a .registers) (now (a .ram)) (s .pre .0) in
-    let part = part-taken (a .chips) (a .registers) (now (a .ram)) (a .group) f (c .before .before .before .start-of .result) (c .before .before .end-of .result) (c .before .before .before .start-of .ensures) (c .before .before .end-of .ensures) in
-    (rw (c .before .registers-of .ensures) (in-range 160 4 _ (part-in (a .chips) (a .registers) (now (a .ram)) (a .group) f)), omega (arith, ap length part, part-long (a .chips) (a .registers) (now (a .ram)) (a .group) f, part-few (a .chips) (a .registers) (now (a .ram)) (a .group) f), s .pre .1, s .pre .2, ap (overIn 0) part ∙ part-passes (a .chips) (a .registers) (now (a .ram)) (a .group) f)
+    let f = fitting s in
+    let kept = group-kept pcf8532 (a .chips) (a .registers) (now (a .ram)) f (a .group) in
+    record {
+      range = rw (c .before .registers-of .ensures) (in-range pcf8532 _ (kept .range));
+      few = omega (arith, ap length (part (c .before .before)), kept .columns, few-chips-in pcf8532 (a .chips) (a .registers) (now (a .ram)) f (a .group));
+      nibbles = ap (overIn 0) (part (c .before .before)) ∙ check-nibbles 0 (columnsOf pcf8532 (a .chips) (a .group) (now (a .ram))) (kept .nibbles);
+      some = s .pre .1;
+      short = s .pre .2;
+    }
 
 returns : tie.Need-returns
-returns c = let s = c .before .before .before .before .before .before .before .before .before .before .before .before in
-    let a = s .args in
-    let f = fits-of 160 4 (a .chips) (a .registers) (now (a .ram)) (s .pre .0) in
-    let start = c .before .before .before .before .before .before .before .before .before .start-of in
-    let end = c .before .before .before .before .before .before .before .before .end-of in
-    let hear = c .before .before .before .before .before .hear in
-    let part = part-taken (a .chips) (a .registers) (now (a .ram)) (a .group) f (start .result) (end .result) (start .ensures) (end .ensures) in
-    let same = ap (λ (g : Group). heard 160 4 Control (drop 1 (now (a .bytes))) g) (λ j. record { registers = c .before .before .before .before .before .before .before .registers-of .ensures j; ram = part j; counts = oneAcknowledged noCounts }) in
-    let told = hear .ensures .1 ∙ ap heardOf same in
-    let after = c .replaced .ensures ∙ ap (λ (r : Registers). replaced (a .group) r (a .registers)) (λ j. told j .registers) in (
-      put-back (a .chips) (a .registers) (now (a .ram)) (a .group) f (start .result) (end .result) (hear .last .0) _ (start .ensures) (end .ensures) (hear .ensures .0 ∙ ap (λ (g : Group). g .ram) same),
-      λ j. record { answer = Answer.Taken (told j .counts); registers = after j },
-    )
+returns c = let h = c .before .before .before .before .before in
+    let e = h .before .before .before in
+    let a = e .before .before .before .before .args in
+    let told = h .hear .ensures ∙ ap (λ (g : Group). heard pcf8532 Control (drop 1 (now (a .bytes))) g) (λ j. record { registers = h .before .before .registers-of .ensures j; ram = part e j; counts = oneAcknowledged noCounts }) in
+    let after = c .replaced .ensures ∙ ap (λ (r : Registers). replaced (a .group) r (a .registers)) (λ j. told j .registers) in
+    let back = put-back (a .chips) (now (a .ram)) (a .group) (e .before .start-of .result) (e .end-of .result) (e .before .start-of .ensures) (e .end-of .ensures) (h .hear .last .0) _ (λ j. told j .ram) in
+    λ j. record { result = record { answer = Answer.Taken (told j .counts); registers = after j }; ram = back j }
 
 pub deliver-spec : {M : Type 1} → statement M
 deliver-spec =

@@ -14,7 +14,7 @@ returns c =
 returns-2 : tie.Need-returns-2
 returns-2 c =
     let first = c .before .before .before .before in
-    rw (le-leb _ _ (first .if1 .taken), sym (c .before .before .before .check-length .ensures) ∙ c .before .enum-told .given .1) (c .check-commands .ensures)
+    rw (le-leb _ _ (first .if1 .taken), sym (c .before .before .before .check-length .ensures) ∙ c .before .enum-told .given .1) (c .check-bytes .ensures)
 
 returns-3 : tie.Need-returns-3
 returns-3 c = rw (lt-leb _ _ (c .if1 .left)) refl

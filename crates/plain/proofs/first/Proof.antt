@@ -20,6 +20,7 @@ use Rattle.plain.proofs.first.Key.{name as #plain·first}
 use Rattle.plain.proofs.first.Statement as stated
 use Rattle.plain.proofs.first.Code as code
 use Rattle.plain.proofs.first.Code.Mir as body
+use Rattle.sheet.specs.Parts.{within}
 
 abbrev Says : (κs : Lfts 1) → Args own.signature κs → ℕ → Type 0
 Says κs a r = r ≡ firstYes (yes (a .1 .0)) (a .0 .now)

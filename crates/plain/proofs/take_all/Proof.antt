@@ -20,6 +20,7 @@ use Rattle.plain.proofs.take_all.Key.{name as #plain·take-all}
 use Rattle.plain.proofs.take_all.Statement as stated
 use Rattle.plain.proofs.take_all.Code as code
 use Rattle.plain.proofs.take_all.Code.Mir as body
+use Rattle.sheet.specs.Parts.{within}
 
 abbrev Says : (κs : Lfts 1) → Args own.signature κs → List Chip → Unit {0} → Type 0
 Says κs a zs r = zs ≡ map (taken (a .1 .0)) (a .0 .now)

@@ -1,11 +1,12 @@
 -- `plain::transfer` meets its contract: a walk of its MIR, by hand, of one test. More than eight chips are refused; a shorter list is lent to `transfer_few`.
 -- Assumes nothing.
-use Rattle.walks.proofs.Walk.{_≡_, refl, sym, ap, List, [], _∷_, ℕ, _<_, _≤_, ltb→lt, nltb→le, length, URA, fullShare, Lfts, Args, SProp, emp, id⊢, Memory, Routine, Heap, Tables, Atoms, Fun, factI, givenOf, tables, tablesOf, Given, ‵, _$_, !, move, lit, of-opd, bin, and-then, no-more, u8, row, Meets, tripleOf, entered, cited}
+use Rattle.walks.proofs.Walk.{_≡_, refl, sym, ap, List, [], _∷_, _≤_, ltb→lt, nltb→le, length, URA, Lfts, Args, SProp, emp, id⊢, Memory, Routine, Heap, Tables, Atoms, Fun, factI, givenOf, tables, tablesOf, Given, _$_, !, move, lit, of-opd, bin, and-then, no-more, u8, Meets, tripleOf, entered, cited}
 use Rattle.walks.proofs.Walk.{get, field, sets, leaves, tests, opens, shuts, reslices, then, calls-plain, calls-lending-passing, both-said, Mut-shared-walk, mut-shared-meets, said-both}
 use Rattle.sheet.specs.declared.Chip.{Chip}
 use Rattle.sheet.specs.declared.Refusal.the-variants.{ManyChips}
 use Rattle.sheet.specs.declared.PlainAnswer.{PlainAnswer}
 use Rattle.sheet.specs.Refusals.{plainNumbers}
+use Rattle.sheet.specs.Parts.{pcf8532}
 use Rattle.sheet.specs.Plain.{PlainAfter, plainCall}
 use Rattle.plain.proofs.Starting.{too-many}
 use Rattle.plain.proofs.Shapes.{answer}
@@ -26,7 +27,7 @@ use Rattle.plain.proofs.transfer.Code as code
 
 abbrev Says : (κs : Lfts 2) → Args own.signature κs → List Chip → PlainAnswer → Type 0
 Says κs a zs r =
-    let p = plainCall 160 4 (a .0 .now) (a .1 .0 .now) in
+    let p = plainCall pcf8532 (a .0 .now) (a .1 .0 .now) in
     ((r ≡ p .answer) × (plainNumbers r ≡ plainNumbers (p .answer))) × (zs ≡ p .chips)
 
 module _ {M : Type 1} (𝓤 : URA M) (H : Heap 𝓤) (A : Atoms 𝓤) (W : Given 𝓤 H A) (mem : Memory → SProp 𝓤) (run : Routine → Fun 𝓤) (𝓣 : Tables 𝓤 H)
@@ -44,8 +45,8 @@ module _ {M : Type 1} (𝓤 : URA M) (H : Heap 𝓤) (A : Atoms 𝓤) (W : Given
       ends _ xs refl is-answer ((ap (λ (p : PlainAfter). p .answer) refused, ap (λ (p : PlainAfter). plainNumbers (p .answer)) refused), ap (λ (p : PlainAfter). p .chips) refused)))
       (λ denied.
       reslices ! refl refl tt (tt, tt) refl refl tt (tt, (tt, (record { fits = space .0 }, tt))) $
-      calls-lending-passing ! 0 𝓣 AnswerType.the-row answer tt refl (plainCall 160 4 xs bytes .answer) [] (λ _. tt) (λ _. tt) (λ _. tt) ChipType.the-row xs b o space u8 bytes b₂ o₂ γ₂ κ₂ s₂ (length xs) refl
-      (λ r zs. (r ≡ plainCall 160 4 xs bytes .answer) × (zs ≡ plainCall 160 4 xs bytes .chips)) (λ r zs e. e .0) (few.clauses 𝓤 H A mem run) few-met (λ κ γ. tt) (λ κ γ. factI 𝓤 (length xs ≤ 8) (emp 𝓤) (nltb→le 8 (length xs) denied))
+      calls-lending-passing ! 0 𝓣 AnswerType.the-row answer tt refl (plainCall pcf8532 xs bytes .answer) [] (λ _. tt) (λ _. tt) (λ _. tt) ChipType.the-row xs b o space u8 bytes b₂ o₂ γ₂ κ₂ s₂ (length xs) refl
+      (λ r zs. (r ≡ plainCall pcf8532 xs bytes .answer) × (zs ≡ plainCall pcf8532 xs bytes .chips)) (λ r zs e. e .0) (few.clauses 𝓤 H A mem run) few-met (λ κ γ. tt) (λ κ γ. factI 𝓤 (length xs ≤ 8) (emp 𝓤) (nltb→le 8 (length xs) denied))
       (λ κ Δ. and-then ! (get ! refl) (and-then ! (get ! refl) (no-more !))) (λ κ γ r ws. both-said 𝓤 _ _) (λ zs len e is-answer.
       move ! (1 ∷ 3 ∷ []) $ shuts ChipType.the-row ! tt xs zs b o space len $ move ! (1 ∷ []) $ leaves ! post refl refl tt $ ends _ zs len is-answer ((refl, refl), e .1)))
 

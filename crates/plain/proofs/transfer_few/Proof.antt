@@ -6,6 +6,7 @@ use denote.Struct.Laws.{owed}
 use denote.Enum.Laws.{owes}
 use Rattle.sheet.specs.declared.Chip.{Chip}
 use Rattle.sheet.specs.declared.PlainAnswer.{PlainAnswer}
+use Rattle.sheet.specs.Parts.{pcf8532}
 use Rattle.sheet.specs.Plain.{PlainAfter, plainCall}
 use Rattle.plain.specs.declared.Start.{Start}
 use Rattle.plain.specs.declared.Question.the-variants.{Misfit, Hears}
@@ -50,7 +51,7 @@ abbrev Asked : (κs : Lfts 2) → Args own.signature κs → Type 0
 Asked κs a = length (a .0 .now) ≤ 8
 
 abbrev Says : (κs : Lfts 2) → Args own.signature κs → List Chip → PlainAnswer → Type 0
-Says κs a zs r = (r ≡ plainCall 160 4 (a .0 .now) (a .1 .0 .now) .answer) × (zs ≡ plainCall 160 4 (a .0 .now) (a .1 .0 .now) .chips)
+Says κs a zs r = (r ≡ plainCall pcf8532 (a .0 .now) (a .1 .0 .now) .answer) × (zs ≡ plainCall pcf8532 (a .0 .now) (a .1 .0 .now) .chips)
 
 module _ {M : Type 1} (𝓤 : URA M) (H : Heap 𝓤) (A : Atoms 𝓤) (W : Given 𝓤 H A) (mem : Memory → SProp 𝓤) (run : Routine → Fun 𝓤) (𝓣 : Tables 𝓤 H)
     (first-met : Meets 𝓤 H A first.signature (𝓣 .C #plain·first) (first.spec 𝓤 H A mem run)) (hail-met : Meets 𝓤 H A hail.signature (𝓣 .C #plain·hail) (hail.spec 𝓤 H A mem run)) (begin-met : Meets 𝓤 H A begin.signature (𝓣 .C #plain·begin) (begin.spec 𝓤 H A mem run)) (follow-met : Meets 𝓤 H A follow.signature (𝓣 .C #plain·follow) (follow.spec 𝓤 H A mem run)) (answer-met : Meets 𝓤 H A answers.signature (𝓣 .C #plain·answer) (answers.spec 𝓤 H A mem run)) where

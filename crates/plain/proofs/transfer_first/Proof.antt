@@ -14,6 +14,7 @@ use denote.Struct.Declared.{shape}
 use denote.Struct.Laws.{owed, owes}
 use Rattle.sheet.specs.declared.Chip.{Chip}
 use Rattle.sheet.specs.Refusals.{plainNumbers}
+use Rattle.sheet.specs.Parts.{pcf8532}
 use Rattle.sheet.specs.Plain.{plainCall}
 use Rattle.plain.specs.declared.Bench.{Bench}
 use Rattle.plain.specs.declared.BenchTransferred.{BenchTransferred}
@@ -58,8 +59,8 @@ module _ {M : Type 1} (𝓤 : URA M) (H : Heap 𝓤) (A : Atoms 𝓤) (W : Given
       rewrite ! 0 (λ (zs : List Chip). ‵ (row ChipType.the-row fullShare zs (l 4) 0)) (sym (take-append-drop (d .count) (d .chips))) refl $
       use1 W (‵ (row ChipType.the-row fullShare cs (l 4) 0) ⊛ ‵ (row ChipType.the-row fullShare rest (l 4) (place 200 0 (length cs)))) (cuts 𝓤 H A W ChipType.the-row fullShare cs rest (l 4) 0) $ split ! $ move ! (2 ∷ 0 ∷ 3 ∷ []) $
       -- [the frame, without the array; the first chips' row; the bytes; the others' row]
-      calls-lending-passing ! 5 𝓣 AnswerType.the-row answer tt refl (plainCall 160 4 cs bytes .answer) [] (λ _. tt) (λ _. tt) (λ _. tt) ChipType.the-row cs (l 4) 0 room u8 bytes b o γ κ s (d .count) (sym len)
-      (λ r zs. ((r ≡ plainCall 160 4 cs bytes .answer) × (plainNumbers r ≡ plainNumbers (plainCall 160 4 cs bytes .answer))) × (zs ≡ plainCall 160 4 cs bytes .chips)) (λ r zs e. e .0 .0) (transfer.clauses 𝓤 H A mem run) transfer-met (λ κ γ. tt) (λ κ γ. id⊢ 𝓤 (emp 𝓤))
+      calls-lending-passing ! 5 𝓣 AnswerType.the-row answer tt refl (plainCall pcf8532 cs bytes .answer) [] (λ _. tt) (λ _. tt) (λ _. tt) ChipType.the-row cs (l 4) 0 room u8 bytes b o γ κ s (d .count) (sym len)
+      (λ r zs. ((r ≡ plainCall pcf8532 cs bytes .answer) × (plainNumbers r ≡ plainNumbers (plainCall pcf8532 cs bytes .answer))) × (zs ≡ plainCall pcf8532 cs bytes .chips)) (λ r zs e. e .0 .0) (transfer.clauses 𝓤 H A mem run) transfer-met (λ κ γ. tt) (λ κ γ. id⊢ 𝓤 (emp 𝓤))
       (λ κ Δ. and-then ! (get ! refl) (and-then ! (get ! refl) (no-more !))) (λ κ γ r ws. both-said 𝓤 _ _) (λ zs len-z e is-a.
       let all : length (zs ++ rest) ≡ 8 = length-append zs rest ∙ omega (arith, length-drop (d .count) (d .chips)) in
       -- the array is put together
@@ -69,12 +70,12 @@ module _ {M : Type 1} (𝓤 : URA M) (H : Heap 𝓤) (A : Atoms 𝓤) (W : Given
       let is-array = subst (λ (us : List Val). Is (Array (Struct (shape ChipType.the-type)) 8) (map (ChipType.the-type .to) (zs ++ rest)) us) told is-u in
       let after : Bench = withFirst d zs in
       let is-bench : Is BenchType.the-row after (bench .val after ∷ []) = owes BenchType.the-type BenchLaws.the-laws after (is-array, (is-d .1 .0, tt)) in
-      let out : BenchTransferred = record { answer = plainCall 160 4 cs bytes .answer; bench = after } in
+      let out : BenchTransferred = record { answer = plainCall pcf8532 cs bytes .answer; bench = after } in
       let is-out : Is TransferredType.the-row out (transferred .val out ∷ []) = owes TransferredType.the-type TransferredLaws.the-laws out (is-a, (is-bench, tt)) in
       rewrite ! 0 (λ (v : Val). ‵ (fat fullShare (tyArray ChipLaws.mir 8) (l 4) 0 v)) (ap only told) refl $ puts-back ! 4 refl $
       sets ! (of-opd ! (get ! refl)) tt (BenchLaws.the-laws .0 .lawful 𝓤 H A W .typed (map (ChipType.the-type .to) (zs ++ rest)) (array (zs ++ rest) ∷ []) is-array .0) $
       sets ! (agg ! (and-then ! (get ! refl) (and-then ! (get ! refl) (no-more !)))) tt (bench .typed 𝓤 H A W after is-bench) $ sets ! (agg ! (and-then ! (get ! refl) (and-then ! (get ! refl) (no-more !)))) tt (transferred .typed 𝓤 H A W out is-out) $
-      leaves ! post refl refl tt $ ends out is-out (ap (λ (zs : List Chip). record { answer = plainCall 160 4 cs bytes .answer; bench = withFirst d zs }) (e .1)))))
+      leaves ! post refl refl tt $ ends out is-out (ap (λ (zs : List Chip). record { answer = plainCall pcf8532 cs bytes .answer; bench = withFirst d zs }) (e .1)))))
     where
       d : Bench
       d = a .0

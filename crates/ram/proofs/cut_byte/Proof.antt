@@ -10,7 +10,8 @@ use denote.Ref.{now}
 use Rattle.lemmas.proofs.Lists.{next}
 use Rattle.lemmas.proofs.Tests.{all, all-at}
 use Rattle.sheet.specs.Registers.{bankRow}
-use Rattle.sheet.specs.Data.{putBits, putRun}
+use Rattle.sheet.specs.Data.{putBits}
+use Rattle.sheet.specs.Runs.{putRun}
 use Rattle.ram.proofs.Runs.{run-cut}
 use borrow.Author.Needs.{needs}
 use Rattle.ram.proofs.cut_byte.Statement.{statement}

@@ -7,8 +7,8 @@ use native.Mathlib.Omega.{arith}
 use lib.ListN.{length, getD}
 use denote.Ref.{now}
 use Rattle.lemmas.proofs.Tests.{all-at}
-use Rattle.ram.specs.Fields.{withRows, field, columnOf, mixed, merged, Spread}
-use Rattle.ram.proofs.Words.{first-four, four-columns, isSpread, tested}
+use Rattle.words.specs.Fields.{withRows, field, columnOf, mixed, merged, Spread}
+use Rattle.words.proofs.Words.{first-four, four-columns, isSpread, tested}
 use Rattle.ram.proofs.Runs.{Running, begun, turn, done, small}
 use borrow.Author.Needs.{needs}
 use Rattle.ram.proofs.static_run.Statement.{statement}

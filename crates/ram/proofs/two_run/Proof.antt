@@ -5,8 +5,8 @@ use Prim.Native.Nat.{ℕ, _+_, _-_, _*_}
 use native.Mathlib.Omega.{arith}
 use lib.ListN.{length, getD}
 use denote.Ref.{now}
-use Rattle.ram.specs.Fields.{withRows, columnOf, mixed, merged}
-use Rattle.ram.proofs.Words.{first-four}
+use Rattle.words.specs.Fields.{withRows, columnOf, mixed, merged}
+use Rattle.words.proofs.Words.{first-four}
 use Rattle.ram.proofs.Runs.{Running, begun, turn, done, small}
 use borrow.Author.Needs.{needs}
 use Rattle.ram.proofs.two_run.Statement.{statement}

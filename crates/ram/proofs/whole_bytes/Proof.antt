@@ -6,7 +6,8 @@ use native.Mathlib.Omega.{arith}
 use lib.ListN.{length}
 use denote.Ref.{now}
 use Rattle.sheet.specs.Registers.{bankRow}
-use Rattle.sheet.specs.Data.{putRun, widthOf}
+use Rattle.sheet.specs.Data.{widthOf}
+use Rattle.sheet.specs.Runs.{putRun}
 use borrow.Author.Needs.{needs}
 use Rattle.ram.proofs.whole_bytes.Statement.{statement}
 use Rattle.ram.proofs.whole_bytes.Tie as tie

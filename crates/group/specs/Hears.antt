@@ -1,0 +1,18 @@
+-- What is asked of a group that hears, and of the bytes.
+use Prim.Native.Nat.{ℕ, _≤_, _<_}
+use mathlib.Core.Path.{_≡_}
+use mathlib.Core.Bool.{true}
+use mathlib.Core.List.{List}
+use lib.ListN.{length}
+use Rattle.sheet.specs.declared.Registers.{Registers}
+use Rattle.sheet.specs.declared.Check.the-variants.{Passed}
+use Rattle.sheet.specs.Parts.{pcf8532}
+use Rattle.sheet.specs.Registers.{inRange}
+use Rattle.sheet.specs.Checks.{overIn}
+
+pub record Hears (ram : List ℕ) (r : Registers) (bytes : List ℕ) : Type 0 where
+  pub range : inRange pcf8532 r ≡ true
+  pub few : length ram ≤ 640
+  pub nibbles : overIn 0 ram ≡ Passed
+  pub some : 0 < length bytes
+  pub short : length bytes < 4097

@@ -1,0 +1,23 @@
+-- `protocol::fault_of` meets its contract.
+-- Assumes nothing.
+use mathlib.Core.Path.{ap, _∙_}
+use mathlib.Core.Bool.{Bool}
+use Rattle.sheet.specs.declared.Refusal.the-variants.{UndefinedCommand}
+use Rattle.sheet.specs.Checks.{unless}
+use borrow.Author.Needs.{needs}
+use Rattle.protocol.proofs.fault_of.Statement.{statement}
+use Rattle.protocol.proofs.fault_of.Tie as tie
+
+returns : tie.Need-returns
+returns c = rw (c .before .before .enum-told .given .1) (c .unless .ensures ∙ ap (λ (b : Bool). unless b (UndefinedCommand (c .before .before .before .before .args .i))) (c .before .is-defined .ensures))
+
+pub fault-of-spec : {M : Type 1} → statement M
+fault-of-spec =
+    tie.close
+    (tie.spec
+    (λ c. search needs)
+    (λ c κs. search needs)
+    (λ c κs. search needs)
+    (λ c. search needs)
+    returns
+    (λ c. search needs))
