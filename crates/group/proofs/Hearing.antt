@@ -13,6 +13,7 @@ use Rattle.sheet.specs.declared.Kind.{Kind}
 use Rattle.sheet.specs.declared.Expect.{Expect}
 use Rattle.sheet.specs.declared.Expect.the-variants.{Control, One, All}
 use Rattle.sheet.specs.Parts.{pcf8532}
+use Rattle.sheet.specs.Protocol.{next}
 use Rattle.sheet.specs.Long.{Group, begun, byte, heard}
 use Rattle.sheet.specs.Runs.{writtenBy, countedBy, movedBy}
 use Rattle.laws.proofs.Runs.{run-at-once}
@@ -20,7 +21,7 @@ use Rattle.laws.proofs.Kept.{Kept, heard-keeps, pcf8532-keeps}
 use Rattle.laws.proofs.Sums.{Few, heard-few}
 use Rattle.laws.proofs.Joined.{nextAfter, heard-joined}
 use Rattle.protocol.specs.declared.Listener.{Listener}
-use Rattle.protocol.specs.Listeners.{groupOf, dataEnd, afterData, stepped, ran}
+use Rattle.protocol.specs.Listeners.{groupOf, dataEnd, stepped, ran}
 
 pub record Hearing (ram₀ bytes : List ℕ) (r : Registers) (ram : List ℕ) (l : Listener) (i : ℕ) : Type 0 where
   pub rest : heard pcf8532 (l .expect) (drop i bytes) (groupOf l ram) ≡ heard pcf8532 Control (drop 1 bytes) (begun r ram₀)
@@ -57,16 +58,16 @@ all-next k [] = refl
 all-next k (x ∷ xs) = all-next k xs
 
 record IsRun (e : Expect) (xs : List ℕ) : Type 0 where
-  next : nextAfter e xs ≡ afterData e
+  then : nextAfter e xs ≡ next e 0
   alike : (g : Group) → heard pcf8532 e xs g ≡ heard pcf8532 (All Kind.Data) xs g
 
 run-of : (bytes : List ℕ) (i : ℕ) → i < length bytes → (e : Expect) → i < dataEnd e i (length bytes) → IsRun e (take (dataEnd e i (length bytes) - i) (drop i bytes))
 unfolding heard
 run-of bytes i h Control some = absurd (omega arith)
 run-of bytes i h (One Kind.Command) some = absurd (omega arith)
-run-of bytes i h (One Kind.Data) some = rw (part-one bytes i h) (record { next = refl; alike = λ g. refl })
+run-of bytes i h (One Kind.Data) some = rw (part-one bytes i h) (record { then = refl; alike = λ g. refl })
 run-of bytes i h (All Kind.Command) some = absurd (omega arith)
-run-of bytes i h (All Kind.Data) some = record { next = all-next Kind.Data (take (length bytes - i) (drop i bytes)); alike = λ g. refl }
+run-of bytes i h (All Kind.Data) some = record { then = all-next Kind.Data (take (length bytes - i) (drop i bytes)); alike = λ g. refl }
 
 -- ---- a turn
 
@@ -113,7 +114,7 @@ module _ (ram₀ bytes : List ℕ) (r : Registers) (ram : List ℕ) (l : Listene
       let most : end ≤ length bytes = rw ends (ends-in (l .expect) i (length bytes) h .1) in
       let run : IsRun (l .expect) xs = subst (λ (k : ℕ). IsRun (l .expect) (take (k - i) (drop i bytes))) (sym ends) (run-of bytes i h (l .expect) (rw (sym ends) some)) in
       turn end (le-of-lt some) most after l′
-      (ap (λ (k : Listener). k .expect) el ∙ sym (run .next))
+      (ap (λ (k : Listener). k .expect) el ∙ sym (run .then))
       ((λ j. record { registers = el j .registers; ram = er j; counts = el j .counts })
       ∙ ap₂ (λ (n size : ℕ). record { registers = movedBy pcf8532 n (l .registers); ram = writtenBy pcf8532 (l .registers) xs ram; counts = countedBy pcf8532 (l .registers) n size (l .counts) }) (sym (part-length bytes i end most)) (sym (inv .kept .columns))
       ∙ sym (run-at-once pcf8532 xs (groupOf l ram) (inv .kept .range .p-in) (inv .kept .range .a-in) (rw (inv .kept .columns) small))

@@ -49,14 +49,9 @@ onlyData (One k) = false
 onlyData (All Kind.Command) = false
 onlyData (All Kind.Data) = true
 
-abbrev pub afterData : Expect → Expect
-afterData Control = Control
-afterData (One k) = Control
-afterData (All k) = All k
-
--- a run of n data bytes, where size columns are there
+-- a run of n data bytes, where size columns are there; what follows data does not depend on it
 abbrev pub ran : Listener → ℕ → ℕ → Listener
-ran l n size = record { expect = afterData (l .expect); registers = movedBy pcf8532 n (l .registers); counts = countedBy pcf8532 (l .registers) n size (l .counts) }
+ran l n size = record { expect = next (l .expect) 0; registers = movedBy pcf8532 n (l .registers); counts = countedBy pcf8532 (l .registers) n size (l .counts) }
 
 -- counts that have room for n data bytes more
 pub record Countable (t : Counts) (m n : ℕ) : Type 0 where

@@ -14,7 +14,7 @@ ghost use Rattle.sheet.specs.Protocol.{kindOf, controlOf, next};
 ghost use Rattle.sheet.specs.Checks.{faultOf, fault, faultIn};
 ghost use Rattle.sheet.specs.Long.{oneAcknowledged, begun};
 ghost use Rattle.sheet.specs.Runs.{countedRun};
-ghost use Rattle.protocol.specs.Listeners.{listenerOf, obeyedBy, dataEnd, onlyData, afterData, stepped, ran, Countable, Runs};
+ghost use Rattle.protocol.specs.Listeners.{listenerOf, obeyedBy, dataEnd, onlyData, stepped, ran, Countable, Runs};
 
 // ---- what a byte is
 
@@ -150,17 +150,6 @@ pub fn data_end(expect: Expect, i: usize, n: usize) -> usize
     }
 }
 
-// What follows data.
-fn after_data(expect: Expect) -> Expect
-    ensures { λ r. ⌜ r ≡ afterData expect ⌝ }
-{
-    match expect {
-        Expect::Control => Expect::Control,
-        Expect::One(_) => Expect::Control,
-        Expect::All(kind) => Expect::All(kind),
-    }
-}
-
 // One byte more is acknowledged.
 fn acknowledged(mut counts: Counts) -> Counts
     requires { ⌜ counts .acknowledged < 2 ^ 32 ⌝ }
@@ -221,7 +210,7 @@ impl Listener {
         }
     }
 
-    // After a run of n data bytes, `size` columns being there.
+    // After a run of n data bytes, `size` columns being there. What follows them does not depend on them.
     pub fn run(self, n: usize, size: usize) -> Listener
         requires { ⌜ Runs self n ⌝ }
         ensures { λ r. ⌜ r ≡ ran self n size ⌝ }
@@ -233,7 +222,7 @@ impl Listener {
         let v = arithmetic::position(registers);
         let after = v + arithmetic::width(m) * n;
         Listener {
-            expect: after_data(expect),
+            expect: follow(expect, 0),
             registers: arithmetic::at_position(registers, after),
             counts: counted(counts, v, size, m, n),
         }

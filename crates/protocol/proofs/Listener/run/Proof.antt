@@ -44,7 +44,7 @@ returns c = let w = c .before .before .before in
     let r = a .self .registers in
     let er = c .before .at-position .ensures ∙ ap₂ (λ (u k : ℕ). atPosition pcf8532 r (u + k * a .n)) v (w .width .ensures ∙ ap widthOf m) in
     let ec = c .counted .ensures ∙ ap₂ (λ (u k : ℕ). countedRun (a .n) k u (a .size) (a .self .counts)) v m in
-    λ j. record { expect = c .before .before .after-data .ensures j; registers = er j; counts = ec j }
+    λ j. record { expect = c .before .before .follow .ensures j; registers = er j; counts = ec j }
 
 pub run-spec : {M : Type 1} → statement M
 run-spec =
