@@ -2,7 +2,8 @@
 -- Assumes nothing.
 use mathlib.Core.Path.{_≡_, refl}
 use mathlib.Core.Bool.{Bool, true, false, cond, _&&_}
-use Prim.Native.Nat.{ℕ, zero, suc, _+_, _*_, _≤_, _<_}
+use mathlib.Core.List.{List, [], _∷_}
+use Prim.Native.Nat.{ℕ, zero, suc, _+_, _-_, _*_, _%_, _≤_, _<_}
 use native.Mathlib.Nat.{mul-le-mul-left}
 use native.Mathlib.Omega.{arith}
 use lib.Dec.{eqb, leb, ltb, ltb→lt, eqb·suc-zero}
@@ -10,8 +11,9 @@ use borrow.Author.Tests.{leb-true, ltb-true, lt-ltb, le-leb}
 use Rattle.lemmas.proofs.Tests.{and-left, and-right, both-true, all, all-at}
 use Rattle.sheet.specs.declared.Registers.{Registers}
 use Rattle.sheet.specs.declared.Command.{Command}
-use Rattle.sheet.specs.Parts.{Part, within, commandOf, pcf8532}
-use Rattle.sheet.specs.Registers.{inRange, backplanes, bankRow}
+use Rattle.sheet.specs.declared.Command.the-variants.{Undefined}
+use Rattle.sheet.specs.Parts.{Part, within, Range, commandIn, pcf8532Ranges, commandOf, pcf8532}
+use Rattle.sheet.specs.Registers.{atPlace, inRange, backplanes, bankRow}
 use Rattle.sheet.specs.Commands.{obeyed}
 use Rattle.sheet.specs.Places.{position}
 
@@ -57,34 +59,44 @@ unfolding inRange
 in-range K r h =
     rw (lt-ltb (r .e) 2 (h .e-in), lt-ltb (r .b) 2 (h .b-in), lt-ltb (r .m) 4 (h .m-in), lt-ltb (r .p) (K .columns) (h .p-in), le-leb (r .a) (K .limit) (h .a-in), lt-ltb (r .i) 2 (h .i-in), lt-ltb (r .o) 2 (h .o-in), lt-ltb (r .ab) 2 (h .ab-in), lt-ltb (r .bf) 4 (h .bf-in))
 
+-- another place in range keeps them there
+pub placed-in : (K : Part) (r : Registers) (p a : ℕ) → InRange K r → p < K .columns → a ≤ K .limit → InRange K (atPlace r p a)
+placed-in K r p a h lp la = record { e-in = h .e-in; b-in = h .b-in; m-in = h .m-in; p-in = lp; a-in = la; i-in = h .i-in; o-in = h .o-in; ab-in = h .ab-in; bf-in = h .bf-in }
+
 -- ---- commands keep registers in range
 
-pub by-test : (P : Command → Type 0) (t : Bool) (a b : Command) → (t ≡ true → P a) → P b → P (cond t a b)
-by-test P true a b f g = f refl
-by-test P false a b f g = g
-
 -- the ends of a range that was hit
-pub hit : (lo hi n : ℕ) → within lo hi n ≡ true → (lo ≤ n) × (n ≤ hi)
+hit : (lo hi n : ℕ) → within lo hi n ≡ true → (lo ≤ n) × (n ≤ hi)
 unfolding within
 hit lo hi n e = let t = both-true (leb lo n) (leb n hi) e in (leb-true lo n (t .0), leb-true n hi (t .1))
+
+-- what holds of a byte in each range of a table
+abbrev pub Each : (Command → Type 0) → ℕ → List Range → Type 0
+Each P x [] = Unit {0}
+Each P x (t ∷ ts) = (t .first ≤ x → x ≤ t .last → P (t .is x)) × Each P x ts
+
+-- and of no command holds of the byte's command
+pub by-range : (P : Command → Type 0) (x : ℕ) (ts : List Range) → Each P x ts → P Undefined → P (commandIn ts x)
+unfolding commandIn
+by-range P x [] each none = none
+by-range P x (t ∷ ts) each none = go (within (t .first) (t .last) x) (hit (t .first) (t .last) x) (by-range P x ts (each .1) none)
+  where
+    go : (b : Bool) → (b ≡ true → (t .first ≤ x) × (x ≤ t .last)) → P (commandIn ts x) → P (cond b (t .is x) (commandIn ts x))
+    go true h rest = each .0 (h refl .0) (h refl .1)
+    go false h rest = rest
 
 -- pointer high ends at 09 and 16 × 9 + 15 is 159; device-select ends at E3
 pub kept : (r : Registers) (x : ℕ) → InRange pcf8532 r → InRange pcf8532 (obeyed r (commandOf x))
 unfolding commandOf
 kept r x h =
-    by-test Kept (within 0x00 0x09 x) _ _
-    (λ e. let l = hit 0x00 0x09 x e in record { e-in = h .e-in; b-in = h .b-in; m-in = h .m-in; p-in = omega (arith, l .1); a-in = h .a-in; i-in = h .i-in; o-in = h .o-in; ab-in = h .ab-in; bf-in = h .bf-in })
-    (by-test Kept (within 0x40 0x4F x) _ _
-    (λ e. record { e-in = h .e-in; b-in = h .b-in; m-in = h .m-in; p-in = omega arith; a-in = h .a-in; i-in = h .i-in; o-in = h .o-in; ab-in = h .ab-in; bf-in = h .bf-in })
-    (by-test Kept (within 0xC0 0xCF x) _ _ (λ e. omega arith)
-    (by-test Kept (within 0xE0 0xE3 x) _ _ (λ e. omega arith)
-    (by-test Kept (within 0xE8 0xEF x) _ _ (λ e. h)
-    (by-test Kept (within 0xF0 0xF7 x) _ _ (λ e. omega arith)
-    (by-test Kept (within 0xF8 0xFB x) _ _ (λ e. omega arith)
-    h))))))
-  where
-    Kept : Command → Type 0
-    Kept c = InRange pcf8532 (obeyed r c)
+    by-range (λ c. InRange pcf8532 (obeyed r c)) x pcf8532Ranges (
+      (λ l m. placed-in pcf8532 r (16 * (x % 16) + r .p % 16) (r .a) h (omega arith) (h .a-in)),
+      (
+        (λ l m. placed-in pcf8532 r (r .p - r .p % 16 + x % 16) (r .a) h (omega (arith, h .p-in)) (h .a-in)),
+        ((λ l m. omega arith), ((λ l m. placed-in pcf8532 r (r .p) (x % 4) h (h .p-in) (omega arith)), ((λ l m. h), ((λ l m. omega arith), ((λ l m. omega arith), tt))))),
+      ),
+    )
+    h
 
 -- ---- backplanes and banks
 

@@ -14,7 +14,7 @@ use Rattle.sheet.specs.Parts.{Part}
 use Rattle.sheet.specs.Registers.{atPlace}
 use Rattle.sheet.specs.Plain.{afterColumn, afterColumns}
 use Rattle.sheet.specs.Places.{advanced, advancedBy, position, atPosition}
-use Rattle.laws.proofs.Ranges.{InRange}
+use Rattle.laws.proofs.Ranges.{InRange, placed-in}
 
 -- one column on from a position
 pub one : (K : Part) (u : ℕ) (r : Registers) → 0 < K .columns → advanced K (atPosition K r u) ≡ atPosition K r (suc u)
@@ -72,17 +72,7 @@ settled K u r =
 -- registers in range are in range at any position
 pub stays-in : (K : Part) (u : ℕ) (r : Registers) → InRange K r → InRange K (atPosition K r u)
 unfolding atPosition
-stays-in K u r h = record {
-  e-in = h .e-in;
-  b-in = h .b-in;
-  m-in = h .m-in;
-  p-in = p-at K u r (omega (arith, h .p-in));
-  a-in = a-at K u r;
-  i-in = h .i-in;
-  o-in = h .o-in;
-  ab-in = h .ab-in;
-  bf-in = h .bf-in;
-}
+stays-in K u r h = placed-in K r (u % K .columns) (min (K .limit) (u / K .columns)) h (p-at K u r (omega (arith, h .p-in))) (a-at K u r)
 
 -- stored or not, each column of a data byte moves a chip's P and A on
 pub columns-move : (K : Part) (x n : ℕ) (c : Chip) → afterColumns K x n c .registers ≡ advancedBy K n (c .registers)

@@ -7,7 +7,7 @@ use lib.ListN.{getD, replicate}
 use Rattle.sheet.specs.declared.Chip.{Chip}
 use Rattle.sheet.specs.declared.Expect.the-variants.{Control}
 use Rattle.sheet.specs.Registers.{powerOn, backplanes, bankRow}
-use Rattle.sheet.specs.Parts.{within, commandOf, pcf8532}
+use Rattle.sheet.specs.Parts.{within, commandIn, commandOf, pcf8532}
 use Rattle.sheet.specs.Protocol.{addressOf, controlOf}
 use Rattle.sheet.specs.Long.{begun, dataByte, heard}
 use Rattle.sheet.specs.Plain.{putRows, afterColumn, afterColumns, chipData, acknowledgesData, plainHeard}
@@ -50,5 +50,5 @@ exact =
     && exactFrom 4 158 (0x80 ∷ 0x09 ∷ 0x80 ∷ 0x4F ∷ 0x40 ∷ 0xA5 ∷ [])))
 
 pub landing : T exact
-unfolding bitsOn heardOn rowsOn columnsOn chipHeardOn heard dataByte plainHeard chipData afterColumn afterColumns putRows acknowledgesData advanced position atPosition commandOf within controlOf backplanes bankRow putBits changed withRow storedBits counted
+unfolding bitsOn heardOn rowsOn columnsOn chipHeardOn heard dataByte plainHeard chipData afterColumn afterColumns putRows acknowledgesData advanced position atPosition commandOf commandIn within controlOf backplanes bankRow putBits changed withRow storedBits counted
 landing = tt

@@ -13,6 +13,7 @@ pub mod Logs
 pub mod Plain
 pub mod Agree
 pub mod Lands
+pub mod Pointing
 pub mod Starred
 pub mod Landing
 pub mod Orders

@@ -16,23 +16,41 @@ pub record Part : Type 0 where
   -- the command bytes that make P a column
   pub pointer : ℕ → List ℕ
 
+-- ---- commands are told apart by ranges of the byte
+
 -- lo to hi, both included
 unfoldable pub within : ℕ → ℕ → ℕ → Bool
 within lo hi x = leb lo x && leb x hi
 
+-- the bytes from first to last, and the command that each of them is
+pub record Range : Type 0 where
+  pub first : ℕ
+  pub last : ℕ
+  pub is : ℕ → Command
+
+abbrev pub range : ℕ → ℕ → (ℕ → Command) → Range
+range first last is = record { first = first; last = last; is = is }
+
+-- the command of a byte by a table of ranges; a byte in none of them is no command
+unfoldable pub commandIn : List Range → ℕ → Command
+commandIn [] x = Undefined
+commandIn (t ∷ ts) x = cond (within (t .first) (t .last) x) (t .is x) (commandIn ts x)
+
 -- ---- the PCF8532 (sheet 003, tables 5 to 12)
 
--- commands are told apart by ranges of the byte
+abbrev pub pcf8532Ranges : List Range
+pcf8532Ranges =
+    range 0x00 0x09 (λ x. PointerHigh (x % 16))
+    ∷ range 0x40 0x4F (λ x. PointerLow (x % 16))
+    ∷ range 0xC0 0xCF (λ x. ModeSet (record { e = x / 8 % 2; b = x / 4 % 2; m = x % 4 }))
+    ∷ range 0xE0 0xE3 (λ x. DeviceSelect (x % 4))
+    ∷ range 0xE8 0xEF (λ x. FrequencyCtrl)
+    ∷ range 0xF0 0xF7 (λ x. BlinkSelect (x / 4 % 2) (x % 4))
+    ∷ range 0xF8 0xFB (λ x. BankSelect (x / 2 % 2) (x % 2))
+    ∷ []
+
 unfoldable pub commandOf : ℕ → Command
-commandOf x =
-    cond (within 0x00 0x09 x) (PointerHigh (x % 16))
-    (cond (within 0x40 0x4F x) (PointerLow (x % 16))
-    (cond (within 0xC0 0xCF x) (ModeSet (record { e = x / 8 % 2; b = x / 4 % 2; m = x % 4 }))
-    (cond (within 0xE0 0xE3 x) (DeviceSelect (x % 4))
-    (cond (within 0xE8 0xEF x) FrequencyCtrl
-    (cond (within 0xF0 0xF7 x) (BlinkSelect (x / 4 % 2) (x % 4))
-    (cond (within 0xF8 0xFB x) (BankSelect (x / 2 % 2) (x % 2))
-    Undefined))))))
+commandOf x = commandIn pcf8532Ranges x
 
 abbrev pub pcf8532 : Part
 pcf8532 = record { columns = 160; limit = 4; command = commandOf; pointer = λ p. p / 16 ∷ (0x40 + p % 16) ∷ [] }

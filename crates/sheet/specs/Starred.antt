@@ -11,7 +11,7 @@ use Rattle.sheet.specs.declared.Chips.{Chips}
 use Rattle.sheet.specs.declared.Chip.{Chip}
 use Rattle.sheet.specs.Refusals.{numbers, plainNumbers, pictureNumbers, checkNumbers}
 use Rattle.sheet.specs.Registers.{inRange, backplanes, bankRow}
-use Rattle.sheet.specs.Parts.{within, commandOf, pcf8532}
+use Rattle.sheet.specs.Parts.{within, commandIn, commandOf, pcf8532}
 use Rattle.sheet.specs.Protocol.{heardBy, controlOf}
 use Rattle.sheet.specs.Checks.{checkChips, checkRegisters, overIn, checkRam, checkLength, faultIn, checkState, checkPowerOn, checkTransfer, checkPicture}
 use Rattle.sheet.specs.Pictures.{shown, pictureOf, litIn}
@@ -179,5 +179,5 @@ table =
     ∷ []
 
 pub starred : T (every table)
-unfolding powerOnCall checkPowerOn pictureCall checkPicture chipPowerOn chipPictureCall checkChipPicture litIn ones onesIn plainCall checkPlain misfitIn chipFits plainHeard groupChips chipData afterColumn afterColumns putRows advanced acknowledgesData transferCall checkTransfer checkState checkChips checkRegisters checkRam checkLength overIn faultIn heardBy heard dataByte controlOf commandOf within inRange backplanes bankRow position atPosition putBits changed withRow storedBits counted shown pictureOf
+unfolding powerOnCall checkPowerOn pictureCall checkPicture chipPowerOn chipPictureCall checkChipPicture litIn ones onesIn plainCall checkPlain misfitIn chipFits plainHeard groupChips chipData afterColumn afterColumns putRows advanced acknowledgesData transferCall checkTransfer checkState checkChips checkRegisters checkRam checkLength overIn faultIn heardBy heard dataByte controlOf commandOf commandIn within inRange backplanes bankRow position atPosition putBits changed withRow storedBits counted shown pictureOf
 starred = tt

@@ -1,0 +1,27 @@
+-- Computed: the command bytes that a part has for a column make P that column, wherever P was, and leave A.
+use Prim.Native.Nat.{ℕ, zero, suc}
+use mathlib.Core.Bool.{Bool, true, _&&_}
+use mathlib.Core.List.{List, [], _∷_}
+use lib.Dec.{T, eqb}
+use Rattle.sheet.specs.declared.Registers.{Registers}
+use Rattle.sheet.specs.Parts.{Part, within, commandIn, commandOf, pcf8532}
+use Rattle.sheet.specs.Registers.{powerOn, atPlace}
+use Rattle.sheet.specs.Commands.{obeyed}
+
+-- command bytes, one after the other
+abbrev pub obeyedAll : Part → List ℕ → Registers → Registers
+obeyedAll K [] r = r
+obeyedAll K (x ∷ xs) r = obeyedAll K xs (obeyed r (K .command x))
+
+-- to column p, from column q of chip 2
+abbrev pub points : Part → ℕ → ℕ → Bool
+points K q p = let r = obeyedAll K (K .pointer p) (atPlace powerOn q 2) in eqb (r .p) p && eqb (r .a) 2
+
+-- to each of the first n columns, from column 0 and from the last
+abbrev pub pointsTo : Part → ℕ → ℕ → Bool
+pointsTo K last zero = true
+pointsTo K last (suc n) = points K 0 n && (points K last n && pointsTo K last n)
+
+pub pointing : T (pointsTo pcf8532 159 160)
+unfolding within commandOf commandIn
+pointing = tt
