@@ -1,12 +1,13 @@
--- The numbers of answers and refusals are below 100,000.
+-- The numbers of answers and refusals are below 100,000, and the records of a log have no more bytes than it.
 -- Assumes nothing.
 use mathlib.Core.Path.{_≡_, refl, sym, subst, _∙_}
+use mathlib.Core.Logic.{⊎-elim}
 use mathlib.Core.Bool.{Bool, true, false, cond, _&&_, not}
 use mathlib.Core.List.{List, [], _∷_}
 use Prim.Native.Nat.{ℕ, zero, suc, _+_, _-_, _≤_, _<_}
 use native.Mathlib.Omega.{arith}
 use lib.Dec.{leb, ltb, eqb}
-use lib.ListN.{length, getD, drop, length-drop}
+use lib.ListN.{length, getD, drop, length-take, length-drop}
 use Rattle.sheet.specs.declared.Answer.{Answer}
 use Rattle.sheet.specs.declared.Registers.{Registers}
 use Rattle.sheet.specs.declared.Chips.{Chips}
@@ -22,8 +23,9 @@ use Rattle.sheet.specs.Refusals.{numberOf, placeOf, numbers}
 use Rattle.sheet.specs.Commands.{commandOf, defined}
 use Rattle.sheet.specs.Protocol.{heardBy, next, isCommand, undefinedIn}
 use Rattle.sheet.specs.Checks.{unless, orElse, checkChips, checkLength, checkCommands, checkTransfer}
-use Rattle.sheet.specs.Long.{begun, State, Group, byte, heard, oneAcknowledged, taken, answered, transferCall, registersOf, columnsOf}
-use Rattle.sheet.specs.Logs.{lengthOf, cutIn, checkLog}
+use Rattle.sheet.specs.Long.{begun, State, Group, byte, heard, taken, answered, transferCall, registersOf, columnsOf}
+use Rattle.sheet.specs.Records.{Records, lengthOf, readIn, recordsFrom}
+use Rattle.sheet.specs.Logs.{logRecords, checkLog}
 use Rattle.sheet.specs.Agree.{Valid}
 use Rattle.laws.proofs.Ranges.{InRange}
 use Rattle.laws.proofs.Fits.{fits-of}
@@ -32,7 +34,8 @@ use Rattle.protocol.specs.declared.Listener.{Listener}
 use Rattle.protocol.specs.Listeners.{groupOf, listenerOf}
 use Rattle.protocol.proofs.Hearing.{Sound, Hearing, byte-turn, at-end}
 use Rattle.long.proofs.Parts.{part-in, part-passes, transfer-passed}
-use borrow.Author.Tests.{leb-true}
+use borrow.Author.Tests.{leb-true, le-leb, lt-leb}
+use Rattle.lemmas.proofs.Order.{lt-or-le}
 use Rattle.buslog.proofs.Widths.{Below, Small}
 
 -- ---- refusals
@@ -59,16 +62,37 @@ undefined-few e i [] h = tt
 undefined-few e i (x ∷ xs) h =
     by-test (isCommand e && not (defined (commandOf x))) _ _ (λ e. omega arith) (undefined-few (next e x) (suc i) xs (omega arith))
 
--- the place of a record that is cut short
-cut-few : (k at : ℕ) (rest : List ℕ) → at + length rest ≤ 99999 → Few (cutIn k at rest)
-unfolding cutIn
-cut-few zero at rest h = tt
-cut-few (suc k) at [] h = tt
-cut-few (suc k) at (b ∷ []) h = omega arith
-cut-few (suc k) at (b ∷ l ∷ rest) h =
-    by-test (leb (lengthOf b l) (length rest)) _ _
-    (λ e. cut-few k (at + 2 + lengthOf b l) (drop (lengthOf b l) rest) (omega (arith, leb-true (lengthOf b l) (length rest) e, length-drop (lengthOf b l) rest)))
-    (omega arith)
+-- the bytes of records, with their length fields
+abbrev pub weight : List (List ℕ) → ℕ
+weight [] = 0
+weight (t ∷ ts) = length t + 2 + weight ts
+
+-- records of so many bytes: they have no more, and a tear's place is small
+pub record Bounded (size : ℕ) (r : Records) : Type 0 where
+  pub weigh : weight (r .bodies) ≤ size
+  pub torn : Few (r .tear)
+
+bounded : (k at : ℕ) (rest : List ℕ) → at + length rest ≤ 99999 → Bounded (length rest) (readIn k at rest)
+unfolding readIn
+bounded zero at rest m = record { weigh = omega arith; torn = tt }
+bounded (suc k) at [] m = record { weigh = omega arith; torn = tt }
+bounded (suc k) at (h ∷ []) m = record { weigh = omega arith; torn = omega arith }
+bounded (suc k) at (h ∷ l ∷ rest) m =
+    let size = lengthOf h l in
+    let left = length-drop size rest in
+    ⊎-elim
+    (λ (e : length rest < size). rw (lt-leb size (length rest) e) (record { weigh = omega arith; torn = omega arith }))
+    (λ (e : size ≤ length rest).
+    let after = bounded k (at + 2 + size) (drop size rest) (omega arith) in
+    rw (le-leb size (length rest) e) (record { weigh = omega (arith, length-take size rest); torn = after .torn }))
+    (lt-or-le (length rest) size)
+
+pub log-bounded : (log : List ℕ) → length log ≤ 65536 → Bounded 65536 (logRecords log)
+unfolding recordsFrom
+log-bounded log h =
+    let left = length-drop 3 log in
+    let b = bounded (length (drop 3 log)) 3 (drop 3 log) (omega arith) in
+    record { weigh = omega arith; torn = b .torn }
 
 -- a log's refusal
 pub log-few : (log : List ℕ) → Few (checkLog log)
@@ -77,7 +101,7 @@ log-few log =
     first (leb (length log) 65536) LongLog _ (omega arith)
     (λ e. first (leb 3 (length log) && eqb (getD log 0 0) 1) LogHead _ (omega arith)
     (λ _. first (leb (getD log 1 0) 4 && leb (getD log 2 0) 4) ChipCount _ (omega arith)
-    (λ _. cut-few (length log) 3 (drop 3 log) (omega (arith, leb-true (length log) 65536 e, length-drop 3 log)))))
+    (λ _. log-bounded log (leb-true (length log) 65536 e) .torn)))
 
 -- ---- transfers
 
@@ -132,7 +156,7 @@ module _ (n : Chips) (s : State) (bytes : List ℕ) (v : Valid 160 4 n s) (short
     where
       by-check : (k : Check) → checkTransfer 160 4 n (s .registers) (s .ram) bytes ≡ k → Few k → Small (numbers (answered k (s .registers) (s .ram) (taken 160 4 n (s .registers) (s .ram) bytes (heardBy n (getD bytes 0 0))) .result .answer))
       by-check Passed e f = transfer-taken e (heardBy n (getD bytes 0 0))
-      by-check (Refused r) e f = (f .0, (f .1 .0, (omega arith, (omega arith, (omega arith, tt)))))
+      by-check (Refused r) e f = omega arith
 
 -- of a transfer of no byte, or of the address alone, they have one digit each
 pub transfer-short : (n : Chips) (s : State) (bytes : List ℕ) → Valid 160 4 n s → length bytes < 2 → Below 0 (numbers (transferCall 160 4 n (s .registers) (s .ram) bytes .result .answer))

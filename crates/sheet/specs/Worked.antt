@@ -10,7 +10,8 @@ use Rattle.sheet.specs.Pictures.{shown, pictureOf, litIn}
 use Rattle.sheet.specs.Long.{heard, dataByte, transferCall, stateAfterAll}
 use Rattle.sheet.specs.Places.{position, atPosition}
 use Rattle.sheet.specs.Data.{putBits, changed, withRow, storedBits, counted}
-use Rattle.sheet.specs.Logs.{recordsIn, cutIn, checkLog, digitsIn, decimal, spaced, transferLines, columnLines, textOf}
+use Rattle.sheet.specs.Records.{readIn, recordsFrom}
+use Rattle.sheet.specs.Logs.{checkLog, digitsIn, decimal, spaced, transferLines, columnLines, textOf}
 use Rattle.sheet.specs.Starred.{same}
 use lib.Count.{ones, onesIn}
 
@@ -40,5 +41,5 @@ workedText =
     ∷ 71 ∷ 32 ∷ 49 ∷ 32 ∷ 48 ∷ 10 ∷ []
 
 pub worked : T (same (textOf workedLog) workedText)
-unfolding textOf recordsIn cutIn checkLog digitsIn decimal spaced transferLines columnLines stateAfterAll transferCall checkTransfer checkState checkChips checkRegisters checkRam checkLength overIn undefinedIn heardBy heard dataByte controlOf commandOf within inRange backplanes bankRow position atPosition putBits changed withRow storedBits counted shown pictureOf litIn ones onesIn
+unfolding textOf recordsFrom readIn checkLog digitsIn decimal spaced transferLines columnLines stateAfterAll transferCall checkTransfer checkState checkChips checkRegisters checkRam checkLength overIn undefinedIn heardBy heard dataByte controlOf commandOf within inRange backplanes bankRow position atPosition putBits changed withRow storedBits counted shown pictureOf litIn ones onesIn
 worked = tt
