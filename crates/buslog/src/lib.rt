@@ -10,7 +10,6 @@ use sheet::Refusal;
 ghost use mathlib.Core.Path.{_≡_};
 ghost use Prim.Native.Nat.{_+_, _≤_};
 ghost use lib.ListN.{length, replicate};
-ghost use Rattle.sheet.specs.Checks.{orElse, checkChips};
 ghost use Rattle.sheet.specs.Pictures.{litIn};
 ghost use Rattle.sheet.specs.Long.{stateOf, stateAfterAll};
 ghost use Rattle.sheet.specs.Logs.{logChips, logRecords, checkLog, transferLine, transferLines, columnLine, columnLines, shownAt, endLines, logLines, refusalLine, textOf};
@@ -31,16 +30,6 @@ fn chips_of(log: &[u8]) -> Chips
     }
 }
 
-// The chip counts and the records: 3, 13.
-fn check_body(log: &[u8]) -> Check
-    ensures { λ r. ⌜ r ≡ orElse (checkChips 4 (logChips (now (log .entry)))) (logRecords (now (log .entry)) .tear) ⌝ }
-{
-    match checks::check_chips(chips_of(log)) {
-        Check::Refused(refusal) => Check::Refused(refusal),
-        Check::Passed => records::check_records(log),
-    }
-}
-
 // A log is checked whole before its first line is written: 14, 12, 3, 13.
 fn check_log(log: &[u8]) -> Check
     ensures { λ r. ⌜ r ≡ checkLog (now (log .entry)) ⌝ }
@@ -49,7 +38,10 @@ fn check_log(log: &[u8]) -> Check
         return Check::Refused(Refusal::LongLog);
     }
     if (3 <= log.len()) & (checks::byte_at(log, 0) == 1) {
-        check_body(log)
+        match checks::check_chips(chips_of(log)) {
+            Check::Refused(refusal) => Check::Refused(refusal),
+            Check::Passed => records::check_records(log),
+        }
     } else {
         Check::Refused(Refusal::LogHead)
     }

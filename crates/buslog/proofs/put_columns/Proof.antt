@@ -1,8 +1,8 @@
 -- `buslog::put_columns` meets its contract: a column a turn; what is left gives the whole.
 -- Assumes nothing.
 use mathlib.Core.Path.{_≡_}
-use mathlib.Core.List.{List, [], _++_}
-use Prim.Native.Nat.{ℕ, _+_, _-_, _≤_, _<_}
+use mathlib.Core.List.{List, _++_}
+use Prim.Native.Nat.{ℕ, _+_, _-_, _<_}
 use native.Mathlib.Numerals.{add-one}
 use lib.ListN.{length, getD, drop, drop-of-length-le}
 use Rattle.lemmas.proofs.Lists.{next}
@@ -16,10 +16,6 @@ use Rattle.buslog.proofs.put_columns.Tie as tie
 one-more : (g : ℕ) (picture : List ℕ) (i : ℕ) → i < length picture → columnLines g i (drop i picture) ≡ columnLine g i (getD picture i 0) ++ columnLines g (i + 1) (drop (i + 1) picture)
 unfolding columnLines
 one-more g picture i h = rw (next picture i h, add-one i)
-
-none-left : (g : ℕ) (picture : List ℕ) (i : ℕ) → length picture ≤ i → columnLines g i (drop i picture) ≡ []
-unfolding columnLines
-none-left g picture i h = rw (drop-of-length-le picture h)
 
 abbrev Inv-loop : tie.InvT-loop
 Inv-loop out₀ at group picture place₀ i₀ out place i = Writing at (columnLines group 0 picture) out₀ place (columnLines group i (drop i picture)) out
@@ -39,9 +35,8 @@ loop-again c = let test = c .before .before .before .before .before in
     turn (rest-is (p .loop .inv) (one-more (a .group) (a .picture .now) (p .loop .i) (test .loop-test .taken))) (c .before .before .put-column .ensures)
 
 returns : tie.Need-returns Inv-loop μ-loop
-returns c = let p = c .before in
-    let a = p .before .before .before .args in
-    done (rest-is (p .loop .inv) (none-left (a .group) (a .picture .now) (p .loop .i) (c .loop-test .left)))
+unfolding columnLines
+returns c = done (rest-is (c .before .loop .inv) (rw (drop-of-length-le (c .before .before .before .before .args .picture .now) (c .loop-test .left))))
 
 pub put-columns-spec : {M : Type 1} → statement M
 put-columns-spec =

@@ -25,11 +25,8 @@ abbrev μ : Measures 1 put-number-kinds.ps ℕ
 abbrev at-most : ℕ → In 1 put-number-kinds.ps
 at-most t = and 1 put-number-kinds.ps (is 1 put-number-kinds.ps μ t) put-number.Pre
 
-abbrev below : ℕ → In 1 put-number-kinds.ps
-below t = and 1 put-number-kinds.ps (falls 1 put-number-kinds.ps _<_ μ t) put-number.Pre
-
 abbrev claims : ℕ → put-number-lts.Claims
-claims t = (put-digit-reads.Asked, put-digit-reads.Learnt, below t, put-number.Post)
+claims t = (put-digit-reads.Asked, put-digit-reads.Learnt, and 1 put-number-kinds.ps (falls 1 put-number-kinds.ps _<_ μ t) put-number.Pre, put-number.Post)
 
 -- the digits of the tenth are to be written, and the last one
 all-digits : (at n : ℕ) (out : List ℕ) → 10 ≤ n → at + length (decimal n) ≤ length out → Writing at (decimal n) out at (decimal (n / 10) ++ ((48 + n % 10) ∷ [])) out

@@ -2,7 +2,7 @@
 -- Assumes nothing.
 use mathlib.Core.Path.{_≡_}
 use mathlib.Core.List.{List, [], _∷_, _++_}
-use Prim.Native.Nat.{ℕ, _+_, _-_, _≤_, _<_}
+use Prim.Native.Nat.{ℕ, _+_, _-_, _<_}
 use lib.ListN.{length, getD, drop, drop-of-length-le}
 use Rattle.lemmas.proofs.Lists.{next}
 use Rattle.sheet.specs.Logs.{decimal, spaced}
@@ -15,10 +15,6 @@ use Rattle.text.proofs.put_numbers.Tie as tie
 one-more : (numbers : List ℕ) (i : ℕ) → i < length numbers → spaced (drop i numbers) ≡ (32 ∷ []) ++ (decimal (getD numbers i 0) ++ spaced (drop (i + 1) numbers))
 unfolding spaced
 one-more numbers i h = rw (next numbers i h)
-
-none-left : (numbers : List ℕ) (i : ℕ) → length numbers ≤ i → spaced (drop i numbers) ≡ []
-unfolding spaced
-none-left numbers i h = rw (drop-of-length-le numbers h)
 
 abbrev Inv-loop : tie.InvT-loop
 Inv-loop out₀ at numbers place₀ i₀ out place i = Writing at (spaced numbers) out₀ place (spaced (drop i numbers)) out
@@ -43,7 +39,8 @@ loop-again : tie.Need-loop-again Inv-loop μ-loop
 loop-again c = turn (after-space (c .before .before .before .before .before .before .before)) (c .before .before .put-number .ensures)
 
 returns : tie.Need-returns Inv-loop μ-loop
-returns c = done (rest-is (c .before .loop .inv) (none-left (c .before .before .before .before .args .numbers .now) (c .before .loop .i) (c .loop-test .left)))
+unfolding spaced
+returns c = done (rest-is (c .before .loop .inv) (rw (drop-of-length-le (c .before .before .before .before .args .numbers .now) (c .loop-test .left))))
 
 pub put-numbers-spec : {M : Type 1} → statement M
 put-numbers-spec =
