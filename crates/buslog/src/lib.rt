@@ -188,11 +188,8 @@ fn play(log: &[u8], chips: Chips, ram: &mut [u8], out: &mut [u8]) -> usize
     requires { ⌜ Playable (now log) chips (now ram) (now out) ⌝ }
     ensures { λ r. ⌜ Puts 0 (logLines chips (logRecords (now (log .entry)) .bodies)) (now (out .entry)) (now (out .exit)) r ⌝ }
 {
-    let start = Both {
-        zero: command::power_on(),
-        one: command::power_on(),
-    };
-    let played = put_transfers(log, chips, start, ram, out);
+    let start = long::power_on(chips, ram);
+    let played = put_transfers(log, chips, start.registers, ram, out);
     let registers = played.registers;
     put_end(chips, registers, ram, out, played.at)
 }

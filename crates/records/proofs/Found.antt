@@ -9,7 +9,7 @@ use lib.Dec.{leb}
 use lib.ListN.{length, take, drop, length-drop}
 use lib.Seq.{drop-drop}
 use borrow.Author.Tests.{leb-true, leb-false}
-use Rattle.sheet.specs.Records.{lengthOf, none, tornAt, withBody, nothing-left, one-byte-left, cut-short, whole}
+use Rattle.sheet.specs.Records.{lengthOf, noRecords, tornAt, withBody, nothing-left, one-byte-left, cut-short, whole}
 use Rattle.records.specs.declared.Record.{Record}
 use Rattle.records.specs.declared.Record.the-variants.{Body, End, Cut}
 use Rattle.records.specs.Found.{recordIn, recordsAt}
@@ -22,7 +22,7 @@ pub record Next (log : List ℕ) (at start size : ℕ) : Type 0 where
 
 abbrev pub Found : List ℕ → ℕ → Record → Type 0
 Found log at (Body start size) = Next log at start size
-Found log at End = recordsAt log at ≡ none
+Found log at End = recordsAt log at ≡ noRecords
 Found log at Cut = recordsAt log at ≡ tornAt at
 
 at-head : (log : List ℕ) (at : ℕ) (rest : List ℕ) → drop at log ≡ rest → Found log at (recordIn at rest)

@@ -13,14 +13,14 @@ use Rattle.records.specs.Found.{recordIn}
 
 module _ (log : List ℕ) (at : ℕ) where
   -- past the last byte
-  pub nothing-left : length log ≤ at → recordIn at (drop at log) ≡ End
+  pub finds-end : length log ≤ at → recordIn at (drop at log) ≡ End
   unfolding recordIn
-  nothing-left h = rw (drop-of-length-le log h)
+  finds-end h = rw (drop-of-length-le log h)
 
   -- a cut length field
-  pub one-byte-left : length log ≡ at + 1 → recordIn at (drop at log) ≡ Cut
+  pub finds-half : length log ≡ at + 1 → recordIn at (drop at log) ≡ Cut
   unfolding recordIn
-  one-byte-left e = rw (next log at (omega arith), drop-of-length-le log {i = at + 1} (omega arith))
+  finds-half e = rw (next log at (omega arith), drop-of-length-le log {i = at + 1} (omega arith))
 
   -- a length field and what follows it
   field : at + 2 ≤ length log → drop at log ≡ getD log at 0 ∷ getD log (at + 1) 0 ∷ drop (at + 2) log
@@ -28,10 +28,10 @@ module _ (log : List ℕ) (at : ℕ) where
 
   -- and as many bytes after it as it says, or fewer
   module _ (size : ℕ) (e : size ≡ lengthOf (getD log at 0) (getD log (at + 1) 0)) (h : at + 2 ≤ length log) where
-    pub whole-record : size ≤ length log - at - 2 → recordIn at (drop at log) ≡ Body (at + 2) size
+    pub finds-whole : size ≤ length log - at - 2 → recordIn at (drop at log) ≡ Body (at + 2) size
     unfolding recordIn
-    whole-record l = rw (field h, ← e, le-leb size (length (drop (at + 2) log)) (omega (arith, length-drop (at + 2) log)))
+    finds-whole l = rw (field h, ← e, le-leb size (length (drop (at + 2) log)) (omega (arith, length-drop (at + 2) log)))
 
-    pub cut-record : length log - at - 2 < size → recordIn at (drop at log) ≡ Cut
+    pub finds-cut : length log - at - 2 < size → recordIn at (drop at log) ≡ Cut
     unfolding recordIn
-    cut-record l = rw (field h, ← e, lt-leb size (length (drop (at + 2) log)) (omega (arith, length-drop (at + 2) log)))
+    finds-cut l = rw (field h, ← e, lt-leb size (length (drop (at + 2) log)) (omega (arith, length-drop (at + 2) log)))

@@ -17,8 +17,8 @@ pub record Records : Type 0 where
   pub bodies : List (List ℕ)
   pub tear : Check
 
-abbrev pub none : Records
-none = record { bodies = []; tear = Passed }
+abbrev pub noRecords : Records
+noRecords = record { bodies = []; tear = Passed }
 
 abbrev pub tornAt : ℕ → Records
 tornAt at = record { bodies = []; tear = Refused (CutRecord at) }
@@ -32,8 +32,8 @@ lengthOf h l = 256 * h + l
 
 -- k bounds how many records there are, for the recursion
 unfoldable pub readIn : ℕ → ℕ → List ℕ → Records
-readIn zero at rest = none
-readIn (suc k) at [] = none
+readIn zero at rest = noRecords
+readIn (suc k) at [] = noRecords
 readIn (suc k) at (h ∷ []) = tornAt at
 readIn (suc k) at (h ∷ l ∷ rest) =
     cond (leb (lengthOf h l) (length rest))
@@ -60,7 +60,7 @@ enough (suc k) (suc j) at (h ∷ l ∷ rest) m n =
     let less = length-drop (lengthOf h l) rest in
     rw (enough k j (at + 2 + lengthOf h l) (drop (lengthOf h l) rest) (omega arith) (omega arith))
 
-pub nothing-left : (at : ℕ) → recordsFrom at [] ≡ none
+pub nothing-left : (at : ℕ) → recordsFrom at [] ≡ noRecords
 unfolding recordsFrom readIn
 nothing-left at = refl
 

@@ -10,7 +10,7 @@ use types.Run.{OneOf, miss}
 use Rattle.sheet.specs.declared.Check.the-variants.{Passed}
 use Rattle.sheet.specs.Long.{stateOf, stateAfterAll}
 use Rattle.sheet.specs.Logs.{transferLine, transferLines}
-use Rattle.sheet.specs.Records.{none}
+use Rattle.sheet.specs.Records.{noRecords}
 use Rattle.records.specs.declared.Record.{Record}
 use Rattle.records.specs.declared.Record.the-variants.{Body, End, Cut}
 use Rattle.records.specs.Found.{recordsAt}
@@ -23,7 +23,7 @@ use Rattle.buslog.proofs.put_transfers.Statement.{statement}
 use Rattle.buslog.proofs.put_transfers.Tie as tie
 
 -- where no whole record is found in a log without a tear, none is left
-none-left : (log : List ℕ) (at : ℕ) (r : Record) → Found log at r → OneOf (1 ∷ 2 ∷ []) (tagOf the-type r) → recordsAt log at .tear ≡ Passed → recordsAt log at ≡ none
+none-left : (log : List ℕ) (at : ℕ) (r : Record) → Found log at r → OneOf (1 ∷ 2 ∷ []) (tagOf the-type r) → recordsAt log at .tear ≡ Passed → recordsAt log at ≡ noRecords
 none-left log at (Body start size) f h w = absurd (miss (1 ∷ 2 ∷ []) 0 tt h)
 none-left log at End f h w = f
 none-left log at Cut f h w = let torn = rw f at w in

@@ -2,26 +2,26 @@
 -- Assumes nothing.
 use mathlib.Core.Path.{sym}
 use native.Mathlib.Omega.{arith}
-use Rattle.records.proofs.Reading.{nothing-left, one-byte-left, whole-record, cut-record}
+use Rattle.records.proofs.Reading.{finds-end, finds-half, finds-whole, finds-cut}
 use borrow.Author.Needs.{needs}
 use Rattle.records.proofs.Cursor.read.Statement.{statement}
 use Rattle.records.proofs.Cursor.read.Tie as tie
 
 returns : tie.Need-returns
-returns c = sym (nothing-left _ _ (c .if1 .taken))
+returns c = sym (finds-end _ _ (c .if1 .taken))
 
 returns-2 : tie.Need-returns-2
-returns-2 c = let a = c .before .before .before .args in sym (one-byte-left (a .log .now) (a .self .at) (omega arith))
+returns-2 c = let a = c .before .before .before .args in sym (finds-half (a .log .now) (a .self .at) (omega arith))
 
 returns-3 : tie.Need-returns-3
 returns-3 c = let size = c .before .length-of in
     let a = c .before .before .before .before .before .before .before .args in
-    sym (whole-record (a .log .now) (a .self .at) (size .result) (size .ensures) (omega arith) (c .if3 .taken))
+    sym (finds-whole (a .log .now) (a .self .at) (size .result) (size .ensures) (omega arith) (c .if3 .taken))
 
 returns-4 : tie.Need-returns-4
 returns-4 c = let size = c .before .length-of in
     let a = c .before .before .before .before .before .before .before .args in
-    sym (cut-record (a .log .now) (a .self .at) (size .result) (size .ensures) (omega arith) (c .if3 .left))
+    sym (finds-cut (a .log .now) (a .self .at) (size .result) (size .ensures) (omega arith) (c .if3 .left))
 
 pub read-spec : {M : Type 1} → statement M
 read-spec =
