@@ -2,25 +2,23 @@
 -- Assumes nothing.
 use mathlib.Core.Path.{_≡_}
 use mathlib.Core.Bool.{_&&_}
-use mathlib.Core.List.{List, [], _∷_}
+use mathlib.Core.List.{List}
 use Prim.Native.Nat.{ℕ, _≤_}
 use lib.Dec.{eqb, leb}
-use lib.ListN.{length, getD, drop}
+use lib.ListN.{length, getD}
 use borrow.Author.Tests.{leb-true}
 use Rattle.sheet.specs.declared.Check.the-variants.{Passed, Refused}
 use Rattle.sheet.specs.declared.Refusal.{Refusal}
 use Rattle.sheet.specs.declared.Refusal.the-variants.{LogHead, LongLog}
-use Rattle.sheet.specs.Refusals.{numberOf, placeOf}
 use Rattle.sheet.specs.Parts.{pcf8532}
 use Rattle.sheet.specs.Checks.{unless, checkChips}
-use Rattle.sheet.specs.Logs.{logChips, cutIn, checkLog, line, logLines, textOf}
+use Rattle.sheet.specs.Logs.{logChips, logRecords, checkLog, logLines, refusalLine, textOf}
 use Rattle.laws.proofs.Fits.{both-pass, unless-passes}
-use Rattle.buslog.specs.Records.{recordsFrom}
 
 pub record Checked (log : List ℕ) : Type 0 where
   pub short : length log ≤ 65536
   pub chips : checkChips pcf8532 (logChips log) ≡ Passed
-  pub whole : cutIn (length log) 3 (drop 3 log) ≡ Passed
+  pub whole : logRecords log .tear ≡ Passed
 
 -- of the checks 14, 12, 3 and 13
 pub checked : (log : List ℕ) → checkLog log ≡ Passed → Checked log
@@ -32,10 +30,10 @@ checked log e =
     record { short = leb-true (length log) 65536 (unless-passes _ LongLog (long .0)); chips = chips .0; whole = chips .1 }
 
 -- the text by the check: lines, or one
-pub text-passed : (log : List ℕ) → checkLog log ≡ Passed → textOf log ≡ logLines (logChips log) (recordsFrom 3 log)
+pub text-passed : (log : List ℕ) → checkLog log ≡ Passed → textOf log ≡ logLines (logChips log) (logRecords log .bodies)
 unfolding textOf
 text-passed log e = rw e
 
-pub text-refused : (log : List ℕ) (r : Refusal) → checkLog log ≡ Refused r → textOf log ≡ line 88 (numberOf r ∷ placeOf r ∷ [])
+pub text-refused : (log : List ℕ) (r : Refusal) → checkLog log ≡ Refused r → textOf log ≡ refusalLine r
 unfolding textOf
 text-refused log r e = rw e

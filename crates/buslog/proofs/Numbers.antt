@@ -1,39 +1,37 @@
--- The numbers of answers and refusals are below 100,000.
+-- The numbers of answers and refusals are below 100,000, and the records of a log have no more bytes than it.
 -- Assumes nothing.
-use mathlib.Core.Path.{_≡_, refl, sym, subst, _∙_}
-use mathlib.Core.Bool.{Bool, true, false, cond, _&&_, not}
+use mathlib.Core.Path.{_≡_, refl}
+use mathlib.Core.Logic.{⊎-elim}
+use mathlib.Core.Bool.{Bool, true, false, _&&_}
 use mathlib.Core.List.{List, [], _∷_}
 use Prim.Native.Nat.{ℕ, zero, suc, _+_, _-_, _≤_, _<_}
 use native.Mathlib.Omega.{arith}
 use lib.Dec.{leb, ltb, eqb}
-use lib.ListN.{length, getD, drop, length-drop}
+use lib.ListN.{length, getD, drop, length-take, length-drop}
 use Rattle.sheet.specs.declared.Answer.{Answer}
-use Rattle.sheet.specs.declared.Registers.{Registers}
 use Rattle.sheet.specs.declared.Chips.{Chips}
 use Rattle.sheet.specs.declared.Addressed.{Addressed}
 use Rattle.sheet.specs.declared.Addressed.the-variants.{To, Nobody}
+use Rattle.sheet.specs.declared.Kind.{Kind}
 use Rattle.sheet.specs.declared.Expect.{Expect}
-use Rattle.sheet.specs.declared.Expect.the-variants.{Control}
+use Rattle.sheet.specs.declared.Expect.the-variants.{Control, One, All}
 use Rattle.sheet.specs.declared.Refusal.{Refusal}
-use Rattle.sheet.specs.declared.Refusal.the-variants.{EmptyTransfer, LongTransfer, ChipCount, LogHead, LongLog}
+use Rattle.sheet.specs.declared.Refusal.the-variants.{EmptyTransfer, LongTransfer, ChipCount, UndefinedCommand, LogHead, LongLog}
 use Rattle.sheet.specs.declared.Check.{Check}
 use Rattle.sheet.specs.declared.Check.the-variants.{Passed, Refused}
 use Rattle.sheet.specs.Refusals.{numberOf, placeOf, numbers}
 use Rattle.sheet.specs.Parts.{commandOf, pcf8532}
 use Rattle.sheet.specs.Commands.{defined}
-use Rattle.sheet.specs.Protocol.{heardBy, next, isCommand, undefinedIn}
-use Rattle.sheet.specs.Checks.{unless, orElse, checkChips, checkLength, checkCommands, checkTransfer}
-use Rattle.sheet.specs.Long.{begun, State, Group, byte, heard, oneAcknowledged, taken, answered, transferCall, registersOf, columnsOf}
-use Rattle.sheet.specs.Logs.{lengthOf, cutIn, checkLog}
+use Rattle.sheet.specs.Protocol.{heardBy, next}
+use Rattle.sheet.specs.Checks.{unless, orElse, checkChips, checkLength, faultOf, fault, faultIn, checkBytes, checkTransfer}
+use Rattle.sheet.specs.Long.{begun, State, Group, heard, taken, answered, transferCall, registersOf, columnsOf}
+use Rattle.sheet.specs.Records.{Records, lengthOf, readIn, recordsFrom}
+use Rattle.sheet.specs.Logs.{logRecords, checkLog}
 use Rattle.sheet.specs.Agree.{Valid}
-use Rattle.laws.proofs.Ranges.{InRange}
-use Rattle.laws.proofs.Fits.{fits-of}
-use Rattle.laws.proofs.Nibbles.{Nibbles, nibbles-of}
-use Rattle.protocol.specs.declared.Listener.{Listener}
-use Rattle.protocol.specs.Listeners.{groupOf, listenerOf}
-use Rattle.protocol.proofs.Hearing.{Sound, Hearing, byte-turn, at-end}
-use Rattle.long.proofs.Parts.{part-in, part-passes, transfer-passed}
-use borrow.Author.Tests.{leb-true}
+use Rattle.laws.proofs.Fits.{transfer-passed}
+use Rattle.laws.proofs.Sums as sums
+use borrow.Author.Tests.{leb-true, le-leb, lt-leb}
+use Rattle.lemmas.proofs.Order.{lt-or-le}
 use Rattle.buslog.proofs.Widths.{Below, Small}
 
 -- ---- refusals
@@ -48,28 +46,60 @@ first : (t : Bool) (r : Refusal) (next : Check) → Small (numberOf r ∷ placeO
 first true r next s f = f refl
 first false r next s f = s
 
--- a test picks one of two
-by-test : (t : Bool) (a b : Check) → (t ≡ true → Few a) → Few b → Few (cond t a b)
-by-test true a b fa fb = fa refl
-by-test false a b fa fb = fb
+unless-few : (t : Bool) (r : Refusal) → Small (numberOf r ∷ placeOf r ∷ []) → Few (unless t r)
+unless-few true r s = tt
+unless-few false r s = s
 
--- the place of an undefined command, of bytes from place i on
-undefined-few : (e : Expect) (i : ℕ) (xs : List ℕ) → i + length xs ≤ 99999 → Few (undefinedIn e i xs)
-unfolding undefinedIn
-undefined-few e i [] h = tt
-undefined-few e i (x ∷ xs) h =
-    by-test (isCommand e && not (defined (commandOf x))) _ _ (λ e. omega arith) (undefined-few (next e x) (suc i) xs (omega arith))
+-- the place of a fault, of bytes from place i on
+kind-few : (k : Kind) (i x : ℕ) → i ≤ 99999 → Few (faultOf pcf8532 k i x)
+kind-few Kind.Command i x h = unless-few (defined (commandOf x)) (UndefinedCommand i) (omega arith)
+kind-few Kind.Data i x h = tt
 
--- the place of a record that is cut short
-cut-few : (k at : ℕ) (rest : List ℕ) → at + length rest ≤ 99999 → Few (cutIn k at rest)
-unfolding cutIn
-cut-few zero at rest h = tt
-cut-few (suc k) at [] h = tt
-cut-few (suc k) at (b ∷ []) h = omega arith
-cut-few (suc k) at (b ∷ l ∷ rest) h =
-    by-test (leb (lengthOf b l) (length rest)) _ _
-    (λ e. cut-few k (at + 2 + lengthOf b l) (drop (lengthOf b l) rest) (omega (arith, leb-true (lengthOf b l) (length rest) e, length-drop (lengthOf b l) rest)))
-    (omega arith)
+fault-few : (e : Expect) (i x : ℕ) → i ≤ 99999 → Few (fault pcf8532 e i x)
+fault-few Control i x h = tt
+fault-few (One k) i x h = kind-few k i x h
+fault-few (All k) i x h = kind-few k i x h
+
+either : (a b : Check) → Few a → Few b → Few (orElse a b)
+either Passed b fa fb = fb
+either (Refused r) b fa fb = fa
+
+faults-few : (e : Expect) (i : ℕ) (xs : List ℕ) → i + length xs ≤ 99999 → Few (faultIn pcf8532 e i xs)
+unfolding faultIn
+faults-few e i [] h = tt
+faults-few e i (x ∷ xs) h = either (fault pcf8532 e i x) _ (fault-few e i x (omega arith)) (faults-few (next e x) (suc i) xs (omega arith))
+
+-- the bytes of records, with their length fields
+abbrev pub weight : List (List ℕ) → ℕ
+weight [] = 0
+weight (t ∷ ts) = length t + 2 + weight ts
+
+-- records of so many bytes: they have no more, and a tear's place is small
+pub record Bounded (size : ℕ) (r : Records) : Type 0 where
+  pub weigh : weight (r .bodies) ≤ size
+  pub torn : Few (r .tear)
+
+bounded : (k at : ℕ) (rest : List ℕ) → at + length rest ≤ 99999 → Bounded (length rest) (readIn k at rest)
+unfolding readIn
+bounded zero at rest m = record { weigh = omega arith; torn = tt }
+bounded (suc k) at [] m = record { weigh = omega arith; torn = tt }
+bounded (suc k) at (h ∷ []) m = record { weigh = omega arith; torn = omega arith }
+bounded (suc k) at (h ∷ l ∷ rest) m =
+    let size = lengthOf h l in
+    let left = length-drop size rest in
+    ⊎-elim
+    (λ (e : length rest < size). rw (lt-leb size (length rest) e) (record { weigh = omega arith; torn = omega arith }))
+    (λ (e : size ≤ length rest).
+    let after = bounded k (at + 2 + size) (drop size rest) (omega arith) in
+    rw (le-leb size (length rest) e) (record { weigh = omega (arith, length-take size rest); torn = after .torn }))
+    (lt-or-le (length rest) size)
+
+pub log-bounded : (log : List ℕ) → length log ≤ 65536 → Bounded 65536 (logRecords log)
+unfolding recordsFrom
+log-bounded log h =
+    let left = length-drop 3 log in
+    let b = bounded (length (drop 3 log)) 3 (drop 3 log) (omega arith) in
+    record { weigh = omega arith; torn = b .torn }
 
 -- a log's refusal
 pub log-few : (log : List ℕ) → Few (checkLog log)
@@ -78,29 +108,15 @@ log-few log =
     first (leb (length log) 65536) LongLog _ (omega arith)
     (λ e. first (leb 3 (length log) && eqb (getD log 0 0) 1) LogHead _ (omega arith)
     (λ _. first (leb (getD log 1 0) 4 && leb (getD log 2 0) 4) ChipCount _ (omega arith)
-    (λ _. cut-few (length log) 3 (drop 3 log) (omega (arith, leb-true (length log) 65536 e, length-drop 3 log)))))
+    (λ _. log-bounded log (leb-true (length log) 65536 e) .torn)))
 
 -- ---- transfers
 
--- what a group has counted after a transfer's bytes, of which k are left at byte i
-counted-few : (k : ℕ) (ram₀ bytes : List ℕ) (r : Registers) (ram : List ℕ) (l : Listener) (i : ℕ) → i + k ≡ length bytes → Hearing ram₀ bytes r ram l i
-    → Sound (heard pcf8532 Control (drop 1 bytes) (begun r ram₀)) (length bytes) (length ram₀)
-counted-few zero ram₀ bytes r ram l i e h =
-    subst (λ (g : Group). Sound g (length bytes) (length ram₀)) (sym (at-end (l .expect) bytes i (omega arith) (groupOf l ram)) ∙ h .rest)
-    (subst (λ (n : ℕ). Sound (groupOf l ram) n (length ram₀)) {x = i} (omega arith) (h .sound))
-counted-few (suc k) ram₀ bytes r ram l i e h =
-    let x = getD bytes i 0 in
-    let g = byte pcf8532 (l .expect) x (groupOf l ram) in
-    counted-few k ram₀ bytes r (g .ram) (listenerOf (next (l .expect) x) g) (i + 1) (omega arith)
-    (byte-turn ram₀ bytes r ram l i (omega arith) h (l .expect) refl (g .ram) (listenerOf (next (l .expect) x) g) refl refl)
-
 -- a group that hears a transfer of 4,096 bytes at most
-heard-few : (ram bytes : List ℕ) (r : Registers) → InRange pcf8532 r → Nibbles ram → 0 < length bytes → length bytes < 4097
-    → Small (numbers (Answer.Taken (heard pcf8532 Control (drop 1 bytes) (begun r ram) .counts)))
-heard-few ram bytes r range columns some few =
-    let h : Hearing ram bytes r ram (listenerOf Control (begun r ram)) 1 = record { rest = refl; sound = record { range = range; acknowledged = omega arith; bits = omega arith; long = refl; nibbles = columns }; most = omega arith } in
-    let s = counted-few (length bytes - 1) ram bytes r ram (listenerOf Control (begun r ram)) 1 (omega arith) h in
-    omega arith
+heard-few : (g : Group) (bytes : List ℕ) → sums.Few 1 (g .counts) → length bytes < 4097 → Small (numbers (Answer.Taken (heard pcf8532 Control (drop 1 bytes) g .counts)))
+heard-few g bytes begun few =
+    let s = sums.heard-few pcf8532 Control (drop 1 bytes) g 1 begun in
+    omega (arith, s .acknowledged, s .bits, length-drop 1 bytes)
 
 -- in a state that no call refuses
 module _ (n : Chips) (s : State) (bytes : List ℕ) (v : Valid pcf8532 n s) (short : length bytes ≤ 65536) where
@@ -109,11 +125,11 @@ module _ (n : Chips) (s : State) (bytes : List ℕ) (v : Valid pcf8532 n s) (sho
   unfolding checkTransfer checkLength
   transfer-refused = rw v (lengths (ltb 0 (length bytes)) (leb (length bytes) 4096))
     where
-      commands : (to : Addressed) → Few (checkCommands to bytes)
-      commands (To g) = undefined-few Control 1 (drop 1 bytes) (omega (arith, length-drop 1 bytes))
+      commands : (to : Addressed) → Few (checkBytes pcf8532 to bytes)
+      commands (To g) = faults-few Control 1 (drop 1 bytes) (omega (arith, length-drop 1 bytes))
       commands Nobody = tt
 
-      lengths : (t u : Bool) → Few (orElse (orElse (unless t EmptyTransfer) (unless u LongTransfer)) (checkCommands (heardBy n (getD bytes 0 0)) bytes))
+      lengths : (t u : Bool) → Few (orElse (orElse (unless t EmptyTransfer) (unless u LongTransfer)) (checkBytes pcf8532 (heardBy n (getD bytes 0 0)) bytes))
       lengths true true = commands (heardBy n (getD bytes 0 0))
       lengths true false = omega arith
       lengths false u = omega arith
@@ -121,9 +137,8 @@ module _ (n : Chips) (s : State) (bytes : List ℕ) (v : Valid pcf8532 n s) (sho
   -- a taken transfer's counts
   transfer-taken : checkTransfer pcf8532 n (s .registers) (s .ram) bytes ≡ Passed → (to : Addressed) → Small (numbers (taken pcf8532 n (s .registers) (s .ram) bytes to .result .answer))
   transfer-taken e (To g) =
-      let p = transfer-passed n (s .registers) (s .ram) bytes e in
-      let f = fits-of pcf8532 n (s .registers) (s .ram) v in
-      heard-few (columnsOf pcf8532 n g (s .ram)) bytes (registersOf g (s .registers)) (part-in n (s .registers) (s .ram) g f) (nibbles-of 0 _ (part-passes n (s .registers) (s .ram) g f)) (p .1 .0) (p .1 .1)
+      heard-few (begun (registersOf g (s .registers)) (columnsOf pcf8532 n g (s .ram))) bytes (record { acknowledged = omega arith; bits = omega arith })
+      (transfer-passed pcf8532 n (s .registers) (s .ram) bytes e .1 .1)
   transfer-taken e Nobody = omega arith
 
   -- an answer's numbers
@@ -133,15 +148,15 @@ module _ (n : Chips) (s : State) (bytes : List ℕ) (v : Valid pcf8532 n s) (sho
     where
       by-check : (k : Check) → checkTransfer pcf8532 n (s .registers) (s .ram) bytes ≡ k → Few k → Small (numbers (answered k (s .registers) (s .ram) (taken pcf8532 n (s .registers) (s .ram) bytes (heardBy n (getD bytes 0 0))) .result .answer))
       by-check Passed e f = transfer-taken e (heardBy n (getD bytes 0 0))
-      by-check (Refused r) e f = (f .0, (f .1 .0, (omega arith, (omega arith, (omega arith, tt)))))
+      by-check (Refused r) e f = omega arith
 
 -- of a transfer of no byte, or of the address alone, they have one digit each
 pub transfer-short : (n : Chips) (s : State) (bytes : List ℕ) → Valid pcf8532 n s → length bytes < 2 → Below 0 (numbers (transferCall pcf8532 n (s .registers) (s .ram) bytes .result .answer))
-unfolding transferCall checkTransfer checkLength undefinedIn heard
+unfolding transferCall checkTransfer checkLength faultIn heard
 transfer-short n s [] v l = rw v (omega arith)
 transfer-short n s (x ∷ []) v l = rw v (by-address (heardBy n x))
   where
-    by-address : (to : Addressed) → Below 0 (numbers (answered (checkCommands to (x ∷ [])) (s .registers) (s .ram) (taken pcf8532 n (s .registers) (s .ram) (x ∷ []) to) .result .answer))
+    by-address : (to : Addressed) → Below 0 (numbers (answered (checkBytes pcf8532 to (x ∷ [])) (s .registers) (s .ram) (taken pcf8532 n (s .registers) (s .ram) (x ∷ []) to) .result .answer))
     by-address (To g) = omega arith
     by-address Nobody = omega arith
 transfer-short n s (x ∷ y ∷ xs) v l = absurd (omega arith)

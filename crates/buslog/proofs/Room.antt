@@ -1,6 +1,6 @@
 -- There is room for the text of any log: ten bytes of transfer lines at most for each byte of a log, 1,280 column lines of 20 and two group lines of 14; or a refusal's line.
 -- Assumes nothing.
-use mathlib.Core.Path.{_≡_, refl, ap}
+use mathlib.Core.Path.{_≡_, refl}
 use mathlib.Core.Logic.{⊎-elim}
 use mathlib.Core.Bool.{Bool, true, false, cond}
 use mathlib.Core.List.{List, [], _∷_, _++_, map}
@@ -9,7 +9,7 @@ use native.Mathlib.Nat.{div-le-self, mod-le}
 use native.Mathlib.Omega.{arith}
 use lib.Count.{ones-le}
 use lib.Dec.{eqb}
-use lib.ListN.{length, drop, length-append, length-drop, length-take, length-map}
+use lib.ListN.{length, drop, length-append, length-map}
 use borrow.Author.Tests.{lt-ltb, le-ltb}
 use Rattle.lemmas.proofs.Order.{lt-or-le}
 use Rattle.sheet.specs.declared.Answer.{Answer}
@@ -24,56 +24,20 @@ use Rattle.sheet.specs.Registers.{backplanes}
 use Rattle.sheet.specs.Protocol.{chipsIn}
 use Rattle.sheet.specs.Pictures.{shown, lit, pictureOf, litIn}
 use Rattle.sheet.specs.Long.{State, stateAfter, transferCall, registersOf, columnsOf, startOf, stateAfterAll}
-use Rattle.sheet.specs.Logs.{lengthOf, logChips, recordsIn, checkLog, line, transferLines, columnLines, shownAt, endLines, logStart, logLines, textBy, textOf}
+use Rattle.sheet.specs.Logs.{logChips, logRecords, checkLog, line, transferLetter, columnLetter, groupLetter, refusalLetter, transferLine, transferLines, columnLine, columnLines, groupLine, shownAt, endLines, logStart, logLines, textBy, textOf}
 use Rattle.sheet.specs.Agree.{Valid}
 use Rattle.laws.proofs.Nibbles.{Nibbles, take-nibbles, drop-nibbles}
 use Rattle.laws.proofs.Fits.{fits-of}
 use Rattle.agreement.proofs.Demand.{pcf8532-agrees}
-use Rattle.long.proofs.Parts.{part-few, part-long}
-use Rattle.buslog.specs.declared.Replayed.{Replayed}
-use Rattle.buslog.specs.declared.Replayed.the-variants.{Written, SmallBuffer}
-use Rattle.buslog.specs.Records.{recordsFrom}
+use Rattle.laws.proofs.Lens.{few-chips-in, length-columns}
+use Rattle.buslog.specs.declared.Replayed.the-variants.{Written}
 use Rattle.buslog.specs.Replays.{room, replayCall}
 use Rattle.buslog.proofs.Widths.{line-few, line-short}
-use Rattle.buslog.proofs.Numbers.{Few, log-few, transfer-few, transfer-short}
+use Rattle.buslog.proofs.Numbers.{weight, Few, log-bounded, log-few, transfer-few, transfer-short}
 use Rattle.buslog.proofs.Checked.{checked}
 use Rattle.buslog.proofs.States.{start-valid}
 
 -- ---- transfers
-
--- a record has two bytes at least
-records-few : (k : ℕ) (rest : List ℕ) → 2 * length (recordsIn k rest) ≤ length rest
-unfolding recordsIn
-records-few zero rest = omega arith
-records-few (suc k) [] = omega arith
-records-few (suc k) (h ∷ []) = omega arith
-records-few (suc k) (h ∷ l ∷ rest) = omega (arith, records-few k (drop (lengthOf h l) rest), length-drop (lengthOf h l) rest)
-
--- the bytes of the records, with their length fields
-abbrev weight : List (List ℕ) → ℕ
-weight [] = 0
-weight (t ∷ ts) = length t + 2 + weight ts
-
-records-weigh : (k : ℕ) (rest : List ℕ) → weight (recordsIn k rest) ≤ length rest
-unfolding recordsIn
-records-weigh zero rest = omega arith
-records-weigh (suc k) [] = omega arith
-records-weigh (suc k) (h ∷ []) = omega arith
-records-weigh (suc k) (h ∷ l ∷ rest) =
-    omega (arith, records-weigh k (drop (lengthOf h l) rest), length-take (lengthOf h l) rest, length-drop (lengthOf h l) rest)
-
--- none is longer than the log
-abbrev Short : List (List ℕ) → Type 0
-Short [] = Unit {0}
-Short (t ∷ ts) = (length t ≤ 65536) × Short ts
-
-records-short : (k : ℕ) (rest : List ℕ) → length rest ≤ 65536 → Short (recordsIn k rest)
-unfolding recordsIn
-records-short zero rest h = tt
-records-short (suc k) [] h = tt
-records-short (suc k) (b ∷ []) h = tt
-records-short (suc k) (b ∷ l ∷ rest) h =
-    (omega (arith, length-take (lengthOf b l) rest), records-short k (drop (lengthOf b l) rest) (omega (arith, length-drop (lengthOf b l) rest)))
 
 -- an answer has five numbers, and a transfer's line one more
 five : (a : Answer) → length (numbers a) ≡ 5
@@ -82,19 +46,21 @@ five (Answer.Refused r) = refl
 
 -- ten bytes at most for each byte of the record: a line of one digit a count for a record of no byte or one, and else 38
 transfer-line : (n : Chips) (i : ℕ) (s : State) (t : List ℕ) → Valid pcf8532 n s → length t ≤ 65536 → i < 100000
-    → length (line 84 (i ∷ numbers (transferCall pcf8532 n (s .registers) (s .ram) t .result .answer))) ≤ 10 * (length t + 2)
+    → length (transferLine i (transferCall pcf8532 n (s .registers) (s .ram) t .result .answer)) ≤ 10 * (length t + 2)
 transfer-line n i s t v short h =
     let a = transferCall pcf8532 n (s .registers) (s .ram) t .result .answer in
-    ⊎-elim (λ (l : length t < 2). omega (arith, line-short 84 i (numbers a) h (transfer-short n s t v l) (five a)))
-    (λ (l : 2 ≤ length t). omega (arith, line-few 84 (i ∷ numbers a) (h, transfer-few n s t v short), five a))
+    ⊎-elim (λ (l : length t < 2). omega (arith, line-short transferLetter i (numbers a) h (transfer-short n s t v l) (five a)))
+    (λ (l : 2 ≤ length t). omega (arith, line-few transferLetter (i ∷ numbers a) (h, transfer-few n s t v short), five a))
     (lt-or-le (length t) 2)
 
-transfers-few : (n : Chips) (i : ℕ) (s : State) (ts : List (List ℕ)) → Valid pcf8532 n s → Short ts → i + length ts ≤ 99999 → length (transferLines n i s ts) ≤ 10 * weight ts
+-- i records before these had two bytes at least
+transfers-few : (n : Chips) (i : ℕ) (s : State) (ts : List (List ℕ)) → Valid pcf8532 n s → 2 * i + weight ts ≤ 65536 → length (transferLines n i s ts) ≤ 10 * weight ts
 unfolding transferLines
-transfers-few n i s [] v short h = omega arith
-transfers-few n i s (t ∷ ts) v short h =
+transfers-few n i s [] v h = omega arith
+transfers-few n i s (t ∷ ts) v h =
     let after = stateAfter pcf8532 n s t in
-    omega (arith, length-append (line 84 (i ∷ numbers (transferCall pcf8532 n (s .registers) (s .ram) t .result .answer))) (transferLines n (suc i) after ts), transfer-line n i s t v (short .0) (omega arith), transfers-few n (suc i) after ts (pcf8532-agrees .transfer n s t v .valid) (short .1) (omega arith))
+    let line = transferLine i (transferCall pcf8532 n (s .registers) (s .ram) t .result .answer) in
+    omega (arith, length-append line (transferLines n (suc i) after ts), transfer-line n i s t v (omega arith) (omega arith), transfers-few n (suc i) after ts (pcf8532-agrees .transfer n s t v .valid) (omega arith))
 
 -- ---- pictures
 
@@ -119,11 +85,11 @@ columns-few : (g c : ℕ) (picture : List ℕ) → g < 2 → c + length picture 
 unfolding columnLines
 columns-few g c [] hg h w = omega arith
 columns-few g c (q ∷ qs) hg h w =
-    omega (arith, length-append (cond (eqb q 0) [] (line 83 (g ∷ c ∷ q ∷ []))) (columnLines g (suc c) qs), one (eqb q 0), columns-few g (suc c) qs hg (omega arith) (λ j. w (suc j)))
+    omega (arith, length-append (columnLine g c q) (columnLines g (suc c) qs), one (eqb q 0), columns-few g (suc c) qs hg (omega arith) (λ j. w (suc j)))
   where
-    one : (t : Bool) → length (cond t [] (line 83 (g ∷ c ∷ q ∷ []))) ≤ 20
+    one : (t : Bool) → length (cond t [] (line columnLetter (g ∷ c ∷ q ∷ []))) ≤ 20
     one true = omega arith
-    one false = omega (arith, line-few 83 (g ∷ c ∷ q ∷ []) (omega (arith, w 0)))
+    one false = omega (arith, line-few columnLetter (g ∷ c ∷ q ∷ []) (omega (arith, w 0)))
 
 -- the lines at the end, of a state that no call refuses
 module _ (n : Chips) (s : State) (v : Valid pcf8532 n s) where
@@ -138,54 +104,56 @@ module _ (n : Chips) (s : State) (v : Valid pcf8532 n s) where
   shown-few g =
       let f = fits-of pcf8532 n (s .registers) (s .ram) v in
       let r = registersOf g (s .registers) in
-      omega (arith, length-map (columnsOf pcf8532 n g (s .ram)) (lit (backplanes r) (shown r 0)), part-long n (s .registers) (s .ram) g f, part-few n (s .registers) (s .ram) g f)
+      omega (arith, length-map (columnsOf pcf8532 n g (s .ram)) (lit (backplanes r) (shown r 0)), length-columns pcf8532 n (s .registers) (s .ram) f g, few-chips-in pcf8532 n (s .registers) (s .ram) f g)
 
-  group-few : (g : ℕ) → g < 2 → (length (columnLines g 0 (shownAt n s g)) ≤ 12800) × (length (line 71 (g ∷ litIn (shownAt n s g) ∷ [])) ≤ 14)
+  group-few : (g : ℕ) → g < 2 → (length (columnLines g 0 (shownAt n s g)) ≤ 12800) × (length (groupLine g (litIn (shownAt n s g))) ≤ 14)
   group-few g h =
       let size = shown-few g in
       let count = lit-few (shownAt n s g) (shown-nibbles g) in
-      (omega (arith, columns-few g 0 (shownAt n s g) h (omega arith) (shown-nibbles g)), omega (arith, line-few 71 (g ∷ litIn (shownAt n s g) ∷ []) (omega arith)))
+      (omega (arith, columns-few g 0 (shownAt n s g) h (omega arith) (shown-nibbles g)), omega (arith, line-few groupLetter (g ∷ litIn (shownAt n s g) ∷ []) (omega arith)))
 
   end-few : length (endLines n s) ≤ 25628
   end-few =
       let columns-zero = columnLines 0 0 (shownAt n s 0) in
       let columns-one = columnLines 1 0 (shownAt n s 1) in
-      let line-zero = line 71 (0 ∷ litIn (shownAt n s 0) ∷ []) in
-      let line-one = line 71 (1 ∷ litIn (shownAt n s 1) ∷ []) in
+      let line-zero = groupLine 0 (litIn (shownAt n s 0)) in
+      let line-one = groupLine 1 (litIn (shownAt n s 1)) in
       let zero-few = group-few 0 (omega arith) in
       let one-few = group-few 1 (omega arith) in
       omega (arith, length-append columns-zero (columns-one ++ (line-zero ++ line-one)), length-append columns-one (line-zero ++ line-one), length-append line-zero line-one)
 
 -- ---- a log's text
 
-lines-few : (log : List ℕ) → checkLog log ≡ Passed → length (logLines (logChips log) (recordsFrom 3 log)) ≤ room
+lines-few : (log : List ℕ) → checkLog log ≡ Passed → length (logLines (logChips log) (logRecords log .bodies)) ≤ room
 lines-few log e =
     let c = checked log e in
     let n = logChips log in
-    let ts = recordsFrom 3 log in
+    let ts = logRecords log .bodies in
     let v = start-valid n (c .chips) in
-    let shorter : length (drop 3 log) ≤ 65536 = omega (arith, length-drop 3 log) in
-    let few = records-few (length log) (drop 3 log) in
-    omega (arith, records-weigh (length log) (drop 3 log), length-drop 3 log, length-append (transferLines n 0 (logStart n) ts) (endLines n (stateAfterAll pcf8532 n (logStart n) ts)), transfers-few n 0 (logStart n) ts v (records-short (length log) (drop 3 log) shorter) (omega arith), end-few n (stateAfterAll pcf8532 n (logStart n) ts) (pcf8532-agrees .sequence n (logStart n) ts v .valid))
+    let end = stateAfterAll pcf8532 n (logStart n) ts in
+    let few = log-bounded log (c .short) .weigh in
+    omega (arith, length-append (transferLines n 0 (logStart n) ts) (endLines n end), transfers-few n 0 (logStart n) ts v (omega arith), end-few n end (pcf8532-agrees .sequence n (logStart n) ts v .valid))
 
 -- the law
 pub text-few : (log : List ℕ) → length (textOf log) ≤ room
 unfolding textOf
 text-few log = by-check (checkLog log) refl (log-few log)
   where
-    by-check : (k : Check) → checkLog log ≡ k → Few k → length (textBy k (logChips log) (recordsFrom 3 log)) ≤ room
+    by-check : (k : Check) → checkLog log ≡ k → Few k → length (textBy k (logChips log) (logRecords log .bodies)) ≤ room
     by-check Passed e f = lines-few log e
-    by-check (Refused r) e f = omega (arith, line-few 88 (numberOf r ∷ placeOf r ∷ []) f)
+    by-check (Refused r) e f = omega (arith, line-few refusalLetter (numberOf r ∷ placeOf r ∷ []) f)
 
 -- a replay's count is of bytes of its buffer
 pub count-few : (log out : List ℕ) (count : ℕ) → replayCall log out .result ≡ Written count → count ≤ length out
 unfolding replayCall
 count-few log out count e =
     ⊎-elim
-    (λ (l : length out < room). absurd (omega (arith, ap told (rw (lt-ltb (length out) room l) at e))))
-    (λ (l : room ≤ length out). omega (arith, text-few log, ap told (rw (le-ltb (length out) room l) at e)))
+    (λ (l : length out < room).
+    let small = rw (lt-ltb (length out) room l) at e in
+    let never : _≡_ {A = ℕ} 0 1 = cc in
+    absurd (omega arith))
+    (λ (l : room ≤ length out).
+    let written = rw (le-ltb (length out) room l) at e in
+    let same : length (textOf log) ≡ count = cc in
+    omega (arith, text-few log))
     (lt-or-le (length out) room)
-  where
-    told : Replayed → ℕ
-    told (Written n) = suc n
-    told SmallBuffer = 0

@@ -1,27 +1,23 @@
 -- How long lines are, by the digits of their numbers.
 -- Assumes nothing.
-use mathlib.Core.Path.{_≡_}
+use mathlib.Core.Path.{_≡_, ap}
 use mathlib.Core.Logic.{⊎-elim}
 use mathlib.Core.List.{List, [], _∷_}
 use Prim.Native.Nat.{ℕ, zero, suc, _+_, _*_, _/_, _%_, _^_, _≤_, _<_}
-use native.Mathlib.Nat.{pow-suc, div-lt-iff-lt-mul}
+use native.Mathlib.Nat.{pow-suc}
 use native.Mathlib.Omega.{arith}
 use lib.ListN.{length, length-append}
-use borrow.Author.Tests.{lt-ltb, le-ltb}
 use Rattle.lemmas.proofs.Order.{lt-or-le}
-use Rattle.sheet.specs.Logs.{digitsIn, decimal, spaced, line}
+use Rattle.text.proofs.Decimals.{one-digit, more-digits}
+use Rattle.sheet.specs.Logs.{decimal, spaced, line}
 
 -- a number below a power of ten has no more digits than the power
-digits-few : (j k n : ℕ) → n < 10 ^ suc k → length (digitsIn j n) ≤ suc k
-unfolding digitsIn
-digits-few zero k n h = omega arith
-digits-few (suc j) zero n h = rw (lt-ltb n 10 h) (omega arith)
-digits-few (suc j) (suc k) n h =
+decimal-few : (k n : ℕ) → n < 10 ^ suc k → length (decimal n) ≤ suc k
+decimal-few zero n h = omega (arith, ap length (one-digit n h))
+decimal-few (suc k) n h =
     ⊎-elim
-    (λ (l : n < 10). rw (lt-ltb n 10 l) (omega arith))
-    (λ (l : 10 ≤ n).
-    let tenth : n / 10 < 10 ^ suc k = div-lt-iff-lt-mul {k = 10} (omega arith) .1 (omega (arith, pow-suc 10 (suc k))) in
-    rw (le-ltb n 10 l) (omega (arith, length-append (digitsIn j (n / 10)) ((48 + n % 10) ∷ []), digits-few j k (n / 10) tenth)))
+    (λ (l : n < 10). omega (arith, ap length (one-digit n l)))
+    (λ (l : 10 ≤ n). omega (arith, ap length (more-digits n l), length-append (decimal (n / 10)) ((48 + n % 10) ∷ []), decimal-few k (n / 10) (omega (arith, pow-suc 10 (suc k)))))
     (lt-or-le n 10)
 
 -- every number has k + 1 digits at most
@@ -35,9 +31,9 @@ Small ns = Below 4 ns
 
 -- a space and the digits, a number
 pub spaced-few : (k : ℕ) (ns : List ℕ) → Below k ns → length (spaced ns) ≤ (k + 2) * length ns
-unfolding spaced decimal
+unfolding spaced
 spaced-few k [] s = omega arith
-spaced-few k (n ∷ ns) s = omega (arith, length-append (decimal n) (spaced ns), digits-few (suc n) k n (s .0), spaced-few k ns (s .1))
+spaced-few k (n ∷ ns) s = omega (arith, length-append (decimal n) (spaced ns), decimal-few k n (s .0), spaced-few k ns (s .1))
 
 -- and the letter and LF
 pub line-few : (letter : ℕ) (ns : List ℕ) → Small ns → length (line letter ns) ≤ 6 * length ns + 2
@@ -45,6 +41,6 @@ line-few letter ns s = omega (arith, length-append (spaced ns) (10 ∷ []), spac
 
 -- a small number and five of one digit
 pub line-short : (letter n : ℕ) (ns : List ℕ) → n < 100000 → Below 0 ns → length ns ≡ 5 → length (line letter (n ∷ ns)) ≤ 18
-unfolding spaced decimal
+unfolding spaced
 line-short letter n ns h s e =
-    omega (arith, length-append (spaced (n ∷ ns)) (10 ∷ []), length-append (decimal n) (spaced ns), digits-few (suc n) 4 n h, spaced-few 0 ns s)
+    omega (arith, length-append (spaced (n ∷ ns)) (10 ∷ []), length-append (decimal n) (spaced ns), decimal-few 4 n h, spaced-few 0 ns s)

@@ -1,3 +1,2 @@
-pub mod Texts
-pub mod Records
+pub mod Asked
 pub mod Replays

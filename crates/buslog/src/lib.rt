@@ -1,4 +1,6 @@
 // Bus logs: a log's bytes in, the program's text out.
+use records::Cursor;
+use records::Record;
 use sheet::Answer;
 use sheet::Both;
 use sheet::Check;
@@ -6,76 +8,16 @@ use sheet::Chips;
 use sheet::Pictured;
 use sheet::Refusal;
 ghost use mathlib.Core.Path.{_≡_};
-ghost use mathlib.Core.Bool.{cond};
-ghost use mathlib.Core.List.{[], _∷_};
-ghost use Prim.Native.Nat.{_+_, _*_, _≤_, _<_};
-ghost use lib.Dec.{eqb};
-ghost use lib.ListN.{length, drop, replicate};
-ghost use Rattle.sheet.specs.Refusals.{numberOf, placeOf, numbers};
+ghost use Prim.Native.Nat.{_+_, _≤_};
+ghost use lib.ListN.{length, replicate};
 ghost use Rattle.sheet.specs.Parts.{pcf8532};
-ghost use Rattle.sheet.specs.Protocol.{chipsIn};
-ghost use Rattle.sheet.specs.Checks.{orElse, checkChips};
 ghost use Rattle.sheet.specs.Pictures.{litIn};
 ghost use Rattle.sheet.specs.Long.{stateOf, stateAfterAll};
-ghost use Rattle.sheet.specs.Logs.{lengthOf, logChips, cutIn, checkLog, decimal, spaced, line, transferLines, columnLines, shownAt, endLines, logStart, logLines, textOf};
+ghost use Rattle.sheet.specs.Logs.{logChips, logRecords, checkLog, transferLine, transferLines, columnLine, columnLines, shownAt, endLines, logLines, refusalLine, textOf};
 ghost use Rattle.sheet.specs.Agree.{Valid};
-ghost use Rattle.buslog.specs.Texts.{Puts};
+ghost use Rattle.text.specs.Texts.{Puts};
+ghost use Rattle.buslog.specs.Asked.{Listable, Playable};
 ghost use Rattle.buslog.specs.Replays.{replayCall};
-ghost use Rattle.buslog.specs.Records.{recordIn, recordsFrom};
-
-// ---- writers: each writes at a place and returns the place after what it wrote
-
-fn put_byte(out: &mut [u8], at: usize, byte: u8) -> usize
-    requires { ⌜ at + 1 ≤ length (now out) ⌝ }
-    ensures { λ r. ⌜ Puts at (byte ∷ []) (now (out .entry)) (now (out .exit)) r ⌝ }
-{
-    out[at] = byte;
-    at + 1
-}
-
-fn put_digit(out: &mut [u8], at: usize, digit: usize) -> usize
-    requires { ⌜ (digit < 10) × (at + 1 ≤ length (now out)) ⌝ }
-    ensures { λ r. ⌜ Puts at ((48 + digit) ∷ []) (now (out .entry)) (now (out .exit)) r ⌝ }
-{
-    put_byte(out, at, b'0' + digit as u8)
-}
-
-// The digits of the number's tenth, and its last digit.
-fn put_number(out: &mut [u8], at: usize, n: usize) -> usize
-    requires { ⌜ at + length (decimal n) ≤ length (now out) ⌝ }
-    ensures { λ r. ⌜ Puts at (decimal n) (now (out .entry)) (now (out .exit)) r ⌝ }
-{
-    if n < 10 {
-        return put_digit(out, at, n);
-    }
-    let last = put_number(out, at, n / 10);
-    put_digit(out, last, n % 10)
-}
-
-// Each number after a space.
-fn put_numbers(out: &mut [u8], at: usize, numbers: &[usize]) -> usize
-    requires { ⌜ at + length (spaced (now numbers)) ≤ length (now out) ⌝ }
-    ensures { λ r. ⌜ Puts at (spaced (now (numbers .entry))) (now (out .entry)) (now (out .exit)) r ⌝ }
-{
-    let mut place = at;
-    let mut i = 0;
-    while i < numbers.len() {
-        let after = put_byte(out, place, b' ');
-        place = put_number(out, after, numbers[i]);
-        i += 1;
-    }
-    place
-}
-
-// A letter, the numbers, and LF.
-fn put_line(out: &mut [u8], at: usize, letter: u8, numbers: &[usize]) -> usize
-    requires { ⌜ at + length (line letter (now numbers)) ≤ length (now out) ⌝ }
-    ensures { λ r. ⌜ Puts at (line letter (now (numbers .entry))) (now (out .entry)) (now (out .exit)) r ⌝ }
-{
-    let start = put_byte(out, at, letter);
-    let end = put_numbers(out, start, numbers);
-    put_byte(out, end, b'\n')
-}
 
 // ---- the log
 
@@ -89,74 +31,6 @@ fn chips_of(log: &[u8]) -> Chips
     }
 }
 
-// A record's length, big-endian.
-fn length_of(high: u8, low: u8) -> usize
-    ensures { λ r. ⌜ r ≡ lengthOf high low ⌝ }
-{
-    256 * (high as usize) + low as usize
-}
-
-// A place in a log, at a record's length field.
-pub struct Cursor {
-    pub at: usize,
-}
-
-// What stands there: a whole record, the log's end, or a record that is cut short.
-pub enum Record {
-    Body { start: usize, size: usize },
-    End,
-    Cut,
-}
-
-impl Cursor {
-    pub fn read(self, log: &[u8]) -> Record
-        ensures { λ r. ⌜ r ≡ recordIn (self .at) (drop (self .at) (now (log .entry))) ⌝ }
-    {
-        let at = self.at;
-        if log.len() <= at {
-            return Record::End;
-        }
-        let left = log.len() - at;
-        if left < 2 {
-            return Record::Cut;
-        }
-        let high = log[at];
-        let low = log[at + 1];
-        let size = length_of(high, low);
-        let start = at + 2;
-        if size <= left - 2 {
-            Record::Body { start, size }
-        } else {
-            Record::Cut
-        }
-    }
-}
-
-// The first record that is cut short, if there is one.
-fn check_records(log: &[u8]) -> Check
-    ensures { λ r. ⌜ r ≡ cutIn (length (now (log .entry))) 3 (drop 3 (now (log .entry))) ⌝ }
-{
-    let mut at = 3;
-    loop {
-        let cursor = Cursor { at };
-        match cursor.read(log) {
-            Record::Body { start, size } => at = start + size,
-            Record::End => return Check::Passed,
-            Record::Cut => return Check::Refused(Refusal::CutRecord(at)),
-        }
-    }
-}
-
-// The chip counts and the records: 3, 13.
-fn check_body(log: &[u8]) -> Check
-    ensures { λ r. ⌜ r ≡ orElse (checkChips pcf8532 (logChips (now (log .entry)))) (cutIn (length (now (log .entry))) 3 (drop 3 (now (log .entry)))) ⌝ }
-{
-    match checks::check_chips(chips_of(log)) {
-        Check::Refused(refusal) => Check::Refused(refusal),
-        Check::Passed => check_records(log),
-    }
-}
-
 // A log is checked whole before its first line is written: 14, 12, 3, 13.
 fn check_log(log: &[u8]) -> Check
     ensures { λ r. ⌜ r ≡ checkLog (now (log .entry)) ⌝ }
@@ -165,7 +39,10 @@ fn check_log(log: &[u8]) -> Check
         return Check::Refused(Refusal::LongLog);
     }
     if (3 <= log.len()) & (checks::byte_at(log, 0) == 1) {
-        check_body(log)
+        match checks::check_chips(chips_of(log)) {
+            Check::Refused(refusal) => Check::Refused(refusal),
+            Check::Passed => records::check_records(log),
+        }
     } else {
         Check::Refused(Refusal::LogHead)
     }
@@ -175,17 +52,17 @@ fn check_log(log: &[u8]) -> Check
 
 // A transfer's line.
 fn put_transfer(out: &mut [u8], at: usize, index: usize, answer: Answer) -> usize
-    requires { ⌜ at + length (line 84 (index ∷ numbers answer)) ≤ length (now out) ⌝ }
-    ensures { λ r. ⌜ Puts at (line 84 (index ∷ numbers answer)) (now (out .entry)) (now (out .exit)) r ⌝ }
+    requires { ⌜ at + length (transferLine index answer) ≤ length (now out) ⌝ }
+    ensures { λ r. ⌜ Puts at (transferLine index answer) (now (out .entry)) (now (out .exit)) r ⌝ }
 {
     match answer {
-        Answer::Taken(t) => put_line(
+        Answer::Taken(t) => text::put_line(
             out,
             at,
             b'T',
             &[index, 0, 0, t.acknowledged, t.stored, t.discarded],
         ),
-        Answer::Refused(refusal) => put_line(
+        Answer::Refused(refusal) => text::put_line(
             out,
             at,
             b'T',
@@ -209,10 +86,10 @@ struct Played {
 
 // Carries out a log's transfers and writes a line for each.
 fn put_transfers(log: &[u8], chips: Chips, initial: Both, ram: &mut [u8], out: &mut [u8]) -> Played
-    requires { ⌜ cutIn (length (now log)) 3 (drop 3 (now log)) ≡ Check.Passed ⌝ }
-    requires { ⌜ length (transferLines chips 0 (stateOf initial (now ram)) (recordsFrom 3 (now log))) ≤ length (now out) ⌝ }
-    ensures { λ r. ⌜ stateOf (r .registers) (now (ram .exit)) ≡ stateAfterAll pcf8532 chips (stateOf initial (now (ram .entry))) (recordsFrom 3 (now (log .entry))) ⌝ }
-    ensures { λ r. ⌜ Puts 0 (transferLines chips 0 (stateOf initial (now (ram .entry))) (recordsFrom 3 (now (log .entry)))) (now (out .entry)) (now (out .exit)) (r .at) ⌝ }
+    requires { ⌜ logRecords (now log) .tear ≡ Check.Passed ⌝ }
+    requires { ⌜ length (transferLines chips 0 (stateOf initial (now ram)) (logRecords (now log) .bodies)) ≤ length (now out) ⌝ }
+    ensures { λ r. ⌜ stateOf (r .registers) (now (ram .exit)) ≡ stateAfterAll pcf8532 chips (stateOf initial (now (ram .entry))) (logRecords (now (log .entry)) .bodies) ⌝ }
+    ensures { λ r. ⌜ Puts 0 (transferLines chips 0 (stateOf initial (now (ram .entry))) (logRecords (now (log .entry)) .bodies)) (now (out .entry)) (now (out .exit)) (r .at) ⌝ }
 {
     let mut registers = initial;
     let mut index = 0;
@@ -232,13 +109,13 @@ fn put_transfers(log: &[u8], chips: Chips, initial: Both, ram: &mut [u8], out: &
 
 // A column's line, if it is lit.
 fn put_column(out: &mut [u8], at: usize, group: usize, column: usize, value: u8) -> usize
-    requires { ⌜ at + length (cond (eqb value 0) [] (line 83 (group ∷ column ∷ value ∷ []))) ≤ length (now out) ⌝ }
-    ensures { λ r. ⌜ Puts at (cond (eqb value 0) [] (line 83 (group ∷ column ∷ value ∷ []))) (now (out .entry)) (now (out .exit)) r ⌝ }
+    requires { ⌜ at + length (columnLine group column value) ≤ length (now out) ⌝ }
+    ensures { λ r. ⌜ Puts at (columnLine group column value) (now (out .entry)) (now (out .exit)) r ⌝ }
 {
     if value == 0 {
         at
     } else {
-        put_line(out, at, b'S', &[group, column, value as usize])
+        text::put_line(out, at, b'S', &[group, column, value as usize])
     }
 }
 
@@ -279,8 +156,7 @@ fn put_group(
     out: &mut [u8],
     at: usize,
 ) -> Listed
-    requires { ⌜ (group < 2) × (size ≡ 160 * chipsIn group chips) × Valid pcf8532 chips (stateOf registers (now ram)) ⌝ }
-    requires { ⌜ at + length (columnLines group 0 (shownAt chips (stateOf registers (now ram)) group)) ≤ length (now out) ⌝ }
+    requires { ⌜ Listable chips (stateOf registers (now ram)) group size at (now out) ⌝ }
     ensures { λ r. ⌜ Puts at (columnLines group 0 (shownAt chips (stateOf registers (now (ram .entry))) group)) (now (out .entry)) (now (out .exit)) (r .at) ⌝ }
     ensures { λ r. ⌜ r .lit ≡ litIn (shownAt chips (stateOf registers (now (ram .entry))) group) ⌝ }
 {
@@ -304,21 +180,17 @@ fn put_end(chips: Chips, registers: Both, ram: &[u8], out: &mut [u8], at: usize)
     let ones = 160 * (chips.one as usize);
     let zero = put_group(chips, registers, ram, 0, zeros, out, at);
     let one = put_group(chips, registers, ram, 1, ones, out, zero.at);
-    let next = put_line(out, one.at, b'G', &[0, zero.lit]);
-    put_line(out, next, b'G', &[1, one.lit])
+    let next = text::put_line(out, one.at, b'G', &[0, zero.lit]);
+    text::put_line(out, next, b'G', &[1, one.lit])
 }
 
 // A log that passed its checks, into the RAM of its chips.
 fn play(log: &[u8], chips: Chips, ram: &mut [u8], out: &mut [u8]) -> usize
-    requires { ⌜ (checkChips pcf8532 chips ≡ Check.Passed) × (cutIn (length (now log)) 3 (drop 3 (now log)) ≡ Check.Passed) × (now ram ≡ logStart chips .ram) ⌝ }
-    requires { ⌜ length (logLines chips (recordsFrom 3 (now log))) ≤ length (now out) ⌝ }
-    ensures { λ r. ⌜ Puts 0 (logLines chips (recordsFrom 3 (now (log .entry)))) (now (out .entry)) (now (out .exit)) r ⌝ }
+    requires { ⌜ Playable (now log) chips (now ram) (now out) ⌝ }
+    ensures { λ r. ⌜ Puts 0 (logLines chips (logRecords (now (log .entry)) .bodies)) (now (out .entry)) (now (out .exit)) r ⌝ }
 {
-    let start = Both {
-        zero: command::power_on(),
-        one: command::power_on(),
-    };
-    let played = put_transfers(log, chips, start, ram, out);
+    let start = long::power_on(chips, ram);
+    let played = put_transfers(log, chips, start.registers, ram, out);
     let registers = played.registers;
     put_end(chips, registers, ram, out, played.at)
 }
@@ -344,10 +216,10 @@ fn put_log(log: &[u8], out: &mut [u8]) -> usize
 
 // The line of a log that is refused.
 fn put_refusal(out: &mut [u8], refusal: Refusal) -> usize
-    requires { ⌜ length (line 88 (numberOf refusal ∷ placeOf refusal ∷ [])) ≤ length (now out) ⌝ }
-    ensures { λ r. ⌜ Puts 0 (line 88 (numberOf refusal ∷ placeOf refusal ∷ [])) (now (out .entry)) (now (out .exit)) r ⌝ }
+    requires { ⌜ length (refusalLine refusal) ≤ length (now out) ⌝ }
+    ensures { λ r. ⌜ Puts 0 (refusalLine refusal) (now (out .entry)) (now (out .exit)) r ⌝ }
 {
-    put_line(
+    text::put_line(
         out,
         0,
         b'X',

@@ -9,6 +9,7 @@ pub mod Protocol
 pub mod Checks
 pub mod Long
 pub mod Pictures
+pub mod Records
 pub mod Logs
 pub mod Plain
 pub mod Agree

@@ -17,7 +17,8 @@ use Rattle.sheet.specs.Long.{heard, dataByte, powerOnCall, transferCall,
 use Rattle.sheet.specs.Plain.{putRows, afterColumn, afterColumns, chipData, acknowledgesData, plainHeard, chipFits, chipPowerOn, checkChipPicture, chipPictureCall, misfitIn, checkPlain, plainCall}
 use Rattle.sheet.specs.Places.{advanced, position, atPosition}
 use Rattle.sheet.specs.Data.{putBits, changed, withRow, storedBits, counted}
-use Rattle.sheet.specs.Logs.{cutIn, checkLog}
+use Rattle.sheet.specs.Records.{readIn, recordsFrom}
+use Rattle.sheet.specs.Logs.{checkLog}
 use Rattle.sheet.specs.Starred.{same}
 use lib.Count.{ones, onesIn}
 
@@ -121,5 +122,5 @@ abbrev pub logs : Bool
 logs = inOrder (refusal 14 0 ∷ refusal 12 0 ∷ refusal 3 0 ∷ refusal 13 3 ∷ []) (λ f. checkNumbers (checkLog (log f)))
 
 pub orders : T (long && (plain && logs))
-unfolding checkLog cutIn powerOnCall checkPowerOn pictureCall checkPicture chipPowerOn chipPictureCall checkChipPicture litIn ones onesIn plainCall checkPlain misfitIn chipFits plainHeard chipData afterColumn afterColumns putRows advanced acknowledgesData transferCall checkTransfer checkState checkChips checkRegisters checkRam checkLength overIn faultIn heardBy heard dataByte controlOf commandOf commandIn within inRange backplanes bankRow position atPosition putBits changed withRow storedBits counted shown pictureOf
+unfolding checkLog recordsFrom readIn powerOnCall checkPowerOn pictureCall checkPicture chipPowerOn chipPictureCall checkChipPicture litIn ones onesIn plainCall checkPlain misfitIn chipFits plainHeard chipData afterColumn afterColumns putRows advanced acknowledgesData transferCall checkTransfer checkState checkChips checkRegisters checkRam checkLength overIn faultIn heardBy heard dataByte controlOf commandOf commandIn within inRange backplanes bankRow position atPosition putBits changed withRow storedBits counted shown pictureOf
 orders = tt

@@ -1,7 +1,9 @@
 -- The worked log of paper 01, "Bus logs", and its text, computed of the definitions.
 use Prim.Native.Nat.{ℕ}
+use mathlib.Core.Path.{_≡_, refl}
 use mathlib.Core.List.{List, [], _∷_}
 use lib.Dec.{T}
+use lib.ListN.{take}
 use Rattle.sheet.specs.Registers.{inRange, backplanes, bankRow}
 use Rattle.sheet.specs.Parts.{within, commandIn, commandOf}
 use Rattle.sheet.specs.Protocol.{heardBy, controlOf}
@@ -10,7 +12,8 @@ use Rattle.sheet.specs.Pictures.{shown, pictureOf, litIn}
 use Rattle.sheet.specs.Long.{heard, dataByte, transferCall, stateAfterAll}
 use Rattle.sheet.specs.Places.{position, atPosition}
 use Rattle.sheet.specs.Data.{putBits, changed, withRow, storedBits, counted}
-use Rattle.sheet.specs.Logs.{recordsIn, cutIn, checkLog, digitsIn, decimal, spaced, transferLines, columnLines, textOf}
+use Rattle.sheet.specs.Records.{tornAt, withBody, readIn, recordsFrom}
+use Rattle.sheet.specs.Logs.{logRecords, checkLog, digitsIn, decimal, spaced, transferLines, columnLines, textOf}
 use Rattle.sheet.specs.Starred.{same}
 use lib.Count.{ones, onesIn}
 
@@ -40,5 +43,11 @@ workedText =
     ∷ 71 ∷ 32 ∷ 49 ∷ 32 ∷ 48 ∷ 10 ∷ []
 
 pub worked : T (same (textOf workedLog) workedText)
-unfolding textOf recordsIn cutIn checkLog digitsIn decimal spaced transferLines columnLines stateAfterAll transferCall checkTransfer checkState checkChips checkRegisters checkRam checkLength overIn faultIn heardBy heard dataByte controlOf commandOf commandIn within inRange backplanes bankRow position atPosition putBits changed withRow storedBits counted shown pictureOf litIn ones onesIn
+unfolding textOf recordsFrom readIn checkLog digitsIn decimal spaced transferLines columnLines stateAfterAll transferCall checkTransfer checkState checkChips checkRegisters checkRam checkLength overIn faultIn heardBy heard dataByte controlOf commandOf commandIn within inRange backplanes bankRow position atPosition putBits changed withRow storedBits counted shown pictureOf litIn ones onesIn
 worked = tt
+
+-- without its last byte the log is torn at offset 19, where that record's length field stands; the bodies before it are there
+pub torn : logRecords (take 21 workedLog)
+    ≡ withBody (0x70 ∷ 0x80 ∷ 0xC8 ∷ 0x80 ∷ 0x09 ∷ 0x80 ∷ 0x4F ∷ 0x40 ∷ 0xA5 ∷ []) (withBody (0x70 ∷ 0x00 ∷ 0xFC ∷ []) (tornAt 19))
+unfolding recordsFrom readIn
+torn = refl

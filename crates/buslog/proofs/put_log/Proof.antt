@@ -1,18 +1,16 @@
 -- `buslog::put_log` meets its contract: the RAM of the log's chips is a part of an array of zeros.
 -- Assumes nothing.
-use mathlib.Core.Path.{_≡_, refl, sym, ap, subst, _∙_}
+use mathlib.Core.Path.{_≡_, refl, sym, ap}
 use mathlib.Core.List.{List, _∷_}
 use Prim.Native.Nat.{ℕ, zero, suc, _+_, _*_, _≤_}
 use native.Mathlib.Nat.{le-of-suc-le-suc}
 use native.Mathlib.Omega.{arith}
 use lib.ListN.{length, take, replicate, length-replicate}
 use lib.Seq.{length-take-le}
-use Rattle.sheet.specs.declared.Chips.{Chips}
 use Rattle.sheet.specs.declared.Check.the-variants.{Passed}
 use Rattle.sheet.specs.Parts.{pcf8532}
 use Rattle.sheet.specs.Checks.{checkChips}
-use Rattle.sheet.specs.Logs.{logLines, textOf}
-use Rattle.buslog.specs.Records.{recordsFrom}
+use Rattle.sheet.specs.Logs.{logRecords, logLines, textOf}
 use Rattle.laws.proofs.Fits.{few-chips}
 use Rattle.buslog.proofs.Checked.{checked, text-passed}
 use borrow.Author.Needs.{needs}
@@ -37,21 +35,19 @@ small : (c : tie.After-blank-ram) → let n = c .before .chips-of .result in 160
 small c = omega (arith, few c, ap length (c .blank-ram .ensures), length-replicate {A = ℕ} 1280 0)
 
 -- the text
-lines : (c : tie.After-chips-of) → let s = c .before .before .before in textOf (s .args .log .now) ≡ logLines (c .chips-of .result) (recordsFrom 3 (s .args .log .now))
-lines c = let s = c .before .before .before in text-passed (s .args .log .now) (s .pre .0) ∙ ap (λ (n : Chips). logLines n (recordsFrom 3 (s .args .log .now))) (sym (c .chips-of .ensures))
-
-array-borrow-prefix-ram : tie.Need-array-borrow-prefix-ram
-array-borrow-prefix-ram c = small (c .before .before)
-
-slice-aggregate-play : tie.Need-slice-aggregate-play
-slice-aggregate-play c = sym (length-take-le _ _ (small (c .before .before .before)))
+lines : (c : tie.After-chips-of) → let log = c .before .before .before .args .log .now in textOf log ≡ logLines (c .chips-of .result) (logRecords log .bodies)
+lines c = let s = c .before .before .before in rw (c .chips-of .ensures) (text-passed (s .args .log .now) (s .pre .0))
 
 play-requires : tie.Need-play-requires
-play-requires c κs = let s = c .before .before .before .before .before .before .before .before in
-    let d = c .before .before .before .before in
+play-requires c κs = let d = c .before .before .before .before in
     let n = d .before .chips-of .result in
-    let ram : take (160 * (n .zero + n .one)) (d .blank-ram .result) ≡ replicate (160 * (n .zero + n .one)) 0 = ap (take (160 * (n .zero + n .one))) (d .blank-ram .ensures) ∙ zeros (160 * (n .zero + n .one)) 1280 (few d) in
-    ((chips (d .before), checked (s .args .log .now) (s .pre .0) .whole, ram), subst (λ (l : List ℕ). length l ≤ length (s .args .out .now)) (lines (d .before)) (s .pre .1))
+    let s = d .before .before .before .before in
+    record {
+      chips = chips (d .before);
+      whole = checked (s .args .log .now) (s .pre .0) .whole;
+      blank = rw (d .blank-ram .ensures) (zeros (160 * (n .zero + n .one)) 1280 (few d));
+      room = rw (lines (d .before)) at (s .pre .1);
+    }
 
 returns : tie.Need-returns
 returns c = rw (lines (c .before .before .before .before .before .before .before .before .before)) (c .before .before .before .play .ensures)
@@ -60,14 +56,6 @@ pub put-log-spec : {M : Type 1} → statement M
 put-log-spec =
     tie.close
     (tie.spec
-    (λ c κs. search needs)
-    (λ c κs. search needs)
-    (λ c. search needs)
-    (λ c. search needs)
-    (λ c. search needs)
-    (λ c. search needs)
-    array-borrow-prefix-ram
-    slice-aggregate-play
-    play-requires
-    (λ c. search needs)
-    returns)
+    (λ c κs. search needs) (λ c κs. search needs) (λ c. search needs) (λ c. search needs) (λ c. search needs) (λ c. search needs)
+    (λ c. small (c .before .before)) (λ c. sym (length-take-le _ _ (small (c .before .before .before))))
+    play-requires (λ c. search needs) returns)

@@ -8,9 +8,9 @@ use native.Mathlib.Omega.{arith}
 use lib.ListN.{length, drop}
 use lib.Seq.{sets-eq}
 use borrow.Author.Tests.{lt-ltb, le-ltb}
-use Rattle.sheet.specs.Logs.{textOf}
+use Rattle.sheet.specs.Logs.{refusalLine, textOf}
 use Rattle.buslog.specs.declared.Replayed.the-variants.{Written}
-use Rattle.buslog.specs.Texts.{written, Puts}
+use Rattle.text.specs.Texts.{written, Puts}
 use Rattle.buslog.specs.Replays.{room, replayCall}
 use Rattle.buslog.proofs.Checked.{text-refused}
 use Rattle.buslog.proofs.Room.{text-few}
@@ -35,38 +35,29 @@ returns : tie.Need-returns
 unfolding replayCall
 returns c = rw (lt-ltb (length (c .before .before .before .args .out .now)) room (c .if1 .taken)) (refl, refl)
 
-put-refusal-requires : tie.Need-put-refusal-requires
-put-refusal-requires c κs = let a = c .before .before .before .before .before .before .before .before .args in
-    let e = text-refused (a .log .now) _ (sym (c .before .before .before .before .check-log .ensures) ∙ c .before .before .refusal .given .1) in
-    omega (arith, ap length e, text-few (a .log .now), c .before .before .before .before .before .if1 .left)
+-- the refused log's text
+refused : (c : tie.After-refusal) → textOf (c .before .before .before .before .before .before .args .log .now) ≡ refusalLine (c .refusal .given .0 .0)
+refused c = text-refused _ _ (sym (c .before .before .check-log .ensures) ∙ c .refusal .given .1)
 
-enum-told : tie.Need-enum-told
-enum-told c = search needs
+put-refusal-requires : tie.Need-put-refusal-requires
+put-refusal-requires c κs = let told = c .before .before in
+    omega (arith, ap length (refused told), text-few (told .before .before .before .before .before .before .args .log .now), told .before .before .before .if1 .left)
 
 put-log-requires : tie.Need-put-log-requires
-put-log-requires c κs = let a = c .before .before .before .before .before .before .before .args in
-    let enough : length (textOf (a .log .now)) ≤ length (a .out .now) = omega (arith, text-few (a .log .now), c .before .before .before .before .if1 .left) in
-    (sym (c .before .before .before .check-log .ensures) ∙ c .before .enum-told .given .1, enough)
+put-log-requires c κs = let check = c .before .before .before in
+    let few = text-few (check .before .before .before .before .args .log .now) in
+    (sym (check .check-log .ensures) ∙ c .before .enum-told .given .1, omega (arith, check .before .if1 .left))
 
 returns-2 : tie.Need-returns-2
-returns-2 c = let a = c .before .before .before .before .before .before .before .before .before .before .before .args in
-    whole (a .log .now) (a .out .now) _ _ (c .before .before .before .before .before .before .before .before .if1 .left) (rw (text-refused (a .log .now) _ (sym (c .before .before .before .before .before .before .before .check-log .ensures) ∙ c .before .before .before .before .before .refusal .given .1)) (c .before .before .put-refusal .ensures))
+returns-2 c = let told = c .before .before .before .before .before in
+    whole _ _ _ _ (told .before .before .before .if1 .left) (rw (refused told) (c .before .before .put-refusal .ensures))
 
 returns-3 : tie.Need-returns-3
-returns-3 c = let a = c .before .before .before .before .before .before .before .before .before .before .args in
-    whole (a .log .now) (a .out .now) _ _ (c .before .before .before .before .before .before .before .if1 .left) (c .before .before .put-log .ensures)
+returns-3 c = whole _ _ _ _ (c .before .before .before .before .before .before .before .if1 .left) (c .before .before .put-log .ensures)
 
 pub replay-spec : {M : Type 1} → statement M
 replay-spec =
     tie.close
     (tie.spec
-    returns
-    (λ c κs. search needs)
-    (λ c. search needs)
-    put-refusal-requires
-    enum-told
-    put-log-requires
-    (λ c. search needs)
-    returns-2
-    (λ c. search needs)
-    returns-3)
+    returns (λ c κs. search needs) (λ c. search needs) put-refusal-requires (λ c. search needs) put-log-requires
+    (λ c. search needs) returns-2 (λ c. search needs) returns-3)

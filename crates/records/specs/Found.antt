@@ -5,9 +5,9 @@ use mathlib.Core.List.{List, [], _∷_}
 use Prim.Native.Nat.{ℕ, _+_}
 use lib.Dec.{leb}
 use lib.ListN.{length, drop}
-use Rattle.sheet.specs.Logs.{lengthOf, recordsIn}
-use Rattle.buslog.specs.declared.Record.{Record}
-use Rattle.buslog.specs.declared.Record.the-variants.{Body, End, Cut}
+use Rattle.sheet.specs.Records.{Records, lengthOf, recordsFrom}
+use Rattle.records.specs.declared.Record.{Record}
+use Rattle.records.specs.declared.Record.the-variants.{Body, End, Cut}
 
 -- the record at the head of what is left, which begins at a place: where its transfer starts and its size
 unfoldable pub recordIn : ℕ → List ℕ → Record
@@ -15,6 +15,6 @@ recordIn at [] = End
 recordIn at (h ∷ []) = Cut
 recordIn at (h ∷ l ∷ rest) = cond (leb (lengthOf h l) (length rest)) (Body (at + 2) (lengthOf h l)) Cut
 
--- the transfers of a log's records from a place on
-abbrev pub recordsFrom : ℕ → List ℕ → List (List ℕ)
-recordsFrom at log = recordsIn (length log) (drop at log)
+-- a log's records from a place on
+abbrev pub recordsAt : List ℕ → ℕ → Records
+recordsAt log at = recordsFrom at (drop at log)

@@ -1,9 +1,9 @@
--- `buslog::put_byte` meets its contract: one store.
+-- `text::put_byte` meets its contract: one store.
 -- Assumes nothing.
 use borrow.Author.Needs.{needs}
-use Rattle.buslog.proofs.Writing.{puts-byte}
-use Rattle.buslog.proofs.put_byte.Statement.{statement}
-use Rattle.buslog.proofs.put_byte.Tie as tie
+use Rattle.text.proofs.Writing.{puts-byte}
+use Rattle.text.proofs.put_byte.Statement.{statement}
+use Rattle.text.proofs.put_byte.Tie as tie
 
 returns : tie.Need-returns
 returns c = puts-byte (c .args .at) (c .args .byte) (c .args .out .now)
