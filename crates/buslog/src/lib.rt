@@ -190,8 +190,8 @@ fn put_transfer(out: &mut [u8], at: usize, index: usize, answer: Answer) -> usiz
             b'T',
             &[
                 index,
-                checks::number_of(refusal),
-                checks::place_of(refusal),
+                answers::number_of(refusal),
+                answers::place_of(refusal),
                 0,
                 0,
                 0,
@@ -350,7 +350,7 @@ fn put_refusal(out: &mut [u8], refusal: Refusal) -> usize
         out,
         0,
         b'X',
-        &[checks::number_of(refusal), checks::place_of(refusal)],
+        &[answers::number_of(refusal), answers::place_of(refusal)],
     )
 }
 

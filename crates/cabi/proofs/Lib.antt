@@ -1,4 +1,3 @@
-pub mod Parts
 pub mod Sizes
 pub mod Benches
 pub mod Given

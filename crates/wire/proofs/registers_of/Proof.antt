@@ -1,0 +1,29 @@
+-- `wire::registers_of` meets its contract: a byte fits.
+-- Assumes nothing.
+use native.Mathlib.Omega.{arith}
+use borrow.Author.Needs.{needs}
+use Rattle.wire.proofs.registers_of.Statement.{statement}
+use Rattle.wire.proofs.registers_of.Tie as tie
+
+cast-t10 : tie.Need-cast-t10
+cast-t10 c = omega (arith, c .shared-slice-known4 .given 3)
+
+cast-t13 : tie.Need-cast-t13
+cast-t13 c = omega (arith, c .shared-slice-known5 .given 4)
+
+pub registers-of-spec : {M : Type 1} → statement M
+registers-of-spec =
+    tie.close
+    (tie.spec
+    (λ c. search needs)
+    (λ c. search needs)
+    (λ c. search needs)
+    (λ c. search needs)
+    cast-t10
+    (λ c. search needs)
+    cast-t13
+    (λ c. search needs)
+    (λ c. search needs)
+    (λ c. search needs)
+    (λ c. search needs)
+    (λ c. search needs))
