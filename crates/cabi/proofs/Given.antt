@@ -2,7 +2,7 @@
 -- Assumes nothing.
 use mathlib.Core.Path.{_≡_, refl, ap, _∙_}
 use mathlib.Core.List.{List, _++_}
-use Prim.Native.Nat.{ℕ, _/_, _%_}
+use Prim.Native.Nat.{ℕ, _%_}
 use native.Mathlib.Omega.{arith}
 use lib.ListN.{length, getD, take}
 use borrow.Author.Tests.{eq-eqb}
@@ -19,8 +19,9 @@ use Rattle.sheet.specs.Registers.{powerOn}
 use Rattle.sheet.specs.Protocol.{heardBy}
 use Rattle.sheet.specs.Checks.{checkTransfer}
 use Rattle.sheet.specs.Long.{taken, answered, transferCall}
-use Rattle.sheet.specs.Plain.{chipPowerOn, plainCall}
-use Rattle.wire.specs.Bytes.{bytesOf, bothOf, bothBytes, listIn}
+use Rattle.sheet.specs.Plain.{chipPowerOn}
+use Rattle.lent.specs.Lent.{lentCall}
+use Rattle.wire.specs.Bytes.{bytesOf, bothOf, bothBytes}
 use Rattle.wire.proofs.Given.{Bytes, both-back, unwritten}
 use Rattle.cabi.specs.Calls.{chipsOf, transferC, chipPowerOnC, plainC}
 
@@ -52,7 +53,7 @@ refused-transfer z o registers ram bytes answer x e w five h =
     rw (eq-eqb (length registers) 18 e, eq-eqb (length answer) 5 five) (ap bothBytes (t .0) ∙ both-back registers e w, t .1)
 
 -- and one of the plain account gives back the chips
-pub refused-plain : (chips bytes answer : List ℕ) (x : Refusal) → length chips % 171 ≡ 0 → length answer ≡ 5
-    → plainCall 160 4 (listIn (length chips / 171) chips) bytes .answer ≡ PlainAnswer.Refused x → plainC chips bytes answer .buffer ≡ chips
-unfolding plainC
+pub refused-plain : (chips bytes answer : List ℕ) (x : Refusal) → length chips % 171 ≡ 0 → length answer ≡ 5 → lentCall chips bytes .answer ≡ PlainAnswer.Refused x
+    → plainC chips bytes answer .buffer ≡ chips
+unfolding plainC lentCall
 refused-plain chips bytes answer x e five h = rw (eq-eqb (length chips % 171) 0 e, eq-eqb (length answer) 5 five, h) refl

@@ -1,18 +1,16 @@
 -- The calls as C sees them: registers and chips as bytes, answers as numbers, through the definitions of `sheet`. Assumes nothing.
-use mathlib.Core.Path.{_≡_}
-use Prim.Native.Nat.{ℕ, _/_, _%_, _≤_}
+use Prim.Native.Nat.{ℕ, _%_}
 use mathlib.Core.Bool.{Bool, cond, _&&_}
 use mathlib.Core.List.{List}
 use lib.Dec.{eqb}
 use lib.ListN.{length, getD}
-use Rattle.sheet.specs.declared.Chip.{Chip}
 use Rattle.sheet.specs.declared.Chips.{Chips}
-use Rattle.sheet.specs.declared.PlainAnswer.{PlainAnswer}
 use Rattle.sheet.specs.Refusals.{numbers, plainNumbers, pictureNumbers, checkNumbers}
 use Rattle.sheet.specs.Long.{powerOnCall, transferCall, pictureCall}
-use Rattle.sheet.specs.Plain.{chipPowerOn, chipPictureCall, plainCall}
+use Rattle.sheet.specs.Plain.{chipPowerOn, chipPictureCall}
 use Rattle.buslog.specs.declared.Replayed.{Replayed}
-use Rattle.wire.specs.Bytes.{bothOf, bothBytes, chipIn, chipBytes, listIn, listBytes}
+use Rattle.lent.specs.Lent.{lentCall}
+use Rattle.wire.specs.Bytes.{bothOf, bothBytes, chipIn, chipBytes}
 
 abbrev pub chipsOf : ℕ → ℕ → Chips
 chipsOf z o = record { zero = z; one = o }
@@ -72,23 +70,12 @@ chipPictureC chip phase out answer =
     let k = pictureNumbers (s .result) in
     plainSized (eqb (length chip) 171) out answer (record { number = getD k 0 0; buffer = s .out; answer = k })
 
--- taken, the chips are written; refused, they are as given
-abbrev pub plainWritten : PlainAnswer → List Chip → List ℕ → List ℕ
-plainWritten (PlainAnswer.Acknowledged n) after given = listBytes after
-plainWritten (PlainAnswer.Refused r) after given = given
-
 -- a list of chips, 171 bytes each
 unfoldable pub plainC : List ℕ → List ℕ → List ℕ → PlainCalled
 plainC chips bytes answer =
-    let s = plainCall 160 4 (listIn (length chips / 171) chips) bytes in
+    let s = lentCall chips bytes in
     let k = plainNumbers (s .answer) in
-    plainSized (eqb (length chips % 171) 0) chips answer (record { number = getD k 0 0; buffer = plainWritten (s .answer) (s .chips) chips; answer = k })
-
--- what a transfer to a bench asks of the buffers: whole chips, at most eight, and an answer of five numbers
-pub record Few (chips answer : List ℕ) : Type 0 where
-  pub whole : length chips % 171 ≡ 0
-  pub few : length chips / 171 ≤ 8
-  pub five : length answer ≡ 5
+    plainSized (eqb (length chips % 171) 0) chips answer (record { number = getD k 0 0; buffer = s .chips; answer = k })
 
 -- ---- replay
 

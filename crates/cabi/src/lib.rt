@@ -2,11 +2,9 @@
 // a chip is 171 bytes (`wire`); an answer is five numbers: answer, place, acknowledged, stored, discarded. A buffer of another size is answered 255 and nothing is written.
 use buslog::Replayed;
 use sheet::Chips;
-use sheet::PlainAnswer;
-use sheet::Refusal;
 ghost use mathlib.Core.Path.{_≡_};
 ghost use Rattle.buslog.specs.Replays.{replayCall};
-ghost use Rattle.cabi.specs.Calls.{powerOnC, transferC, pictureC, chipPowerOnC, chipPictureC, plainC, Few, replayNumber};
+ghost use Rattle.cabi.specs.Calls.{powerOnC, transferC, pictureC, chipPowerOnC, chipPictureC, plainC, replayNumber};
 
 #[no_mangle]
 pub extern "C" fn humtrellis_power_on(
@@ -121,26 +119,6 @@ pub extern "C" fn humtrellis_chip_picture(
     }
 }
 
-// Of at most eight chips: they are read, follow the transfer, and are written if it is taken.
-fn plain_transfer(chips: &mut [u8], bytes: &[u8], answer: &mut [usize]) -> u8
-    requires { ⌜ Few (now chips) (now answer) ⌝ }
-    ensures { λ r. ⌜ plainC (now (chips .entry)) (now (bytes .entry)) (now (answer .entry)) ≡ record { number = r; buffer = now (chips .exit); answer = now (answer .exit) } ⌝ }
-{
-    let before = wire::bench_of(chips, chips.len() / 171);
-    let done = plain::transfer_bench(before, bytes);
-    let after = done.bench;
-    let said = done.answer;
-    match said {
-        PlainAnswer::Acknowledged(_) => {
-            wire::put_bench(after, chips);
-            wire::put_numbers(answers::plain_numbers(said), answer)
-        }
-        PlainAnswer::Refused(refusal) => {
-            wire::put_numbers(answers::refusal_numbers(refusal), answer)
-        }
-    }
-}
-
 #[no_mangle]
 pub extern "C" fn humtrellis_plain_transfer(
     chips: &mut [u8],
@@ -150,11 +128,8 @@ pub extern "C" fn humtrellis_plain_transfer(
     ensures { λ r. ⌜ plainC (now (chips .entry)) (now (bytes .entry)) (now (answer .entry)) ≡ record { number = r; buffer = now (chips .exit); answer = now (answer .exit) } ⌝ }
 {
     if (chips.len() % 171 == 0) & (answer.len() == 5) {
-        if chips.len() / 171 <= 8 {
-            plain_transfer(chips, bytes, answer)
-        } else {
-            wire::put_numbers(answers::refusal_numbers(Refusal::ManyChips), answer)
-        }
+        let said = lent::transfer(chips, bytes);
+        wire::put_numbers(answers::plain_numbers(said), answer)
     } else {
         255
     }

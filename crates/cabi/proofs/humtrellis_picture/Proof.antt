@@ -25,8 +25,8 @@ humtrellis-picture-spec =
     tie.close
     (tie.spec
     (λ c κs. search (needs, first-sized))
-    (λ c κs. search needs)
-    (λ c κs. search needs)
+    (λ c κs. tt)
+    (λ c κs. tt)
     (λ c κs. search (needs, second-sized, picture-small))
     (λ c. search needs)
     (λ c. search needs)

@@ -24,9 +24,9 @@ pub humtrellis-power-on-spec : {M : Type 1} → statement M
 humtrellis-power-on-spec =
     tie.close
     (tie.spec
-    (λ c κs. search needs)
+    (λ c κs. tt)
     (λ c κs. search (needs, first-sized))
-    (λ c κs. search needs)
+    (λ c κs. tt)
     (λ c κs. search (needs, second-sized, check-small))
     (λ c. search needs)
     (λ c. search needs)

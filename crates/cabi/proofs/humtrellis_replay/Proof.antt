@@ -21,10 +21,10 @@ pub humtrellis-replay-spec : {M : Type 1} → statement M
 humtrellis-replay-spec =
     tie.close
     (tie.spec
-    (λ c κs. search needs)
-    (λ c. search needs)
-    enum-told
-    (λ c. search needs)
+    (λ c κs. tt)
+    (λ c. c .match .keys1)
+    (λ c. c .match .keys2)
+    (λ c. c .before .before .before .before .before .replay .kept .1 .0)
     returns
-    (λ c. search needs)
+    (λ c. c .before .before .before .before .replay .kept .1 .0)
     returns-2)

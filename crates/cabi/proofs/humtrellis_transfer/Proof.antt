@@ -26,9 +26,9 @@ humtrellis-transfer-spec =
     tie.close
     (tie.spec
     (λ c κs. search (needs, first-sized))
-    (λ c κs. search needs)
+    (λ c κs. tt)
     (λ c κs. search (needs, first-sized))
-    (λ c κs. search needs)
+    (λ c κs. tt)
     (λ c κs. search (needs, second-sized, answer-small))
     (λ c. search needs)
     (λ c. search needs)
