@@ -12,7 +12,7 @@ ghost use Rattle.wire.specs.Bytes.{registersIn, bothOf, bytesOf, bothByt
 
 // ---- registers
 
-pub fn registers_of(bytes: &[u8]) -> Registers
+fn registers_of(bytes: &[u8]) -> Registers
     requires { ⌜ length (now bytes) ≡ 9 ⌝ }
     ensures { λ r. ⌜ r ≡ registersIn (now (bytes .entry)) ⌝ }
 {
@@ -39,7 +39,7 @@ pub fn both_of(bytes: &[u8]) -> Both
     }
 }
 
-pub fn put_registers(registers: Registers, out: &mut [u8])
+fn put_registers(registers: Registers, out: &mut [u8])
     requires { ⌜ length (now out) ≡ 9 ⌝ }
     ensures { λ _. ⌜ now (out .exit) ≡ bytesOf registers ⌝ }
 {
