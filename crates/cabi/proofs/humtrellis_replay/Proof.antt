@@ -2,12 +2,8 @@
 -- Assumes nothing.
 use mathlib.Core.Path.{ap, sym, _∙_}
 use Rattle.cabi.specs.Calls.{replayNumber}
-use borrow.Author.Needs.{needs}
 use Rattle.cabi.proofs.humtrellis_replay.Statement.{statement}
 use Rattle.cabi.proofs.humtrellis_replay.Tie as tie
-
-enum-told : tie.Need-enum-told
-enum-told c = search needs
 
 returns : tie.Need-returns
 returns c = let r = c .before .before .before .before .before .replay in

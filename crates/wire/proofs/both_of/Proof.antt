@@ -10,12 +10,6 @@ use borrow.Author.Needs.{needs}
 use Rattle.wire.proofs.both_of.Statement.{statement}
 use Rattle.wire.proofs.both_of.Tie as tie
 
-slice-aggregate-registers-of : tie.Need-slice-aggregate-registers-of
-slice-aggregate-registers-of c = simp length-take (omega (arith, c .before .before .pre))
-
-registers-of-requires : tie.Need-registers-of-requires
-registers-of-requires c κs = simp length-take (omega (arith, c .before .before .pre))
-
 returns : tie.Need-returns
 returns c = let bytes = now (c .before .before .before .before .before .args .bytes) in
     let one = c .registers-of2 .ensures ∙ ap registersIn (part-rest bytes 9) in
@@ -25,8 +19,8 @@ pub both-of-spec : {M : Type 1} → statement M
 both-of-spec =
     tie.close
     (tie.spec
-    slice-aggregate-registers-of
-    registers-of-requires
+    (λ c. simp length-take (omega arith))
+    (λ c κs. simp length-take (omega arith))
     (λ c. search needs)
     (λ c. search needs)
     (λ c. search needs)

@@ -10,12 +10,6 @@ use borrow.Author.Needs.{needs}
 use Rattle.wire.proofs.chip_of.Statement.{statement}
 use Rattle.wire.proofs.chip_of.Tie as tie
 
-slice-aggregate-copy : tie.Need-slice-aggregate-copy
-slice-aggregate-copy c = simp length-take (omega (arith, c .before .before .pre))
-
-copy-requires : tie.Need-copy-requires
-copy-requires c κs = simp length-take (omega (arith, c .before .before .before .pre))
-
 returns : tie.Need-returns
 returns c = let bytes = now (c .before .before .before .before .before .before .before .before .before .args .bytes) in
     let registers = c .registers-of .ensures ∙ ap registersIn (part-rest bytes 162) in
@@ -25,9 +19,9 @@ pub chip-of-spec : {M : Type 1} → statement M
 chip-of-spec =
     tie.close
     (tie.spec
-    slice-aggregate-copy
+    (λ c. simp length-take (omega arith))
     (λ c. search needs)
-    copy-requires
+    (λ c κs. simp length-take (omega arith))
     (λ c. search needs)
     (λ c. search needs)
     (λ c. search needs)

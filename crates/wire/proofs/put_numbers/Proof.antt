@@ -10,9 +10,6 @@ use borrow.Author.Needs.{needs}
 use Rattle.wire.proofs.put_numbers.Statement.{statement}
 use Rattle.wire.proofs.put_numbers.Tie as tie
 
-slice-write-out-5 : tie.Need-slice-write-out-5
-slice-write-out-5 c = simp length-set (omega arith)
-
 returns : tie.Need-returns
 returns c = let five : length (c .args .t1) ≡ 5 = search needs in
     (refl, filled (firsts 5 (c .args .t1)) (now (c .args .out)) (c .pre .0) ∙ firsts-all 5 (c .args .t1) five)
@@ -30,7 +27,7 @@ put-numbers-spec =
     (λ c. search needs)
     (λ c. search needs)
     (λ c. search needs)
-    slice-write-out-5
+    (λ c. simp length-set (omega arith))
     (λ c. search needs)
     (λ c. search needs)
     (λ c. search needs)

@@ -9,23 +9,8 @@ use borrow.Author.Needs.{needs}
 use Rattle.wire.proofs.put_registers.Statement.{statement}
 use Rattle.wire.proofs.put_registers.Tie as tie
 
-slice-write-out-5 : tie.Need-slice-write-out-5
-slice-write-out-5 c = simp length-set (omega arith)
-
-slice-write-out-6 : tie.Need-slice-write-out-6
-slice-write-out-6 c = simp length-set (omega arith)
-
-slice-write-out-7 : tie.Need-slice-write-out-7
-slice-write-out-7 c = simp length-set (omega arith)
-
-slice-write-out-8 : tie.Need-slice-write-out-8
-slice-write-out-8 c = simp length-set (omega arith)
-
-slice-write-out-9 : tie.Need-slice-write-out-9
-slice-write-out-9 c = simp length-set (omega arith)
-
 returns : tie.Need-returns
-returns c = filled (bytesOf (c .before .before .args .registers)) (now (c .before .before .args .out)) (c .before .before .pre)
+returns c = let start = c .before .before in filled (bytesOf (start .args .registers)) (now (start .args .out)) (start .pre)
 
 pub put-registers-spec : {M : Type 1} → statement M
 put-registers-spec =
@@ -37,10 +22,10 @@ put-registers-spec =
     (λ c. search needs)
     (λ c. search needs)
     (λ c. search needs)
-    slice-write-out-5
-    slice-write-out-6
-    slice-write-out-7
-    slice-write-out-8
-    slice-write-out-9
+    (λ c. simp length-set (omega arith))
+    (λ c. simp length-set (omega arith))
+    (λ c. simp length-set (omega arith))
+    (λ c. simp length-set (omega arith))
+    (λ c. simp length-set (omega arith))
     (λ c. search needs)
     returns)

@@ -5,12 +5,6 @@ use borrow.Author.Needs.{needs}
 use Rattle.wire.proofs.registers_of.Statement.{statement}
 use Rattle.wire.proofs.registers_of.Tie as tie
 
-cast-t10 : tie.Need-cast-t10
-cast-t10 c = omega (arith, c .shared-slice-known4 .given 3)
-
-cast-t13 : tie.Need-cast-t13
-cast-t13 c = omega (arith, c .shared-slice-known5 .given 4)
-
 pub registers-of-spec : {M : Type 1} → statement M
 registers-of-spec =
     tie.close
@@ -19,9 +13,9 @@ registers-of-spec =
     (λ c. search needs)
     (λ c. search needs)
     (λ c. search needs)
-    cast-t10
+    (λ c. omega (arith, c .shared-slice-known4 .given 3))
     (λ c. search needs)
-    cast-t13
+    (λ c. omega (arith, c .shared-slice-known5 .given 4))
     (λ c. search needs)
     (λ c. search needs)
     (λ c. search needs)
