@@ -55,27 +55,8 @@ fn put_transfer(out: &mut [u8], at: usize, index: usize, answer: Answer) -> usiz
     requires { ⌜ at + length (transferLine index answer) ≤ length (now out) ⌝ }
     ensures { λ r. ⌜ Puts at (transferLine index answer) (now (out .entry)) (now (out .exit)) r ⌝ }
 {
-    match answer {
-        Answer::Taken(t) => text::put_line(
-            out,
-            at,
-            b'T',
-            &[index, 0, 0, t.acknowledged, t.stored, t.discarded],
-        ),
-        Answer::Refused(refusal) => text::put_line(
-            out,
-            at,
-            b'T',
-            &[
-                index,
-                checks::number_of(refusal),
-                checks::place_of(refusal),
-                0,
-                0,
-                0,
-            ],
-        ),
-    }
+    let n = answers::numbers(answer);
+    text::put_line(out, at, b'T', &[index, n[0], n[1], n[2], n[3], n[4]])
 }
 
 // Where the text has come to, and the registers then.
@@ -223,7 +204,7 @@ fn put_refusal(out: &mut [u8], refusal: Refusal) -> usize
         out,
         0,
         b'X',
-        &[checks::number_of(refusal), checks::place_of(refusal)],
+        &[answers::number_of(refusal), answers::place_of(refusal)],
     )
 }
 

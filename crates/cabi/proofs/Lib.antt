@@ -1,4 +1,2 @@
-pub mod Parts
 pub mod Sizes
-pub mod Benches
 pub mod Given

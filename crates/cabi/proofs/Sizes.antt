@@ -1,14 +1,14 @@
--- A call's test of the lent buffers' sizes.
+-- A call's test of the lent buffers' sizes: past it both have theirs.
 -- Assumes nothing.
 use mathlib.Core.Path.{_≡_}
-use mathlib.Core.Bool.{true, _&&_}
+use mathlib.Core.Bool.{Bool, true, _&&_}
 use Prim.Native.Nat.{ℕ}
 use lib.Dec.{eqb}
 use borrow.Author.Tests.{eqb-true}
 use Rattle.lemmas.proofs.Tests.{both-true}
 
--- past it both have theirs
-pub both-sized : (a b m n : ℕ) → (eqb a m && eqb b n) ≡ true → (a ≡ m) × (b ≡ n)
-both-sized a b m n e =
-    let t = both-true (eqb a m) (eqb b n) e in
-    (eqb-true a m (t .0), eqb-true b n (t .1))
+pub first-sized : {a m : ℕ} (other : Bool) → (eqb a m && other) ≡ true → a ≡ m
+first-sized {a} {m} other e = eqb-true a m (both-true (eqb a m) other e .0)
+
+pub second-sized : {a m : ℕ} (other : Bool) → (other && eqb a m) ≡ true → a ≡ m
+second-sized {a} {m} other e = eqb-true a m (both-true other (eqb a m) e .1)

@@ -1,18 +1,17 @@
--- The calls as C sees them: registers and chips as bytes, answers as numbers, through the definitions of `sheet`.
-use Prim.Native.Nat.{ℕ, _/_, _%_}
+-- The calls as C sees them: registers and chips as bytes, answers as numbers, through the definitions of `sheet`. Assumes nothing.
+use Prim.Native.Nat.{ℕ, _%_}
 use mathlib.Core.Bool.{Bool, cond, _&&_}
 use mathlib.Core.List.{List}
 use lib.Dec.{eqb}
 use lib.ListN.{length, getD}
-use Rattle.sheet.specs.declared.Chip.{Chip}
 use Rattle.sheet.specs.declared.Chips.{Chips}
-use Rattle.sheet.specs.declared.PlainAnswer.{PlainAnswer}
-use Rattle.sheet.specs.Refusals.{numberOf, refusalNumbers, numbers, plainNumbers, pictureNumbers, checkNumbers}
+use Rattle.sheet.specs.Refusals.{numbers, plainNumbers, pictureNumbers, checkNumbers}
 use Rattle.sheet.specs.Parts.{pcf8532}
 use Rattle.sheet.specs.Long.{powerOnCall, transferCall, pictureCall}
-use Rattle.sheet.specs.Plain.{chipPowerOn, chipPictureCall, plainCall}
+use Rattle.sheet.specs.Plain.{chipPowerOn, chipPictureCall}
 use Rattle.buslog.specs.declared.Replayed.{Replayed}
-use Rattle.cabi.specs.Bytes.{bothOf, bothBytes, chipIn, chipBytes, listIn, listBytes}
+use Rattle.lent.specs.Lent.{lentCall}
+use Rattle.wire.specs.Bytes.{bothOf, bothBytes, chipIn, chipBytes}
 
 abbrev pub chipsOf : ℕ → ℕ → Chips
 chipsOf z o = record { zero = z; one = o }
@@ -33,8 +32,8 @@ sized registers buffer answer c =
 unfoldable pub powerOnC : ℕ → ℕ → List ℕ → List ℕ → List ℕ → Called
 powerOnC z o ram registers answer =
     let p = powerOnCall pcf8532 (chipsOf z o) ram in
-    sized registers ram answer
-    (record { number = getD (checkNumbers (p .check)) 0 0; registers = bothBytes (p .registers); buffer = ram; answer = checkNumbers (p .check) })
+    let k = checkNumbers (p .check) in
+    sized registers ram answer (record { number = getD k 0 0; registers = bothBytes (p .registers); buffer = ram; answer = k })
 
 unfoldable pub transferC : ℕ → ℕ → List ℕ → List ℕ → List ℕ → List ℕ → Called
 transferC z o registers ram bytes answer =
@@ -45,7 +44,8 @@ transferC z o registers ram bytes answer =
 unfoldable pub pictureC : ℕ → ℕ → List ℕ → List ℕ → ℕ → ℕ → List ℕ → List ℕ → Called
 pictureC z o registers ram group phase out answer =
     let s = pictureCall pcf8532 (chipsOf z o) (bothOf registers) ram group phase out in
-    sized registers out answer (record { number = getD (pictureNumbers (s .result)) 0 0; registers = registers; buffer = s .out; answer = pictureNumbers (s .result) })
+    let k = pictureNumbers (s .result) in
+    sized registers out answer (record { number = getD k 0 0; registers = registers; buffer = s .out; answer = k })
 
 -- ---- the plain account. Each call lends one buffer to write, the chips or the picture
 
@@ -71,16 +71,12 @@ chipPictureC chip phase out answer =
     let k = pictureNumbers (s .result) in
     plainSized (eqb (length chip) 171) out answer (record { number = getD k 0 0; buffer = s .out; answer = k })
 
--- taken, the chips are written; refused, they are as given
-abbrev pub plainDone : PlainAnswer → List Chip → List ℕ → PlainCalled
-plainDone (PlainAnswer.Acknowledged n) after given = record { number = 0; buffer = listBytes after; answer = plainNumbers (PlainAnswer.Acknowledged n) }
-plainDone (PlainAnswer.Refused r) after given = record { number = numberOf r; buffer = given; answer = refusalNumbers r }
-
 -- a list of chips, 171 bytes each
 unfoldable pub plainC : List ℕ → List ℕ → List ℕ → PlainCalled
 plainC chips bytes answer =
-    let s = plainCall pcf8532 (listIn (length chips / 171) chips) bytes in
-    plainSized (eqb (length chips % 171) 0) chips answer (plainDone (s .answer) (s .chips) chips)
+    let s = lentCall chips bytes in
+    let k = plainNumbers (s .answer) in
+    plainSized (eqb (length chips % 171) 0) chips answer (record { number = getD k 0 0; buffer = s .chips; answer = k })
 
 -- ---- replay
 

@@ -6,7 +6,6 @@ ghost use mathlib.Core.Path.{_≡_};
 ghost use Prim.Native.Nat.{max};
 ghost use lib.ListN.{getD};
 ghost use Rattle.checks.specs.Highest.{highestOf};
-ghost use Rattle.sheet.specs.Refusals.{numberOf, placeOf};
 ghost use Rattle.sheet.specs.Parts.{pcf8532};
 ghost use Rattle.sheet.specs.Checks.{unless, overIn, checkChips, checkLength, passed};
 
@@ -97,49 +96,5 @@ pub fn check_length(size: usize) -> Check
         unless(size <= 4096, Refusal::LongTransfer)
     } else {
         Check::Refused(Refusal::EmptyTransfer)
-    }
-}
-
-// The paper's number of a refusal.
-pub fn number_of(refusal: Refusal) -> usize
-    ensures { λ r. ⌜ r ≡ numberOf refusal ⌝ }
-{
-    match refusal {
-        Refusal::EmptyTransfer => 1,
-        Refusal::LongTransfer => 2,
-        Refusal::ChipCount => 3,
-        Refusal::RamLength => 4,
-        Refusal::RamByte(_) => 5,
-        Refusal::Register => 6,
-        Refusal::UndefinedCommand(_) => 7,
-        Refusal::GroupOrPhase => 8,
-        Refusal::PictureLength => 9,
-        Refusal::ManyChips => 10,
-        Refusal::ChipField(_) => 11,
-        Refusal::LogHead => 12,
-        Refusal::CutRecord(_) => 13,
-        Refusal::LongLog => 14,
-    }
-}
-
-// Its place: 0 unless it holds one.
-pub fn place_of(refusal: Refusal) -> usize
-    ensures { λ r. ⌜ r ≡ placeOf refusal ⌝ }
-{
-    match refusal {
-        Refusal::RamByte(at) => at,
-        Refusal::UndefinedCommand(at) => at,
-        Refusal::ChipField(at) => at,
-        Refusal::CutRecord(at) => at,
-        Refusal::EmptyTransfer => 0,
-        Refusal::LongTransfer => 0,
-        Refusal::ChipCount => 0,
-        Refusal::RamLength => 0,
-        Refusal::Register => 0,
-        Refusal::GroupOrPhase => 0,
-        Refusal::PictureLength => 0,
-        Refusal::ManyChips => 0,
-        Refusal::LogHead => 0,
-        Refusal::LongLog => 0,
     }
 }

@@ -1,56 +1,34 @@
 -- `cabi::humtrellis_chip_picture` meets its contract: the call of one chip between bytes and chip.
 -- Assumes nothing.
-use mathlib.Core.Path.{_≡_, refl, ap, _∙_}
-use lib.ListN.{length, getD}
-use denote.Ref.{now}
-use Rattle.sheet.specs.declared.Chip.{Chip}
-use Rattle.sheet.specs.declared.Pictured.{Pictured}
-use Rattle.sheet.specs.Refusals.{pictureNumbers}
-use Rattle.sheet.specs.Parts.{pcf8532}
-use Rattle.sheet.specs.Plain.{chipPictureCall}
-use Rattle.cabi.specs.Bytes.{chipIn}
+use mathlib.Core.Path.{refl, ap}
+use Rattle.sheet.specs.Pictures.{Seen}
+use Rattle.answers.proofs.Small.{picture-small}
 use Rattle.cabi.specs.Calls.{chipPictureC}
-use Rattle.cabi.proofs.Sizes.{both-sized}
+use Rattle.cabi.proofs.Sizes.{first-sized, second-sized}
 use borrow.Author.Needs.{needs}
 use Rattle.cabi.proofs.humtrellis_chip_picture.Statement.{statement}
 use Rattle.cabi.proofs.humtrellis_chip_picture.Tie as tie
 
--- past the test both buffers have their sizes
-sizes : (c : tie.Then1) → let a = c .before .before .before .before .args in (length (now (a .chip)) ≡ 171) × (length (now (a .answer)) ≡ 5)
-sizes c = let a = c .before .before .before .before .args in both-sized (length (now (a .chip))) (length (now (a .answer))) 171 5 (c .if1 .taken)
-
-chip-of-requires : tie.Need-chip-of-requires
-chip-of-requires c κs = sizes c .0
-
-put-pictured-requires : tie.Need-put-pictured-requires
-put-pictured-requires c κs = sizes (c .before .before .before .before .before .before) .1
-
 returns : tie.Need-returns
 unfolding chipPictureC
-returns c = let on = c .before .before .before .before .before .before in
-    let a = on .before .before .before .before .before .before .before .args in
-    let before = on .before .before .chip-of .ensures in
-    let shown : on .picture .result ≡ chipPictureCall pcf8532 (chipIn (now (a .chip))) (a .phase) (now (a .out)) .result =
-    on .picture .ensures .0 ∙ ap (λ (k : Chip). chipPictureCall pcf8532 k (a .phase) (now (a .out)) .result) before in
-    rw (on .before .before .before .if1 .taken) (
-      c .before .before .put-pictured .ensures .0 ∙ ap (λ (t : Pictured). getD (pictureNumbers t) 0 0) shown,
-      (
-        on .picture .ensures .1 .0 ∙ ap (λ (k : Chip). chipPictureCall pcf8532 k (a .phase) (now (a .out)) .out) before,
-        c .before .before .put-pictured .ensures .1 ∙ ap pictureNumbers shown,
-      ),
-    )
+returns c = let put = c .before .before in
+    let said = put .before .before in
+    let shown = said .before .before .before in
+    let read = shown .before .before in
+    rw (read .before .if1 .taken, put .put-numbers .ensures .0, put .put-numbers .ensures .1, said .picture-numbers .ensures, ap (λ (s : Seen). s .result) (shown .picture .ensures .0), ap (λ (s : Seen). s .out) (shown .picture .ensures .0), read .chip-of .ensures)
 
 returns-2 : tie.Need-returns-2
 unfolding chipPictureC
-returns-2 c = rw (c .if1 .left) (refl, (refl, refl))
+returns-2 c = rw (c .if1 .left) refl
 
 pub humtrellis-chip-picture-spec : {M : Type 1} → statement M
 humtrellis-chip-picture-spec =
     tie.close
     (tie.spec
-    chip-of-requires
-    (λ c κs. search needs)
-    put-pictured-requires
+    (λ c κs. search (needs, first-sized))
+    (λ c κs. tt)
+    (λ c κs. tt)
+    (λ c κs. search (needs, second-sized, picture-small))
     (λ c. search needs)
     (λ c. search needs)
     returns

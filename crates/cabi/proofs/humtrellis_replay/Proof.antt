@@ -2,12 +2,8 @@
 -- Assumes nothing.
 use mathlib.Core.Path.{ap, sym, _∙_}
 use Rattle.cabi.specs.Calls.{replayNumber}
-use borrow.Author.Needs.{needs}
 use Rattle.cabi.proofs.humtrellis_replay.Statement.{statement}
 use Rattle.cabi.proofs.humtrellis_replay.Tie as tie
-
-enum-told : tie.Need-enum-told
-enum-told c = search needs
 
 returns : tie.Need-returns
 returns c = let r = c .before .before .before .before .before .replay in
@@ -21,10 +17,10 @@ pub humtrellis-replay-spec : {M : Type 1} → statement M
 humtrellis-replay-spec =
     tie.close
     (tie.spec
-    (λ c κs. search needs)
-    (λ c. search needs)
-    enum-told
-    (λ c. search needs)
+    (λ c κs. tt)
+    (λ c. c .match .keys1)
+    (λ c. c .match .keys2)
+    (λ c. c .before .before .before .before .before .replay .kept .1 .0)
     returns
-    (λ c. search needs)
+    (λ c. c .before .before .before .before .replay .kept .1 .0)
     returns-2)

@@ -1,0 +1,50 @@
+-- The first of an answer's numbers fits a byte: a refusal's is at most 14.
+-- Assumes nothing.
+use mathlib.Core.Path.{_≡_}
+use mathlib.Core.List.{List}
+use Prim.Native.Nat.{ℕ, _<_}
+use native.Mathlib.Omega.{arith}
+use lib.ListN.{getD}
+use Rattle.sheet.specs.declared.Answer.{Answer}
+use Rattle.sheet.specs.declared.PlainAnswer.{PlainAnswer}
+use Rattle.sheet.specs.declared.Pictured.{Pictured}
+use Rattle.sheet.specs.declared.Check.{Check}
+use Rattle.sheet.specs.declared.Refusal.{Refusal}
+use Rattle.sheet.specs.declared.Refusal.the-variants.{EmptyTransfer, LongTransfer, ChipCount, RamLength, RamByte, Register, UndefinedCommand, GroupOrPhase, PictureLength, ManyChips, ChipField, LogHead, CutRecord, LongLog}
+use Rattle.sheet.specs.Refusals.{numberOf, refusalNumbers, numbers, plainNumbers, pictureNumbers, checkNumbers}
+
+small : (r : Refusal) → numberOf r < 256
+small EmptyTransfer = omega arith
+small LongTransfer = omega arith
+small ChipCount = omega arith
+small RamLength = omega arith
+small (RamByte at) = omega arith
+small Register = omega arith
+small (UndefinedCommand at) = omega arith
+small GroupOrPhase = omega arith
+small PictureLength = omega arith
+small ManyChips = omega arith
+small (ChipField at) = omega arith
+small LogHead = omega arith
+small (CutRecord at) = omega arith
+small LongLog = omega arith
+
+module _ {l : List ℕ} where
+  pub answer-small : (a : Answer) → l ≡ numbers a → getD l 0 0 < 256
+  answer-small (Answer.Taken t) e = rw e (omega arith)
+  answer-small (Answer.Refused r) e = rw e (small r)
+
+  pub plain-small : (a : PlainAnswer) → l ≡ plainNumbers a → getD l 0 0 < 256
+  plain-small (PlainAnswer.Acknowledged n) e = rw e (omega arith)
+  plain-small (PlainAnswer.Refused r) e = rw e (small r)
+
+  pub picture-small : (p : Pictured) → l ≡ pictureNumbers p → getD l 0 0 < 256
+  picture-small (Pictured.Lit n) e = rw e (omega arith)
+  picture-small (Pictured.Refused r) e = rw e (small r)
+
+  pub check-small : (k : Check) → l ≡ checkNumbers k → getD l 0 0 < 256
+  check-small Check.Passed e = rw e (omega arith)
+  check-small (Check.Refused r) e = rw e (small r)
+
+  pub refusal-small : (r : Refusal) → l ≡ refusalNumbers r → getD l 0 0 < 256
+  refusal-small r e = rw e (small r)

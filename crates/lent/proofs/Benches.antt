@@ -1,0 +1,65 @@
+-- A transfer to lent chips, as the bench takes it: what is answered and held is what the list's call says.
+-- Assumes nothing.
+use mathlib.Core.Path.{_≡_, refl, sym, ap, _∙_}
+use mathlib.Core.Bool.{Bool, true, false, cond}
+use mathlib.Core.List.{List, [], _∷_}
+use Prim.Native.Nat.{ℕ, zero, suc, _<_}
+use native.Mathlib.Omega.{arith}
+use lib.ListN.{length, getD, drop, length-append, length-drop, length-map}
+use lib.Seq.{take-at, length-take-le}
+use borrow.Author.Tests.{le-leb, lt-leb}
+use Rattle.sheet.specs.declared.Chip.{Chip}
+use Rattle.sheet.specs.declared.Check.{Check}
+use Rattle.sheet.specs.declared.Check.the-variants.{Passed, Refused}
+use Rattle.sheet.specs.declared.Expect.{Expect}
+use Rattle.sheet.specs.declared.PlainAnswer.{PlainAnswer}
+use Rattle.sheet.specs.declared.Refusal.the-variants.{ManyChips}
+use Rattle.sheet.specs.Parts.{Part, pcf8532}
+use Rattle.sheet.specs.Protocol.{next}
+use Rattle.sheet.specs.Plain.{Plain, takes, any, hears, plainHeard, plainSaid, plainTaken, plainAnswered, checkPlain, plainCall}
+use Rattle.plain.specs.declared.Bench.{Bench}
+use Rattle.plain.specs.declared.BenchTransferred.{BenchTransferred}
+use Rattle.plain.specs.Benches.{benchTransferred}
+use Rattle.wire.specs.Benches.{Holds}
+use Rattle.wire.specs.Bytes.{listIn}
+
+-- ---- a transfer keeps the count of the chips
+
+heard-length : (K : Part) (address : ℕ) (e : Expect) (bytes : List ℕ) (s : Plain) → length (plainHeard K address e bytes s .chips) ≡ length (s .chips)
+unfolding plainHeard
+heard-length K address e [] s = refl
+heard-length K address e (x ∷ xs) s = heard-length K address (next e x) xs _ ∙ length-map (s .chips) (takes K address e x)
+
+length-plain : (K : Part) (cs : List Chip) (bytes : List ℕ) → length (plainCall K cs bytes .chips) ≡ length cs
+unfolding plainCall
+length-plain K cs bytes = go (checkPlain K cs bytes)
+  where
+    taken : (h : Bool) → length (cond h (plainHeard K (getD bytes 0 0) Expect.Control (drop 1 bytes) (record { acknowledged = 1; chips = cs })) (record { acknowledged = 0; chips = cs }) .chips) ≡ length cs
+    taken true = heard-length K (getD bytes 0 0) Expect.Control (drop 1 bytes) _
+    taken false = refl
+
+    go : (k : Check) → length (plainAnswered k cs (plainSaid (plainTaken K cs bytes)) .chips) ≡ length cs
+    go Passed = taken (any (hears (getD bytes 0 0)) cs)
+    go (Refused r) = refl
+
+-- ---- the bench's transfer is the list's
+
+pub followed : {b : Bench} {n : ℕ} {cs : List Chip} {done : BenchTransferred} (bytes : List ℕ) → Holds n cs b → done ≡ benchTransferred b bytes
+    → let s = plainCall pcf8532 cs bytes in (done .answer ≡ s .answer) × Holds n (s .chips) (done .bench)
+followed {b} {n} {cs} bytes h e =
+    let after = plainCall pcf8532 cs bytes .chips in
+    let rest = drop n (b .chips) in
+    let long : length after ≡ n = length-plain pcf8532 cs bytes ∙ ap length (sym (h .first)) ∙ length-take-le n (b .chips) (omega arith) in
+    rw (e, h .count, le-leb n 8 (h .few), h .first)
+    (refl, record { count = refl; few = h .few; size = length-append after rest ∙ omega (arith, length-drop n (b .chips)); first = take-at after rest n long })
+
+-- more than eight chips are refused
+
+list-length : (n : ℕ) (l : List ℕ) → length (listIn n l) ≡ n
+unfolding listIn
+list-length zero l = refl
+list-length (suc n) l = ap suc (list-length n (drop 171 l))
+
+pub many : (n : ℕ) (chips bytes : List ℕ) → 8 < n → plainCall pcf8532 (listIn n chips) bytes ≡ record { answer = PlainAnswer.Refused ManyChips; chips = listIn n chips }
+unfolding plainCall checkPlain
+many n chips bytes h = rw (list-length n chips, lt-leb n 8 h) refl

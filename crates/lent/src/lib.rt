@@ -1,0 +1,37 @@
+// A transfer to chips that C lends as bytes, 171 a chip.
+use sheet::PlainAnswer;
+use sheet::Refusal;
+ghost use mathlib.Core.Path.{_≡_};
+ghost use Prim.Native.Nat.{_%_};
+ghost use lib.ListN.{length};
+ghost use Rattle.lent.specs.Lent.{Few, lentCall};
+
+// Of at most eight chips: they are read, follow the transfer, and are written if it is taken.
+fn transfer_few(chips: &mut [u8], bytes: &[u8]) -> PlainAnswer
+    requires { ⌜ Few (now chips) ⌝ }
+    ensures { λ r. ⌜ lentCall (now (chips .entry)) (now (bytes .entry)) ≡ record { answer = r; chips = now (chips .exit) } ⌝ }
+{
+    let before = wire::bench_of(chips, chips.len() / 171);
+    let done = plain::transfer_bench(before, bytes);
+    let after = done.bench;
+    let said = done.answer;
+    match said {
+        PlainAnswer::Acknowledged(_) => {
+            wire::put_bench(after, chips);
+            said
+        }
+        PlainAnswer::Refused(refusal) => PlainAnswer::Refused(refusal),
+    }
+}
+
+// More than eight are refused by 10, and no byte is written.
+pub fn transfer(chips: &mut [u8], bytes: &[u8]) -> PlainAnswer
+    requires { ⌜ length (now chips) % 171 ≡ 0 ⌝ }
+    ensures { λ r. ⌜ lentCall (now (chips .entry)) (now (bytes .entry)) ≡ record { answer = r; chips = now (chips .exit) } ⌝ }
+{
+    if chips.len() / 171 <= 8 {
+        transfer_few(chips, bytes)
+    } else {
+        PlainAnswer::Refused(Refusal::ManyChips)
+    }
+}

@@ -1,0 +1,61 @@
+-- Bytes that C lends come back as they were: reading registers and chips from bytes and writing them loses nothing.
+-- Assumes nothing.
+use mathlib.Core.Path.{_≡_, refl, sym, ap, ap₂, _∙_}
+use mathlib.Core.List.{List, [], _∷_, _++_, append-assoc}
+use Prim.Native.Nat.{ℕ, zero, suc, _+_, _*_, _%_, _≤_, _<_}
+use native.Mathlib.Nat.{mod-eq-of-lt}
+use native.Mathlib.Omega.{arith}
+use lib.ListN.{length, getD, take, drop, length-drop, take-append-drop}
+use lib.Seq.{length-take-le, take-all, take-suc, getD-drop}
+use Rattle.wire.proofs.Parts.{firsts-all}
+use Rattle.wire.specs.Bytes.{registersIn, bytesOf, bothOf, bothBytes, chipIn, chipBytes, listIn, listBytes}
+
+-- every element is a byte
+abbrev pub Bytes : List ℕ → Type 0
+Bytes l = (i : ℕ) → getD l i 0 < 256
+
+take-bytes : (n : ℕ) (l : List ℕ) → Bytes l → Bytes (take n l)
+take-bytes zero l w i = omega arith
+take-bytes (suc n) [] w i = omega arith
+take-bytes (suc n) (q ∷ qs) w zero = w 0
+take-bytes (suc n) (q ∷ qs) w (suc i) = take-bytes n qs (λ j. w (suc j)) i
+
+drop-bytes : (n : ℕ) (l : List ℕ) → Bytes l → Bytes (drop n l)
+drop-bytes n l w i = rw (getD-drop n l i 0) (w (n + i))
+
+-- ---- registers
+
+registers-back : (l : List ℕ) → length l ≡ 9 → Bytes l → bytesOf (registersIn l) ≡ l
+registers-back l e w =
+    rw (mod-eq-of-lt (w 3), mod-eq-of-lt (w 4)) (firsts-all 9 l e)
+
+-- both groups' registers, read from 18 bytes and written, are those bytes
+pub both-back : (l : List ℕ) → length l ≡ 18 → Bytes l → bothBytes (bothOf l) ≡ l
+both-back l e w =
+    ap₂ (λ (x y : List ℕ). x ++ y)
+    (registers-back (take 9 l) (length-take-le 9 l (omega arith)) (take-bytes 9 l w))
+    (registers-back (drop 9 l) (omega (arith, length-drop 9 l)) (drop-bytes 9 l w))
+    ∙ take-append-drop 9 l
+
+-- ---- chips
+
+-- columns, SA0 and subaddress are the first 162 bytes
+pub unwritten : (l r : List ℕ) → length l ≡ 171 → take 160 l ++ (getD l 160 0 ∷ getD l 161 0 ∷ r) ≡ take 162 l ++ r
+unwritten l r e = simp (take-suc l 161 0 (omega arith), take-suc l 160 0 (omega arith), append-assoc)
+
+-- a chip read from 171 bytes and written is those bytes
+pub chip-back : (l : List ℕ) → length l ≡ 171 → Bytes l → chipBytes (chipIn l) ≡ l
+chip-back l e w =
+    unwritten l (bytesOf (registersIn (drop 162 l))) e
+    ∙ ap (λ (r : List ℕ). take 162 l ++ r) (registers-back (drop 162 l) (omega (arith, length-drop 162 l)) (drop-bytes 162 l w))
+    ∙ take-append-drop 162 l
+
+-- so are n chips
+pub list-back : (n : ℕ) (l : List ℕ) → length l ≡ 171 * n → Bytes l → listBytes (listIn n l) ≡ l
+unfolding listIn listBytes
+list-back zero l e w = take-all 0 l (omega arith)
+list-back (suc n) l e w =
+    ap₂ (λ (x y : List ℕ). x ++ y)
+    (chip-back (take 171 l) (length-take-le 171 l (omega arith)) (take-bytes 171 l w))
+    (list-back n (drop 171 l) (omega (arith, length-drop 171 l)) (drop-bytes 171 l w))
+    ∙ take-append-drop 171 l

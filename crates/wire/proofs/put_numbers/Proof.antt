@@ -1,0 +1,34 @@
+-- `wire::put_numbers` meets its contract: five numbers are set whole.
+-- Assumes nothing.
+use mathlib.Core.Path.{_≡_, refl, _∙_}
+use native.Mathlib.Omega.{arith}
+use lib.ListN.{length, length-set}
+use denote.Ref.{now}
+use Rattle.lemmas.proofs.Lists.{filled}
+use Rattle.wire.proofs.Parts.{firsts, firsts-all}
+use borrow.Author.Needs.{needs}
+use Rattle.wire.proofs.put_numbers.Statement.{statement}
+use Rattle.wire.proofs.put_numbers.Tie as tie
+
+returns : tie.Need-returns
+returns c = let five : length (c .args .t1) ≡ 5 = search needs in
+    (refl, filled (firsts 5 (c .args .t1)) (now (c .args .out)) (c .pre .0) ∙ firsts-all 5 (c .args .t1) five)
+
+pub put-numbers-spec : {M : Type 1} → statement M
+put-numbers-spec =
+    tie.close
+    (tie.spec
+    (λ c. search needs)
+    (λ c. search needs)
+    (λ c. search needs)
+    (λ c. search needs)
+    (λ c. search needs)
+    (λ c. search needs)
+    (λ c. search needs)
+    (λ c. search needs)
+    (λ c. search needs)
+    (λ c. simp length-set (omega arith))
+    (λ c. search needs)
+    (λ c. search needs)
+    (λ c. search needs)
+    returns)

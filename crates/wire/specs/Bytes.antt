@@ -1,0 +1,48 @@
+-- Registers and chips as the bytes that C lends. Assumes nothing.
+use Prim.Native.Nat.{ℕ, zero, suc, _%_}
+use mathlib.Core.List.{List, [], _∷_, _++_}
+use lib.ListN.{getD, take, drop}
+use Rattle.sheet.specs.declared.Registers.{Registers}
+use Rattle.sheet.specs.declared.Both.{Both}
+use Rattle.sheet.specs.declared.Chip.{Chip}
+
+-- nine bytes, in the order E B M P A I O AB BF
+abbrev pub registersIn : List ℕ → Registers
+registersIn l = record {
+  e = getD l 0 0;
+  b = getD l 1 0;
+  m = getD l 2 0;
+  p = getD l 3 0;
+  a = getD l 4 0;
+  i = getD l 5 0;
+  o = getD l 6 0;
+  ab = getD l 7 0;
+  bf = getD l 8 0;
+}
+
+-- P and A come from bytes and stay as given or in range, so a byte holds them
+abbrev pub bytesOf : Registers → List ℕ
+bytesOf r = r .e ∷ r .b ∷ r .m ∷ r .p % 256 ∷ r .a % 256 ∷ r .i ∷ r .o ∷ r .ab ∷ r .bf ∷ []
+
+-- group 0's and then group 1's
+abbrev pub bothOf : List ℕ → Both
+bothOf l = record { zero = registersIn (take 9 l); one = registersIn (drop 9 l) }
+
+abbrev pub bothBytes : Both → List ℕ
+bothBytes r = bytesOf (r .zero) ++ bytesOf (r .one)
+
+-- a chip is 171 bytes: 160 columns, SA0, subaddress, nine registers
+abbrev pub chipIn : List ℕ → Chip
+chipIn l = record { columns = take 160 l; sa0 = getD l 160 0; subaddress = getD l 161 0; registers = registersIn (drop 162 l) }
+
+abbrev pub chipBytes : Chip → List ℕ
+chipBytes c = c .columns ++ (c .sa0 ∷ c .subaddress ∷ bytesOf (c .registers))
+
+-- n chips one after the other
+unfoldable pub listIn : ℕ → List ℕ → List Chip
+listIn zero l = []
+listIn (suc n) l = chipIn (take 171 l) ∷ listIn n (drop 171 l)
+
+unfoldable pub listBytes : List Chip → List ℕ
+listBytes [] = []
+listBytes (c ∷ cs) = chipBytes c ++ listBytes cs

@@ -1,0 +1,149 @@
+// Registers, chips and answers in the buffers that C lends. Registers are nine bytes a group, in the order E B M P A I O AB BF;
+// a chip is 171 bytes: its 160 columns, SA0, subaddress and nine registers; an answer is five numbers.
+use plain::Bench;
+use sheet::Both;
+use sheet::Chip;
+use sheet::Registers;
+ghost use mathlib.Core.Path.{_≡_};
+ghost use Prim.Native.Nat.{_*_, _≤_, _<_};
+ghost use lib.ListN.{length, getD, take};
+ghost use Rattle.wire.specs.Benches.{Holds};
+ghost use Rattle.wire.specs.Bytes.{registersIn, bothOf, bytesOf, bothBytes, chipIn, chipBytes, listIn, listBytes};
+
+// ---- registers
+
+fn registers_of(bytes: &[u8]) -> Registers
+    requires { ⌜ length (now bytes) ≡ 9 ⌝ }
+    ensures { λ r. ⌜ r ≡ registersIn (now (bytes .entry)) ⌝ }
+{
+    Registers {
+        e: bytes[0],
+        b: bytes[1],
+        m: bytes[2],
+        p: bytes[3] as usize,
+        a: bytes[4] as usize,
+        i: bytes[5],
+        o: bytes[6],
+        ab: bytes[7],
+        bf: bytes[8],
+    }
+}
+
+pub fn both_of(bytes: &[u8]) -> Both
+    requires { ⌜ length (now bytes) ≡ 18 ⌝ }
+    ensures { λ r. ⌜ r ≡ bothOf (now (bytes .entry)) ⌝ }
+{
+    Both {
+        zero: registers_of(&bytes[..9]),
+        one: registers_of(&bytes[9..]),
+    }
+}
+
+fn put_registers(registers: Registers, out: &mut [u8])
+    requires { ⌜ length (now out) ≡ 9 ⌝ }
+    ensures { λ _. ⌜ now (out .exit) ≡ bytesOf registers ⌝ }
+{
+    out[0] = registers.e;
+    out[1] = registers.b;
+    out[2] = registers.m;
+    out[3] = (registers.p % 256) as u8;
+    out[4] = (registers.a % 256) as u8;
+    out[5] = registers.i;
+    out[6] = registers.o;
+    out[7] = registers.ab;
+    out[8] = registers.bf;
+}
+
+pub fn put_both(registers: Both, out: &mut [u8])
+    requires { ⌜ length (now out) ≡ 18 ⌝ }
+    ensures { λ _. ⌜ now (out .exit) ≡ bothBytes registers ⌝ }
+{
+    let zero = registers.zero;
+    let one = registers.one;
+    put_registers(zero, &mut out[..9]);
+    put_registers(one, &mut out[9..]);
+}
+
+// ---- chips
+
+fn copy(from: &[u8], to: &mut [u8])
+    requires { ⌜ length (now to) ≡ length (now from) ⌝ }
+    ensures { λ _. ⌜ now (to .exit) ≡ now (from .entry) ⌝ }
+{
+    let mut i = 0;
+    while i < from.len() {
+        to[i] = from[i];
+        i += 1;
+    }
+}
+
+pub fn chip_of(bytes: &[u8]) -> Chip
+    requires { ⌜ length (now bytes) ≡ 171 ⌝ }
+    ensures { λ r. ⌜ r ≡ chipIn (now (bytes .entry)) ⌝ }
+{
+    let mut columns = [0; 160];
+    copy(&bytes[..160], &mut columns);
+    Chip {
+        columns,
+        sa0: bytes[160],
+        subaddress: bytes[161],
+        registers: registers_of(&bytes[162..]),
+    }
+}
+
+pub fn put_chip(chip: Chip, out: &mut [u8])
+    requires { ⌜ length (now out) ≡ 171 ⌝ }
+    ensures { λ _. ⌜ now (out .exit) ≡ chipBytes chip ⌝ }
+{
+    let columns = chip.columns;
+    let registers = chip.registers;
+    copy(&columns, &mut out[..160]);
+    put_registers(registers, &mut out[162..]);
+    out[160] = chip.sa0;
+    out[161] = chip.subaddress;
+}
+
+// The chips of a list of at most eight; the places after them are not looked at.
+pub fn bench_of(bytes: &[u8], count: usize) -> Bench
+    requires { ⌜ (length (now bytes) ≡ 171 * count) × (count ≤ 8) ⌝ }
+    ensures { λ r. ⌜ Holds count (listIn count (now (bytes .entry))) r ⌝ }
+{
+    let mut chips = [chip_of(&[0; 171]); 8];
+    let mut i = 0;
+    while i < count {
+        let at = 171 * i;
+        chips[i] = chip_of(&bytes[at..at + 171]);
+        i += 1;
+    }
+    Bench { chips, count }
+}
+
+pub fn put_bench(bench: Bench, out: &mut [u8])
+    requires { ⌜ (length (now out) ≡ 171 * bench .count) × (bench .count ≤ 8) × (length (bench .chips) ≡ 8) ⌝ }
+    ensures { λ _. ⌜ now (out .exit) ≡ listBytes (take (bench .count) (bench .chips)) ⌝ }
+{
+    let chips = bench.chips;
+    let count = bench.count;
+    let mut i = 0;
+    while i < count {
+        let at = 171 * i;
+        put_chip(chips[i], &mut out[at..at + 171]);
+        i += 1;
+    }
+}
+
+// ---- answers
+
+// Five numbers; the first is returned too.
+pub fn put_numbers(numbers: [usize; 5], out: &mut [usize]) -> u8
+    requires { ⌜ (length (now out) ≡ 5) × (getD numbers 0 0 < 256) ⌝ }
+    ensures { λ r. ⌜ r ≡ getD numbers 0 0 ⌝ }
+    ensures { λ _. ⌜ now (out .exit) ≡ numbers ⌝ }
+{
+    out[0] = numbers[0];
+    out[1] = numbers[1];
+    out[2] = numbers[2];
+    out[3] = numbers[3];
+    out[4] = numbers[4];
+    numbers[0] as u8
+}
