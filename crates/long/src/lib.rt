@@ -11,25 +11,24 @@ use sheet::Refusal;
 use sheet::Registers;
 use sheet::Transferred;
 ghost use mathlib.Core.Path.{_≡_};
+ghost use mathlib.Core.Bool.{_&&_};
 ghost use Prim.Native.Nat.{_*_, _<_};
 ghost use lib.ListN.{length, getD};
 ghost use Rattle.sheet.specs.Refusals.{numbers, pictureNumbers, checkNumbers};
 ghost use Rattle.sheet.specs.Parts.{pcf8532};
+ghost use Rattle.sheet.specs.Registers.{inRange};
 ghost use Rattle.sheet.specs.Protocol.{heardBy, chipsIn};
-ghost use Rattle.sheet.specs.Checks.{unless, checkRegisters, checkRam, checkBytes, checkState, checkPowerOn, checkTransfer, checkPicture};
+ghost use Rattle.sheet.specs.Checks.{unless, checkRam, checkBytes, checkState, checkPowerOn, checkTransfer, checkPicture};
 ghost use Rattle.sheet.specs.Long.{noCounts, registersOf, replaced, startOf, endOf, taken, powerOnCall, transferCall, pictureCall};
 
 // ---- the checks, in the order of their numbers in each call; a later one is looked at only if the earlier ones passed
 
-fn check_registers(registers: Both) -> Check
-    ensures { λ r. ⌜ r ≡ checkRegisters pcf8532 registers ⌝ }
+fn registers_fit(registers: Both) -> bool
+    ensures { λ r. ⌜ r ≡ (inRange pcf8532 (registers .zero) && inRange pcf8532 (registers .one)) ⌝ }
 {
     let zero = registers.zero;
     let one = registers.one;
-    checks::unless(
-        command::in_range(zero) & command::in_range(one),
-        Refusal::Register,
-    )
+    command::in_range(zero) & command::in_range(one)
 }
 
 fn check_ram(chips: Chips, ram: &[u8]) -> Check
@@ -57,10 +56,13 @@ fn check_state(chips: Chips, registers: Both, ram: &[u8]) -> Check
 {
     match checks::check_chips(chips) {
         Check::Refused(refusal) => Check::Refused(refusal),
-        Check::Passed => match check_registers(registers) {
-            Check::Refused(refusal) => Check::Refused(refusal),
-            Check::Passed => check_ram(chips, ram),
-        },
+        Check::Passed => {
+            if registers_fit(registers) {
+                check_ram(chips, ram)
+            } else {
+                Check::Refused(Refusal::Register)
+            }
+        }
     }
 }
 

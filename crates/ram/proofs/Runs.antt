@@ -36,25 +36,25 @@ pub record Running (m b v : ℕ) (bytes ram₀ ram : List ℕ) (i : ℕ) : Type 
   pub long : length ram ≡ length ram₀
   pub most : i ≤ length bytes
 
-module _ (m b v : ℕ) (bytes ram₀ : List ℕ) where
+module _ {m b v : ℕ} {bytes ram₀ : List ℕ} where
   pub begun : Running m b v bytes ram₀ ram₀ 0
   unfolding putRun
   begun = record { so-far = refl; long = refl; most = omega arith }
 
   -- a byte more
-  pub turn : (ram after : List ℕ) (i : ℕ) → i < length bytes → after ≡ putBits 8 m b (v + widthOf m * i) (getD bytes i 0) ram
+  pub turn : {ram after : List ℕ} {i : ℕ} → i < length bytes → after ≡ putBits 8 m b (v + widthOf m * i) (getD bytes i 0) ram
       → Running m b v bytes ram₀ ram i → Running m b v bytes ram₀ after (i + 1)
   unfolding putRun
-  turn ram after i l e r =
+  turn {ram} {after} {i} l e r =
       let more : putRun m b v (take (i + 1) bytes) ram₀ ≡ putBits 8 m b (v + widthOf m * i) (getD bytes i 0) (putRun m b v (take i bytes) ram₀) =
       rw (add-one i, take-suc bytes i 0 l) (run-append m b v (take i bytes) (getD bytes i 0 ∷ []) ram₀ ∙ rw (length-take-le i bytes (le-of-lt l))) in
       let s : after ≡ putRun m b v (take (i + 1) bytes) ram₀ = e ∙ ap (putBits 8 m b (v + widthOf m * i) (getD bytes i 0)) (r .so-far) ∙ sym more in
       record { so-far = s; long = ap length s ∙ length-run m b v (take (i + 1) bytes) ram₀; most = omega arith }
 
   -- all bytes
-  pub done : (ram : List ℕ) (i : ℕ) → length bytes ≤ i → Running m b v bytes ram₀ ram i → ram ≡ putRun m b v bytes ram₀
-  done ram i l r = r .so-far ∙ ap (λ (xs : List ℕ). putRun m b v xs ram₀) (take-all i bytes l)
+  pub done : {ram : List ℕ} {i : ℕ} → length bytes ≤ i → Running m b v bytes ram₀ ram i → ram ≡ putRun m b v bytes ram₀
+  done {i = i} l r = r .so-far ∙ ap (λ (xs : List ℕ). putRun m b v xs ram₀) (take-all i bytes l)
 
   -- its columns are still below 16
-  pub small : (ram : List ℕ) (i : ℕ) → 0 < m → b + m ≤ 4 → overIn 0 ram₀ ≡ Passed → Running m b v bytes ram₀ ram i → Nibbles ram
-  small ram i pm h w r = subst Nibbles (sym (r .so-far)) (run-nibbles m b v (take i bytes) ram₀ pm h (nibbles-of 0 ram₀ w))
+  pub small : {ram : List ℕ} {i : ℕ} → 0 < m → b + m ≤ 4 → overIn 0 ram₀ ≡ Passed → Running m b v bytes ram₀ ram i → Nibbles ram
+  small {i = i} pm h w r = subst Nibbles (sym (r .so-far)) (run-nibbles m b v (take i bytes) ram₀ pm h (nibbles-of 0 ram₀ w))

@@ -36,9 +36,6 @@ Inv-loop ram₀ v bank bytes tbl rows i₀ ram i = Running 1 (2 * bank) v bytes 
 abbrev μ-loop : tie.MeasureT-loop
 μ-loop ram₀ v bank bytes tbl rows i₀ ram i = length bytes - i
 
-loop-holds : tie.Need-loop-holds Inv-loop μ-loop
-loop-holds c = begun _ _ _ _ _
-
 cast-high : tie.Need-cast-high Inv-loop μ-loop
 cast-high c = omega (arith, c .shared-slice-known2 .given (c .before .before .loop .i))
 
@@ -62,20 +59,13 @@ loop-again c = let p = c .before .before .before .before .before .before .before
     let put2 = c .before .before .put-four2 in
     let at = a .v + 8 * i in
     let small-x : x < 256 = c .before .before .before .before .before .before .before .before .shared-slice-known3 .given i .fits in
-    let w = small 1 (2 * a .bank) (a .v) (now (a .bytes)) (now (a .ram)) (p .loop .ram) i (omega arith) (omega arith) (s .pre .2) (p .loop .inv) in
+    let w = small (omega arith) (omega arith) (s .pre .2) (p .loop .inv) in
     let e1 = first-four 1 16843009 (a .bank) x at (getD table (x / 16) 0) (p .loop .ram) (put1 .last .0) tt tt (omega arith) (omega arith) (s .pre .0) w
     (high-spread x small-x) (put1 .ensures ∙ in-bank (a .bank) (p .before .wide .result) (p .before .wide .ensures .0) (getD table (x / 16) 0) at (p .loop .ram)) in
-    turn 1 (2 * a .bank) (a .v) (now (a .bytes)) (now (a .ram)) (p .loop .ram) (put2 .last .0) i (c .before .before .before .before .before .before .before .before .before .before .loop-test .taken)
+    turn (c .before .before .before .before .before .before .before .before .before .before .loop-test .taken)
     (four-columns 1 16843009 (a .bank) x at 4 (getD table (x % 16) 0) (p .loop .ram) (put1 .last .0) tt tt (omega arith) (omega arith) (s .pre .0) w
     (low-spread x small-x) e1 (put2 .last .0) (put2 .ensures ∙ in-bank (a .bank) (p .before .wide .result) (p .before .wide .ensures .0) (getD table (x % 16) 0) (at + 4) (put1 .last .0)))
     (p .loop .inv)
-
-same-length : tie.Need-same-length Inv-loop μ-loop
-same-length c = c .before .loop .inv .long
-
-returns : tie.Need-returns Inv-loop μ-loop
-returns c = let a = c .before .before .before .before .before .args in
-    done 1 (2 * a .bank) (a .v) (now (a .bytes)) (now (a .ram)) (c .before .loop .ram) (c .before .loop .i) (c .loop-test .left) (c .before .loop .inv)
 
 pub static-run-spec : {M : Type 1} → statement M
 static-run-spec =
@@ -87,7 +77,7 @@ static-run-spec =
     (λ c. search needs)
     (λ c. search needs)
     (λ c. search needs)
-    loop-holds
+    (λ c. begun)
     (λ c. search needs)
     (λ c. search needs)
     (λ c. search needs)
@@ -104,5 +94,5 @@ static-run-spec =
     (λ c. search needs)
     (λ c. search needs)
     loop-again
-    same-length
-    returns)
+    (λ c. c .before .loop .inv .long)
+    (λ c. done (c .loop-test .left) (c .before .loop .inv)))

@@ -18,9 +18,6 @@ Inv-loop ram₀ v bank bytes rows i₀ ram i = Running 2 (2 * bank) v bytes ram�
 abbrev μ-loop : tie.MeasureT-loop
 μ-loop ram₀ v bank bytes rows i₀ ram i = length bytes - i
 
-loop-holds : tie.Need-loop-holds Inv-loop μ-loop
-loop-holds c = begun _ _ _ _ _
-
 loop-again : tie.Need-loop-again Inv-loop μ-loop
 unfolding withRows columnOf mixed
 loop-again c = let p = c .before .before .before .before .before .before .before in
@@ -32,17 +29,10 @@ loop-again c = let p = c .before .before .before .before .before .before .before
     let at = a .v + 4 * i in
     let e : put .last .0 ≡ merged 4 (50529027 * (1 + 3 * a .bank)) (t .result) at (p .loop .ram) =
     put .ensures ∙ ap (λ (n : ℕ). merged 4 (50529027 * (1 + 3 * n)) (t .result) at (p .loop .ram)) (p .before .wide .ensures .0) in
-    let w = small 2 (2 * a .bank) (a .v) (now (a .bytes)) (now (a .ram)) (p .loop .ram) i (omega arith) (omega arith) (s .pre .2) (p .loop .inv) in
-    turn 2 (2 * a .bank) (a .v) (now (a .bytes)) (now (a .ram)) (p .loop .ram) (put .last .0) i (c .before .before .before .before .before .before .loop-test .taken)
+    let w = small (omega arith) (omega arith) (s .pre .2) (p .loop .inv) in
+    turn (c .before .before .before .before .before .before .loop-test .taken)
     (first-four 2 50529027 (a .bank) (getD (now (a .bytes)) i 0) at (t .result) (p .loop .ram) (put .last .0) tt tt (omega arith) (omega arith) (s .pre .0) w (t .ensures) e)
     (p .loop .inv)
-
-same-length : tie.Need-same-length Inv-loop μ-loop
-same-length c = c .before .loop .inv .long
-
-returns : tie.Need-returns Inv-loop μ-loop
-returns c = let a = c .before .before .before .before .before .args in
-    done 2 (2 * a .bank) (a .v) (now (a .bytes)) (now (a .ram)) (c .before .loop .ram) (c .before .loop .i) (c .loop-test .left) (c .before .loop .inv)
 
 pub two-run-spec : {M : Type 1} → statement M
 two-run-spec =
@@ -54,7 +44,7 @@ two-run-spec =
     (λ c. search needs)
     (λ c. search needs)
     (λ c. search needs)
-    loop-holds
+    (λ c. begun)
     (λ c. search needs)
     (λ c. search needs)
     (λ c. search needs)
@@ -63,5 +53,5 @@ two-run-spec =
     (λ c. search needs)
     (λ c. search needs)
     loop-again
-    same-length
-    returns)
+    (λ c. c .before .loop .inv .long)
+    (λ c. done (c .loop-test .left) (c .before .loop .inv)))
