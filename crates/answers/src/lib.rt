@@ -51,6 +51,7 @@ pub fn place_of(refusal: Refusal) -> usize
     }
 }
 
+// Of a refusal: its number, its place, and zero counts.
 pub fn refusal_numbers(refusal: Refusal) -> [usize; 5]
     ensures { λ r. ⌜ r ≡ refusalNumbers refusal ⌝ }
 {

@@ -6,6 +6,7 @@ ghost use mathlib.Core.Path.{_≡_};
 ghost use Rattle.buslog.specs.Replays.{replayCall};
 ghost use Rattle.cabi.specs.Calls.{powerOnC, transferC, pictureC, chipPowerOnC, chipPictureC, plainC, replayNumber};
 
+// Power-on of the long account, taken or refused by 3, 4, 5.
 #[no_mangle]
 pub extern "C" fn humtrellis_power_on(
     chips0: u8,
@@ -31,6 +32,7 @@ pub extern "C" fn humtrellis_power_on(
     }
 }
 
+// A transfer of the long account, taken or refused by 3, 6, 4, 5, 1, 2, 7.
 #[no_mangle]
 pub extern "C" fn humtrellis_transfer(
     chips0: u8,
@@ -58,6 +60,7 @@ pub extern "C" fn humtrellis_transfer(
     }
 }
 
+// The picture of a group at a blink phase, or a refusal by 3, 6, 4, 5, 8, 9.
 #[no_mangle]
 pub extern "C" fn humtrellis_picture(
     chips0: u8,
@@ -84,7 +87,7 @@ pub extern "C" fn humtrellis_picture(
     }
 }
 
-// One chip: taken or refused, only its registers are new.
+// Power-on of one chip, taken or refused by 11: only its registers are new.
 #[no_mangle]
 pub extern "C" fn humtrellis_chip_power_on(chip: &mut [u8], answer: &mut [usize]) -> u8
     ensures { λ r. ⌜ chipPowerOnC (now (chip .entry)) (now (answer .entry)) ≡ record { number = r; buffer = now (chip .exit); answer = now (answer .exit) } ⌝ }
@@ -101,6 +104,7 @@ pub extern "C" fn humtrellis_chip_power_on(chip: &mut [u8], answer: &mut [usize]
     }
 }
 
+// The picture of one chip, or a refusal by 11, 8, 9.
 #[no_mangle]
 pub extern "C" fn humtrellis_chip_picture(
     chip: &[u8],
@@ -119,6 +123,7 @@ pub extern "C" fn humtrellis_chip_picture(
     }
 }
 
+// A transfer to a list of chips, taken or refused by 10, 11, 1, 2, 7.
 #[no_mangle]
 pub extern "C" fn humtrellis_plain_transfer(
     chips: &mut [u8],
@@ -135,6 +140,7 @@ pub extern "C" fn humtrellis_plain_transfer(
     }
 }
 
+// The text of a log and its length; 0, and nothing is written, for a buffer with no room for any text.
 #[no_mangle]
 pub extern "C" fn humtrellis_replay(log: &[u8], out: &mut [u8]) -> usize
     ensures { λ r. ⌜ r ≡ replayNumber (replayCall (now (log .entry)) (now (out .entry)) .result) ⌝ }

@@ -20,6 +20,7 @@ pub fn unless(holds: bool, refusal: Refusal) -> Check
     }
 }
 
+// Whether a check has passed.
 pub fn passes(check: Check) -> bool
     ensures { λ r. ⌜ r ≡ passed check ⌝ }
 {

@@ -10,7 +10,7 @@ ghost use Rattle.sheet.specs.Registers.{bankRow};
 ghost use Rattle.sheet.specs.Checks.{overIn};
 ghost use Rattle.sheet.specs.Data.{changed, withRow, putBits, widthOf};
 ghost use Rattle.sheet.specs.Runs.{putRun, writtenBy};
-ghost use Rattle.ram.specs.Writes.{Run, Writable};
+ghost use Rattle.ram.specs.Writes.{Whole, Cut, Run, Writable};
 
 // One row of a column. A column past the end is nobody's.
 fn put_row(ram: &mut [u8], at: usize, row: usize, bit: u8)
@@ -37,7 +37,7 @@ fn put_bits(ram: &mut [u8], at: usize, m: usize, b: usize, x: u8)
 
 // Of the bytes that do not fit, only the first has columns left.
 fn cut_byte(ram: &mut [u8], at: usize, m: usize, bank: u8, rest: &[u8])
-    requires { ⌜ (0 < m) × (m < 5) × (bank < 2) × (at < 2 ^ 32) × (0 < length (now rest) → length (now ram) ≤ at + widthOf m) ⌝ }
+    requires { ⌜ Cut (now ram) at m bank (now rest) ⌝ }
     ensures { λ _. ⌜ now (ram .exit) ≡ putRun m (bankRow m bank) at (now (rest .entry)) (now (ram .entry)) ⌝ }
 {
     if 0 < rest.len() {
@@ -124,7 +124,7 @@ fn four_run(ram: &mut [u8], v: usize, bytes: &[u8])
 
 // Bytes whose columns are all there, by the mode.
 fn whole_bytes(ram: &mut [u8], v: usize, m: usize, bank: u8, bytes: &[u8])
-    requires { ⌜ (0 < m) × (m < 5) × (bank < 2) × (widthOf m * length (now bytes) ≤ length (now ram) - v) × (overIn 0 (now ram) ≡ Passed) ⌝ }
+    requires { ⌜ Whole (now ram) v m bank (now bytes) ⌝ }
     ensures { λ _. ⌜ now (ram .exit) ≡ putRun m (bankRow m bank) v (now (bytes .entry)) (now (ram .entry)) ⌝ }
 {
     match m {

@@ -27,6 +27,7 @@ pub enum Record {
 }
 
 impl Cursor {
+    // What stands at the cursor. Nothing is changed.
     pub fn read(self, log: &[u8]) -> Record
         ensures { λ r. ⌜ r ≡ recordIn (self .at) (drop (self .at) (now (log .entry))) ⌝ }
     {

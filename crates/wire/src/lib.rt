@@ -29,6 +29,7 @@ fn registers_of(bytes: &[u8]) -> Registers
     }
 }
 
+// Both register sets, from 18 bytes.
 pub fn both_of(bytes: &[u8]) -> Both
     requires { ⌜ length (now bytes) ≡ 18 ⌝ }
     ensures { λ r. ⌜ r ≡ bothOf (now (bytes .entry)) ⌝ }
@@ -54,6 +55,7 @@ fn put_registers(registers: Registers, out: &mut [u8])
     out[8] = registers.bf;
 }
 
+// Both register sets, into 18 bytes.
 pub fn put_both(registers: Both, out: &mut [u8])
     requires { ⌜ length (now out) ≡ 18 ⌝ }
     ensures { λ _. ⌜ now (out .exit) ≡ bothBytes registers ⌝ }
@@ -77,6 +79,7 @@ fn copy(from: &[u8], to: &mut [u8])
     }
 }
 
+// A chip, from 171 bytes.
 pub fn chip_of(bytes: &[u8]) -> Chip
     requires { ⌜ length (now bytes) ≡ 171 ⌝ }
     ensures { λ r. ⌜ r ≡ chipIn (now (bytes .entry)) ⌝ }
@@ -91,6 +94,7 @@ pub fn chip_of(bytes: &[u8]) -> Chip
     }
 }
 
+// A chip, into 171 bytes.
 pub fn put_chip(chip: Chip, out: &mut [u8])
     requires { ⌜ length (now out) ≡ 171 ⌝ }
     ensures { λ _. ⌜ now (out .exit) ≡ chipBytes chip ⌝ }
@@ -118,6 +122,7 @@ pub fn bench_of(bytes: &[u8], count: usize) -> Bench
     Bench { chips, count }
 }
 
+// The chips of a bench, into 171 bytes each.
 pub fn put_bench(bench: Bench, out: &mut [u8])
     requires { ⌜ (length (now out) ≡ 171 * bench .count) × (bench .count ≤ 8) × (length (bench .chips) ≡ 8) ⌝ }
     ensures { λ _. ⌜ now (out .exit) ≡ listBytes (take (bench .count) (bench .chips)) ⌝ }

@@ -24,7 +24,7 @@ rows-fit m bank hm hb =
 
 put-bits-requires : tie.Need-put-bits-requires
 put-bits-requires c κs = let s = c .before .before .before .before .before .before in
-    (s .pre .0, rw (c .before .before .bank-row .ensures) (rows-fit (s .args .m) (s .args .bank) (s .pre .1) (s .pre .2)), s .pre .3)
+    (s .pre .some, rw (c .before .before .bank-row .ensures) (rows-fit (s .args .m) (s .args .bank) (s .pre .four) (s .pre .two)), s .pre .near)
 
 returns : tie.Need-returns
 returns c = let s = c .before .before .before .before .before .before .before .before .before in
@@ -33,7 +33,7 @@ returns c = let s = c .before .before .before .before .before .before .before .b
     let there : 0 < length (now (a .rest)) = omega (arith, c .before .before .before .before .before .before .if1 .taken) in
     c .before .before .put-bits .ensures
     ∙ ap (λ (n : ℕ). putBits 8 (a .m) n (a .at) (getD (now (a .rest)) 0 0) (now (a .ram))) (c .before .before .before .before .before .bank-row .ensures)
-    ∙ sym (run-cut (a .m) b (a .at) (getD (now (a .rest)) 0 0) (drop (0 + 1) (now (a .rest))) (now (a .ram)) (s .pre .4 there))
+    ∙ sym (run-cut (a .m) b (a .at) (getD (now (a .rest)) 0 0) (drop (0 + 1) (now (a .rest))) (now (a .ram)) (s .pre .edge there))
     ∙ sym (ap (λ (xs : List ℕ). putRun (a .m) b (a .at) xs (now (a .ram))) (next (now (a .rest)) 0 there))
 
 returns-2 : tie.Need-returns-2

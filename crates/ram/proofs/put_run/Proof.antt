@@ -56,7 +56,7 @@ whole-bytes-requires c κs = let l = c .before .before in
     let s = l .before .before .before .before .before in
     let a = s .args in
     let e : length (take (l .least .result) (now (a .bytes))) ≡ l .least .result = length-take-le (l .least .result) (now (a .bytes)) (omega (arith, whole-is l)) in
-    (s .pre .some, s .pre .four, s .pre .two, rw e (fit (a .m) (length (now (a .bytes))) (length (now (a .ram)) - a .v) (l .least .result) (whole-is l)), s .pre .nibbles)
+    record { some = s .pre .some; four = s .pre .four; two = s .pre .two; fit = rw e (fit (a .m) (length (now (a .bytes))) (length (now (a .ram)) - a .v) (l .least .result) (whole-is l)); nibbles = s .pre .nibbles }
 
 -- a whole byte's columns are few
 near-is : (l : tie.After-least) → let a = l .before .before .before .before .before .args in l .before .before .width .result * l .least .result ≤ 8 * length (now (a .bytes))
@@ -76,13 +76,14 @@ cut-byte-requires : tie.Need-cut-byte-requires
 cut-byte-requires c κs = let w = c .before .before .before .before in
     let l = w .before .before .before in
     let s = l .before .before .before .before .before in
-    let a = s .args in (
-      s .pre .some,
-      s .pre .four,
-      s .pre .two,
-      omega (arith, near-is l, s .pre .short, s .pre .near),
-      λ h. rw (w .whole-bytes .kept .0, l .before .before .width .ensures) (edge (a .m) (length (now (a .bytes))) (a .v) (length (now (a .ram))) (l .least .result) (whole-is l) (some-left (length (now (a .bytes)) - l .least .result) (l .least .result) (now (a .bytes)) h)),
-    )
+    let a = s .args in
+    record {
+      some = s .pre .some;
+      four = s .pre .four;
+      two = s .pre .two;
+      near = omega (arith, near-is l, s .pre .short, s .pre .near);
+      edge = λ h. rw (w .whole-bytes .kept .0, l .before .before .width .ensures) (edge (a .m) (length (now (a .bytes))) (a .v) (length (now (a .ram))) (l .least .result) (whole-is l) (some-left (length (now (a .bytes)) - l .least .result) (l .least .result) (now (a .bytes)) h));
+    }
 
 returns : tie.Need-returns
 returns c = let w = c .before .before .before .before .before .before .before in

@@ -17,19 +17,19 @@ as-wide k m n left e h = subst (λ (i : ℕ). widthOf i * n ≤ left) e h
 
 static-run-requires : tie.Need-static-run-requires
 static-run-requires c κs = let s = c .before .before .before .before in
-    (s .pre .2, as-wide 1 (s .args .m) (length (now (s .args .bytes))) (length (now (s .args .ram)) - s .args .v) (c .before .match .keys1) (s .pre .3), s .pre .4)
+    (s .pre .two, as-wide 1 (s .args .m) (length (now (s .args .bytes))) (length (now (s .args .ram)) - s .args .v) (c .before .match .keys1) (s .pre .fit), s .pre .nibbles)
 
 two-run-requires : tie.Need-two-run-requires
 two-run-requires c κs = let s = c .before .before .before .before in
-    (s .pre .2, as-wide 2 (s .args .m) (length (now (s .args .bytes))) (length (now (s .args .ram)) - s .args .v) (c .before .match .keys2) (s .pre .3), s .pre .4)
+    (s .pre .two, as-wide 2 (s .args .m) (length (now (s .args .bytes))) (length (now (s .args .ram)) - s .args .v) (c .before .match .keys2) (s .pre .fit), s .pre .nibbles)
 
 three-run-requires : tie.Need-three-run-requires
 three-run-requires c κs = let s = c .before .before .before .before in
-    as-wide 3 (s .args .m) (length (now (s .args .bytes))) (length (now (s .args .ram)) - s .args .v) (c .before .match .keys3) (s .pre .3)
+    as-wide 3 (s .args .m) (length (now (s .args .bytes))) (length (now (s .args .ram)) - s .args .v) (c .before .match .keys3) (s .pre .fit)
 
 four-run-requires : tie.Need-four-run-requires
 four-run-requires c κs = let s = c .before .before .before .before in
-    (as-wide 4 (s .args .m) (length (now (s .args .bytes))) (length (now (s .args .ram)) - s .args .v) (omega (arith, c .before .match .rest)) (s .pre .3), s .pre .4)
+    (as-wide 4 (s .args .m) (length (now (s .args .bytes))) (length (now (s .args .ram)) - s .args .v) (omega (arith, c .before .match .rest)) (s .pre .fit), s .pre .nibbles)
 
 returns : tie.Need-returns
 unfolding bankRow
