@@ -1,7 +1,6 @@
 // Bus logs: a log's bytes in, the program's text out.
 use records::Cursor;
 use records::Record;
-use sheet::Answer;
 use sheet::Both;
 use sheet::Check;
 use sheet::Chips;
@@ -13,7 +12,7 @@ ghost use lib.ListN.{length, replicate};
 ghost use Rattle.sheet.specs.Parts.{pcf8532};
 ghost use Rattle.sheet.specs.Pictures.{litIn};
 ghost use Rattle.sheet.specs.Long.{stateOf, stateAfterAll};
-ghost use Rattle.sheet.specs.Logs.{logChips, logRecords, checkLog, transferLine, transferLines, columnLine, columnLines, shownAt, endLines, logLines, refusalLine, textOf};
+ghost use Rattle.sheet.specs.Logs.{logChips, logRecords, checkLog, transferLines, columnLines, shownAt, endLines, logLines, textOf};
 ghost use Rattle.sheet.specs.Agree.{Valid};
 ghost use Rattle.text.specs.Texts.{Puts};
 ghost use Rattle.buslog.specs.Asked.{Listable, Playable};
@@ -50,15 +49,6 @@ fn check_log(log: &[u8]) -> Check
 
 // ---- the text
 
-// A transfer's line.
-fn put_transfer(out: &mut [u8], at: usize, index: usize, answer: Answer) -> usize
-    requires { ⌜ at + length (transferLine index answer) ≤ length (now out) ⌝ }
-    ensures { λ r. ⌜ Puts at (transferLine index answer) (now (out .entry)) (now (out .exit)) r ⌝ }
-{
-    let n = answers::numbers(answer);
-    text::put_line(out, at, b'T', &[index, n[0], n[1], n[2], n[3], n[4]])
-}
-
 // Where the text has come to, and the registers then.
 struct Played {
     at: usize,
@@ -81,37 +71,11 @@ fn put_transfers(log: &[u8], chips: Chips, initial: Both, ram: &mut [u8], out: &
         let done = long::transfer(chips, registers, ram, &log[start..end]);
         registers = done.registers;
         let answer = done.answer;
-        at = put_transfer(out, at, index, answer);
+        at = lines::put_transfer(out, at, index, answer);
         index += 1;
         cursor = Cursor { at: end };
     }
     Played { at, registers }
-}
-
-// A column's line, if it is lit.
-fn put_column(out: &mut [u8], at: usize, group: usize, column: usize, value: u8) -> usize
-    requires { ⌜ at + length (columnLine group column value) ≤ length (now out) ⌝ }
-    ensures { λ r. ⌜ Puts at (columnLine group column value) (now (out .entry)) (now (out .exit)) r ⌝ }
-{
-    if value == 0 {
-        at
-    } else {
-        text::put_line(out, at, b'S', &[group, column, value as usize])
-    }
-}
-
-// The lines of a picture's lit columns.
-fn put_columns(out: &mut [u8], at: usize, group: usize, picture: &[u8]) -> usize
-    requires { ⌜ at + length (columnLines group 0 (now picture)) ≤ length (now out) ⌝ }
-    ensures { λ r. ⌜ Puts at (columnLines group 0 (now (picture .entry))) (now (out .entry)) (now (out .exit)) r ⌝ }
-{
-    let mut place = at;
-    let mut i = 0;
-    while i < picture.len() {
-        place = put_column(out, place, group, i, picture[i]);
-        i += 1;
-    }
-    place
 }
 
 // Where the text has come to after a group's columns, and what the group has lit.
@@ -144,7 +108,7 @@ fn put_group(
     let mut picture = blank_picture();
     match long::picture(chips, registers, ram, group, 0, &mut picture[..size]) {
         Pictured::Lit(lit) => {
-            let after = put_columns(out, at, group as usize, &picture[..size]);
+            let after = lines::put_columns(out, at, group as usize, &picture[..size]);
             Listed { at: after, lit }
         }
         Pictured::Refused(_) => Listed { at, lit: 0 },
@@ -195,19 +159,6 @@ fn put_log(log: &[u8], out: &mut [u8]) -> usize
     play(log, chips, &mut ram[..size], out)
 }
 
-// The line of a log that is refused.
-fn put_refusal(out: &mut [u8], refusal: Refusal) -> usize
-    requires { ⌜ length (refusalLine refusal) ≤ length (now out) ⌝ }
-    ensures { λ r. ⌜ Puts 0 (refusalLine refusal) (now (out .entry)) (now (out .exit)) r ⌝ }
-{
-    text::put_line(
-        out,
-        0,
-        b'X',
-        &[answers::number_of(refusal), answers::place_of(refusal)],
-    )
-}
-
 // ---- the call
 
 // Room for the text of any log.
@@ -227,7 +178,7 @@ pub fn replay(log: &[u8], out: &mut [u8]) -> Replayed
         return Replayed::SmallBuffer;
     }
     match check_log(log) {
-        Check::Refused(refusal) => Replayed::Written(put_refusal(out, refusal)),
+        Check::Refused(refusal) => Replayed::Written(lines::put_refusal(out, refusal)),
         Check::Passed => Replayed::Written(put_log(log, out)),
     }
 }

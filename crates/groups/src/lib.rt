@@ -1,0 +1,69 @@
+// The two groups on the bus: who hears a transfer, and a group's chips, registers and part of the RAM.
+use sheet::Addressed;
+use sheet::Both;
+use sheet::Chips;
+use sheet::Registers;
+ghost use mathlib.Core.Path.{_≡_};
+ghost use Rattle.sheet.specs.Parts.{pcf8532};
+ghost use Rattle.sheet.specs.Protocol.{heardBy, chipsIn};
+ghost use Rattle.sheet.specs.Long.{registersOf, replaced, startOf, endOf};
+
+// The group that hears an address byte. An empty transfer has none, and the 0 that stands for it is nobody's.
+pub fn heard_by(chips: Chips, address: u8) -> Addressed
+    ensures { λ r. ⌜ r ≡ heardBy chips address ⌝ }
+{
+    if (address == 112) & (0 < chips.zero) {
+        return Addressed::To(0);
+    }
+    if (address == 114) & (0 < chips.one) {
+        return Addressed::To(1);
+    }
+    Addressed::Nobody
+}
+
+// The chips of a group.
+pub fn chips_in(group: u8, chips: Chips) -> u8
+    ensures { λ r. ⌜ r ≡ chipsIn group chips ⌝ }
+{
+    if group == 0 { chips.zero } else { chips.one }
+}
+
+// A group's registers.
+pub fn registers_of(group: u8, registers: Both) -> Registers
+    ensures { λ r. ⌜ r ≡ registersOf group registers ⌝ }
+{
+    let zero = registers.zero;
+    let one = registers.one;
+    if group == 0 { zero } else { one }
+}
+
+// Both register sets, a group's replaced.
+pub fn replaced(group: u8, after: Registers, registers: Both) -> Both
+    ensures { λ r. ⌜ r ≡ replaced group after registers ⌝ }
+{
+    let zero = registers.zero;
+    let one = registers.one;
+    if group == 0 {
+        Both { zero: after, one }
+    } else {
+        Both { zero, one: after }
+    }
+}
+
+// Where a group's columns begin in the RAM.
+pub fn start_of(chips: Chips, group: u8) -> usize
+    ensures { λ r. ⌜ r ≡ startOf pcf8532 chips group ⌝ }
+{
+    if group == 0 {
+        0
+    } else {
+        160 * (chips.zero as usize)
+    }
+}
+
+// And where they end.
+pub fn end_of(chips: Chips, group: u8) -> usize
+    ensures { λ r. ⌜ r ≡ endOf pcf8532 chips group ⌝ }
+{
+    start_of(chips, group) + 160 * (chips_in(group, chips) as usize)
+}

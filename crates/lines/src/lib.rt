@@ -1,0 +1,55 @@
+// The lines of a replay's text, each written into a lent buffer at a place.
+use sheet::Answer;
+use sheet::Refusal;
+ghost use Prim.Native.Nat.{_+_, _≤_};
+ghost use lib.ListN.{length};
+ghost use Rattle.sheet.specs.Logs.{transferLine, columnLine, columnLines, refusalLine};
+ghost use Rattle.text.specs.Texts.{Puts};
+
+// A transfer's line.
+pub fn put_transfer(out: &mut [u8], at: usize, index: usize, answer: Answer) -> usize
+    requires { ⌜ at + length (transferLine index answer) ≤ length (now out) ⌝ }
+    ensures { λ r. ⌜ Puts at (transferLine index answer) (now (out .entry)) (now (out .exit)) r ⌝ }
+{
+    let n = answers::numbers(answer);
+    text::put_line(out, at, b'T', &[index, n[0], n[1], n[2], n[3], n[4]])
+}
+
+// A column's line, if it is lit.
+fn put_column(out: &mut [u8], at: usize, group: usize, column: usize, value: u8) -> usize
+    requires { ⌜ at + length (columnLine group column value) ≤ length (now out) ⌝ }
+    ensures { λ r. ⌜ Puts at (columnLine group column value) (now (out .entry)) (now (out .exit)) r ⌝ }
+{
+    if value == 0 {
+        at
+    } else {
+        text::put_line(out, at, b'S', &[group, column, value as usize])
+    }
+}
+
+// The lines of a picture's lit columns.
+pub fn put_columns(out: &mut [u8], at: usize, group: usize, picture: &[u8]) -> usize
+    requires { ⌜ at + length (columnLines group 0 (now picture)) ≤ length (now out) ⌝ }
+    ensures { λ r. ⌜ Puts at (columnLines group 0 (now (picture .entry))) (now (out .entry)) (now (out .exit)) r ⌝ }
+{
+    let mut place = at;
+    let mut i = 0;
+    while i < picture.len() {
+        place = put_column(out, place, group, i, picture[i]);
+        i += 1;
+    }
+    place
+}
+
+// The line of a log that is refused.
+pub fn put_refusal(out: &mut [u8], refusal: Refusal) -> usize
+    requires { ⌜ length (refusalLine refusal) ≤ length (now out) ⌝ }
+    ensures { λ r. ⌜ Puts 0 (refusalLine refusal) (now (out .entry)) (now (out .exit)) r ⌝ }
+{
+    text::put_line(
+        out,
+        0,
+        b'X',
+        &[answers::number_of(refusal), answers::place_of(refusal)],
+    )
+}
