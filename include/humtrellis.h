@@ -43,7 +43,7 @@ enum humtrellis_register {
     HUMTRELLIS_A = 4,  /* 0 to 4: counter, a subaddress; 4 is past the end */
     HUMTRELLIS_I = 5,  /* 0, 1: input bank */
     HUMTRELLIS_O = 6,  /* 0, 1: output bank */
-    HUMTRELLIS_AB = 7, /* 0, 1: blink mode; 1 alternates the banks */
+    HUMTRELLIS_AB = 7, /* 0, 1: blink mode; 1 alternates the banks in static and 1:2, and is as 0 in 1:3 and 1:4 */
     HUMTRELLIS_BF = 8  /* 0 to 3: blink frequency; 0 is no blinking */
 };
 

@@ -1,4 +1,4 @@
-//! The model, bit by bit as paper 01 tells it: the long account, the plain account and bus logs.
+//! The model, bit by bit as paper 01 tells it, amended by request 3 of paper 02: the long account, the plain account and bus logs.
 
 /// Columns of one chip.
 pub const COLUMNS: usize = 160;
@@ -185,10 +185,12 @@ impl Registers {
     fn first_shown(self, phase: u8) -> Option<usize> {
         let banks = self.backplanes() <= 2;
         let bank = if banks { self.o as usize } else { 0 };
+        // Paper 02, request 3 (data sheet 003, table 11, note 2): in 1:3 and 1:4 blinking is normal, whatever AB is.
+        let alternate = self.ab == 1 && banks;
         let blinks = self.bf != 0 && phase == 1;
-        if self.e == 0 || (blinks && self.ab == 0) {
+        if self.e == 0 || (blinks && !alternate) {
             None
-        } else if blinks && banks {
+        } else if blinks {
             Some(2 * (1 - bank))
         } else {
             Some(2 * bank)

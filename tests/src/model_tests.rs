@@ -1,4 +1,4 @@
-//! The paper's cases ("Both sides of each edge"), the worked log, refusals, and the two accounts compared.
+//! The paper's cases ("Both sides of each edge"), blinking, the worked log, refusals, and the two accounts compared.
 
 use super::*;
 use crate::{generate, random::Random};
@@ -40,6 +40,30 @@ impl Bus {
 
     fn a_and_p(&self) -> (u8, u8) {
         (self.state().a, self.state().p)
+    }
+
+    /// Shows the group in a buffer that was all 9.
+    fn show(&self, phase: u8) -> ([usize; 5], Vec<u8>) {
+        let view = View {
+            chips0: self.chips,
+            chips1: 0,
+            registers: &self.registers,
+            ram: &self.ram,
+            group: 0,
+            phase,
+        };
+        let mut out = vec![9; self.ram.len()];
+        (picture(view, &mut out).numbers(), out)
+    }
+
+    /// Shows each chip alone, in buffers that were all 9.
+    fn show_chips(&self, phase: u8) -> Vec<([usize; 5], Vec<u8>)> {
+        let chips = plain_chips([self.chips, 0], &self.registers, &self.ram);
+        let show = |chip| {
+            let mut out = vec![9; COLUMNS];
+            (plain_picture(chip, phase, &mut out).numbers(), out)
+        };
+        chips.iter().map(show).collect()
     }
 }
 
@@ -128,17 +152,93 @@ fn edges_of_the_commands() {
 fn alternate_blinking_shows_the_other_bank() {
     let mut bus = Bus::new(1, 12);
     bus.send(&[0x70, 0x00, 0xCA, 0xF8, 0xF5]);
-    let view = View {
-        chips0: 1,
-        chips1: 0,
-        registers: &bus.registers,
-        ram: &bus.ram,
-        group: 0,
-        phase: 1,
-    };
-    let mut out = [9; COLUMNS];
-    assert_eq!(picture(view, &mut out).numbers(), [0, 0, 320, 0, 0]);
-    assert_eq!(out, [3; COLUMNS]);
+    assert_eq!(bus.show(1), ([0, 0, 320, 0, 0], vec![3; COLUMNS]));
+}
+
+/// The customer's glass of request 3 in paper 02: four backplanes, AB = 1.
+#[test]
+fn alternate_blinking_darkens_four_backplanes() {
+    let mut bus = Bus::new(1, 15);
+    bus.send(&[0x70, 0x00, 0xC8, 0xF5]);
+    assert_eq!(bus.show(0), ([0, 0, 640, 0, 0], vec![15; COLUMNS]));
+    assert_eq!(bus.show(1), ([0, 0, 0, 0, 0], vec![0; COLUMNS]));
+}
+
+/// What is shown of columns with the values 0 to 15, and its lit elements.
+type Shown = ([u8; 16], usize);
+
+const DARK: Shown = ([0; 16], 0);
+const STATIC_BANK_0: Shown = ([0, 1, 0, 1, 0, 1, 0, 1, 0, 1, 0, 1, 0, 1, 0, 1], 8);
+const STATIC_BANK_1: Shown = ([0, 0, 0, 0, 1, 1, 1, 1, 0, 0, 0, 0, 1, 1, 1, 1], 8);
+const MODE_2_BANK_0: Shown = ([0, 1, 2, 3, 0, 1, 2, 3, 0, 1, 2, 3, 0, 1, 2, 3], 16);
+const MODE_2_BANK_1: Shown = ([0, 0, 0, 0, 1, 1, 1, 1, 2, 2, 2, 2, 3, 3, 3, 3], 16);
+const MODE_3: Shown = ([0, 1, 2, 3, 4, 5, 6, 7, 0, 1, 2, 3, 4, 5, 6, 7], 24);
+const MODE_4: Shown = ([0, 1, 2, 3, 4, 5, 6, 7, 8, 9, 10, 11, 12, 13, 14, 15], 32);
+
+/// Two chips with the values 0 to 15 over and over, after a mode-set, a bank-select and a blink-select:
+/// the group and each chip alone show `expected` at phases 0 and 1.
+fn hold_phases(commands: [u8; 3], expected: [Shown; 2]) {
+    let mut bus = Bus::new(2, 0);
+    bus.ram = (0..16).collect::<Vec<u8>>().repeat(20);
+    bus.set_and_send(&commands, &[]);
+    for (phase, (columns, lit)) in [0, 1].into_iter().zip(expected) {
+        let group = ([0, 0, 20 * lit, 0, 0], columns.repeat(20));
+        let chip = ([0, 0, 10 * lit, 0, 0], columns.repeat(10));
+        assert_eq!(bus.show(phase), group, "{commands:02X?} phase {phase}");
+        assert_eq!(bus.show_chips(phase), [chip.clone(), chip]);
+    }
+}
+
+/// The same with B = 0 and 1; with E = 0 both phases are dark.
+fn hold_blinking(mode: u8, bank: u8, blink: u8, expected: [Shown; 2]) {
+    for b in [0, 4] {
+        hold_phases([0xC0 | b | mode, bank, blink], [DARK, DARK]);
+        hold_phases([0xC8 | b | mode, bank, blink], expected);
+    }
+}
+
+/// Paper 02, request 3: with AB = 1 (F4 to F7) as with AB = 0, dark at phase 1 if BF is not 0; banks do not matter.
+#[test]
+fn modes_3_and_4_blink_alike_with_ab_0_and_1() {
+    for (mode, lit) in [(3, MODE_3), (0, MODE_4)] {
+        for bank in [0xF8, 0xF9, 0xFA, 0xFB] {
+            hold_blinking(mode, bank, 0xF0, [lit, lit]);
+            hold_blinking(mode, bank, 0xF1, [lit, DARK]);
+            hold_blinking(mode, bank, 0xF2, [lit, DARK]);
+            hold_blinking(mode, bank, 0xF3, [lit, DARK]);
+            hold_blinking(mode, bank, 0xF4, [lit, lit]);
+            hold_blinking(mode, bank, 0xF5, [lit, DARK]);
+            hold_blinking(mode, bank, 0xF6, [lit, DARK]);
+            hold_blinking(mode, bank, 0xF7, [lit, DARK]);
+        }
+    }
+}
+
+/// Paper 01, as it was: with AB = 0 dark at phase 1 if BF is not 0, with AB = 1 the other bank.
+#[test]
+fn static_and_mode_2_blink_with_the_other_bank() {
+    let banks = [
+        (1, STATIC_BANK_0, STATIC_BANK_1),
+        (2, MODE_2_BANK_0, MODE_2_BANK_1),
+    ];
+    for (mode, zero, one) in banks {
+        let selects = [
+            (0xF8, zero, one),
+            (0xF9, one, zero),
+            (0xFA, zero, one),
+            (0xFB, one, zero),
+        ];
+        for (bank, own, other) in selects {
+            hold_blinking(mode, bank, 0xF0, [own, own]);
+            hold_blinking(mode, bank, 0xF1, [own, DARK]);
+            hold_blinking(mode, bank, 0xF2, [own, DARK]);
+            hold_blinking(mode, bank, 0xF3, [own, DARK]);
+            hold_blinking(mode, bank, 0xF4, [own, own]);
+            hold_blinking(mode, bank, 0xF5, [own, other]);
+            hold_blinking(mode, bank, 0xF6, [own, other]);
+            hold_blinking(mode, bank, 0xF7, [own, other]);
+        }
+    }
 }
 
 #[test]

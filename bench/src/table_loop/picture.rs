@@ -39,7 +39,7 @@ fn check(view: View, length: usize) -> Result<(), Refusal> {
 fn shown(set: &[u8; SET], phase: u8) -> (u8, u64) {
     let blinks = set[BF] != 0 && phase == 1;
     let banks = set[M] == 1 || set[M] == 2;
-    if set[E] == 0 || blinks && set[AB] == 0 {
+    if set[E] == 0 || blinks && (set[AB] == 0 || !banks) {
         (0, 0)
     } else if banks {
         (2 * (set[O] ^ blinks as u8), ROWS[set[M] as usize])

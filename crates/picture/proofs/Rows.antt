@@ -6,7 +6,7 @@ use mathlib.Core.List.{List, map}
 use Prim.Native.Nat.{ℕ, _+_, _-_, _/_, _<_}
 use native.Mathlib.Nat.{mod-one}
 use native.Mathlib.Omega.{arith}
-use lib.Dec.{eqb}
+use lib.Dec.{eqb, ltb}
 use Rattle.sheet.specs.declared.Registers.{Registers}
 use Rattle.sheet.specs.declared.Shown.the-variants.{Dark, Rows}
 use Rattle.sheet.specs.Parts.{pcf8532}
@@ -22,7 +22,7 @@ bank-in false o h = h
 -- the rows shown are rows of a column
 pub rows-in : (r : Registers) (phase first : ℕ) → inRange pcf8532 r ≡ true → shown r phase ≡ Rows first → first + backplanes r < 5
 unfolding shown
-rows-in r phase first t e = go (eqb (r .e) 0 || blinked r phase && eqb (r .ab) 0) e
+rows-in r phase first t e = go (eqb (r .e) 0 || blinked r phase && (eqb (r .ab) 0 || ltb 2 (backplanes r))) e
   where
     bank : ℕ
     bank = cond (blinked r phase) (1 - r .o) (r .o)

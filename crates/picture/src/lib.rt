@@ -21,11 +21,11 @@ fn bank_shown(o: u8, other: bool) -> u8
 pub fn shown(registers: Registers, phase: u8) -> Shown
     ensures { λ r. ⌜ r ≡ shown registers phase ⌝ }
 {
+    let m = arithmetic::backplanes(registers);
     let blinked = (registers.bf != 0) & (phase == 1);
-    if (registers.e == 0) | (blinked & (registers.ab == 0)) {
+    if (registers.e == 0) | (blinked & ((registers.ab == 0) | (2 < m))) {
         return Shown::Dark;
     }
-    let m = arithmetic::backplanes(registers);
     Shown::Rows(arithmetic::bank_row(m, bank_shown(registers.o, blinked)))
 }
 

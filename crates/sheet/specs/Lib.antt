@@ -16,6 +16,7 @@ pub mod Agree
 pub mod Lands
 pub mod Pointing
 pub mod Starred
+pub mod Blinking
 pub mod Landing
 pub mod Orders
 pub mod Worked

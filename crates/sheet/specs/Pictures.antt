@@ -2,7 +2,7 @@
 use Prim.Native.Nat.{ℕ, _+_, _-_, _/_, _%_, _^_}
 use mathlib.Core.Bool.{Bool, cond, _&&_, _||_, not}
 use mathlib.Core.List.{List, [], _∷_, map}
-use lib.Dec.{eqb}
+use lib.Dec.{eqb, ltb}
 use lib.Count.{ones}
 use Rattle.sheet.specs.declared.Registers.{Registers}
 use Rattle.sheet.specs.declared.Shown.{Shown}
@@ -16,10 +16,10 @@ abbrev pub blinked : Registers → ℕ → Bool
 blinked r phase = not (eqb (r .bf) 0) && eqb phase 1
 
 -- dark, or the rows from a first one on. Blinked, AB = 0 is dark and AB = 1 shows the other bank;
--- with three or four backplanes there is no other bank, and the display stays steady
+-- with three or four backplanes there is none, and normal blinking is assumed: dark (table 11, notes 2 and 3; paper 02, request 3)
 unfoldable pub shown : Registers → ℕ → Shown
 shown r phase =
-    cond (eqb (r .e) 0 || blinked r phase && eqb (r .ab) 0) Dark
+    cond (eqb (r .e) 0 || blinked r phase && (eqb (r .ab) 0 || ltb 2 (backplanes r))) Dark
     (Rows (bankRow (backplanes r) (cond (blinked r phase) (1 - r .o) (r .o))))
 
 -- a column's byte: bit r is set if the element on backplane r is lit

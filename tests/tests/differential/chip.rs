@@ -2,7 +2,7 @@
 
 use crate::library::{self, SIZE};
 use crate::plain::{bytes_of, chip_of, chips, CHIP};
-use crate::{fault, for_seeds, plain};
+use crate::{every_setting, fault, for_seeds, plain};
 use humtrellis_tests::model::{self, COLUMNS};
 use humtrellis_tests::random::Random;
 
@@ -174,13 +174,9 @@ fn chip_power_on_registers() {
 /// Every mode, bank and blink setting, on and off, at both phases.
 #[test]
 fn chip_every_picture() {
-    for state in 0..2 * 2 * 4 * 2 * 2 * 2 * 4 {
-        let (e, b, m) = (state % 2, state / 2 % 2, state / 4 % 4);
-        let (i, o) = (state / 16 % 2, state / 32 % 2);
-        let (ab, bf) = (state / 64 % 2, state / 128);
+    for set in every_setting() {
         let mut call = Call::new(&patterned());
-        let set = [e, b, m, state % 160, state % 5, i, o, ab, bf];
-        call.chip[COLUMNS + 2..].copy_from_slice(&set.map(|value| value as u8));
+        call.chip[COLUMNS + 2..].copy_from_slice(&set);
         for phase in 0..2 {
             call.phase = phase;
             assert_eq!(call.clone().picture(), 0);

@@ -68,13 +68,13 @@ fn compare_pictures(case: &Case) {
     }
 }
 
-/// A case of `chips` in one group, the other having one chip, with RAM of a pattern.
+/// A case of `chips` in one group, the other having one chip, with RAM of a pattern that differs from chip to chip.
 fn patterned(group: usize, chips: u8) -> Case {
     let mut counts = [1, 1];
     counts[group] = chips;
     let mut case = Case::new(counts);
     for (place, column) in case.ram.iter_mut().enumerate() {
-        *column = (place * 7 % 16) as u8;
+        *column = ((place * 7 + place / 16) % 16) as u8;
     }
     case
 }
@@ -149,17 +149,26 @@ fn every_register() {
     }
 }
 
-/// Every setting that a picture depends on, over all column values.
+/// Registers with every E, B, M, I, O, AB and BF; P and A vary too.
+pub fn every_setting() -> impl Iterator<Item = [u8; 9]> {
+    (0..2 * 2 * 4 * 2 * 2 * 2 * 4).map(|state| {
+        let (e, b, m) = (state % 2, state / 2 % 2, state / 4 % 4);
+        let (i, o) = (state / 16 % 2, state / 32 % 2);
+        let (ab, bf) = (state / 64 % 2, state / 128);
+        [e, b, m, state % 160, state % 5, i, o, ab, bf].map(|value| value as u8)
+    })
+}
+
+/// Every setting in a group of 0 to 4 chips, over all column values, at both phases.
 #[test]
 fn every_picture() {
-    for state in 0..2 * 4 * 2 * 2 * 4 * 2 {
-        let (e, m, o) = (state % 2, state / 2 % 4, state / 8 % 2);
-        let (ab, bf, i) = (state / 16 % 2, state / 32 % 4, state / 128);
-        for group in 0..2 {
-            let mut case = patterned(group, 2);
-            let set = [e, 0, m, 0, 0, i, o, ab, bf].map(|value: i32| value as u8);
-            case.registers[9 * group..][..9].copy_from_slice(&set);
-            compare_pictures(&case);
+    for group in 0..2 {
+        for chips in 0..=4 {
+            let mut case = patterned(group, chips);
+            for set in every_setting() {
+                case.registers[9 * group..][..9].copy_from_slice(&set);
+                compare_pictures(&case);
+            }
         }
     }
 }
