@@ -2,7 +2,7 @@
 
 use crate::library::Numbers;
 use crate::samples::{self, Bus, MODES};
-use crate::ways::{Way, WAYS};
+use crate::ways::{Picture, Transfer, PICTURES, TRANSFERS};
 use humtrellis_tests::generate;
 use humtrellis_tests::model::COLUMNS;
 use humtrellis_tests::random::Random;
@@ -13,25 +13,29 @@ const GENERATED: u64 = 20_000;
 /// What a transfer leaves, or what a picture gives.
 type Outcome = (Numbers, Bus, Vec<u8>);
 
-fn transferred(way: &Way, before: &Bus, bytes: &[u8]) -> Outcome {
+fn transferred(transfer: Transfer, before: &Bus, bytes: &[u8]) -> Outcome {
     let mut bus = before.clone();
-    let answer = (way.transfer)(bus.chips, &mut bus.registers, &mut bus.ram, bytes);
+    let answer = transfer(bus.chips, &mut bus.registers, &mut bus.ram, bytes);
     (answer, bus, Vec::new())
 }
 
-fn pictured(way: &Way, bus: &Bus, [group, phase, room]: [u8; 3]) -> Outcome {
+fn pictured(picture: Picture, bus: &Bus, [group, phase, room]: [u8; 3]) -> Outcome {
     let mut out = vec![0xEE; COLUMNS * room as usize];
-    let answer = (way.picture)(bus.view(group, phase), &mut out);
+    let answer = picture(bus.view(group, phase), &mut out);
     (answer, bus.clone(), out)
 }
 
 /// The outcome that all ways share.
-fn agreed(what: &str, outcome: impl Fn(&Way) -> Outcome) -> Result<Outcome, String> {
-    let first = outcome(&WAYS[0]);
-    for way in &WAYS[1..] {
-        let other = outcome(way);
+fn agreed<Way: Copy>(
+    what: &str,
+    ways: &[(&str, Way)],
+    outcome: impl Fn(Way) -> Outcome,
+) -> Result<Outcome, String> {
+    let first = outcome(ways[0].1);
+    for (name, way) in &ways[1..] {
+        let other = outcome(*way);
         if other != first {
-            let (name, numbers, others) = (way.name, first.0, other.0);
+            let (numbers, others) = (first.0, other.0);
             return Err(format!(
                 "{what}: library and {name} differ (answers {numbers:?} and {others:?})"
             ));
@@ -46,15 +50,22 @@ fn prepared() -> Result<(), String> {
         let mut bus = Bus::new(&mut Random::new(0), [4, 0]);
         for bytes in samples::transfers(mode) {
             let what = format!("transfer in {}", mode.name);
-            let outcome = agreed(&what, |way| transferred(way, &bus, &bytes))?;
+            let outcome = agreed(&what, &TRANSFERS, |way| transferred(way, &bus, &bytes))?;
             if outcome.0[0] != 0 {
                 return Err(format!("{what}: refused {:?}", outcome.0));
             }
             bus = outcome.1;
         }
-        for bus in samples::shown_buses(mode) {
+        for (bus, group) in samples::SHOWN
+            .iter()
+            .flat_map(|chips| samples::shown_buses(mode, *chips))
+            .flat_map(|bus| [(bus.clone(), 0), (bus, 1)])
+        {
             let what = format!("picture in {}", mode.name);
-            agreed(&what, |way| pictured(way, &bus, [0, 0, 4]))?;
+            let room = bus.chips[group as usize];
+            agreed(&what, &PICTURES, |way| {
+                pictured(way, &bus, [group, 0, room])
+            })?;
         }
     }
     Ok(())
@@ -84,7 +95,7 @@ fn generated() -> Result<(), String> {
                 _ => generate::transfer(random),
             };
             let what = format!("generated transfer {seed}");
-            bus = agreed(&what, |way| transferred(way, &bus, &bytes))?.1;
+            bus = agreed(&what, &TRANSFERS, |way| transferred(way, &bus, &bytes))?.1;
             damage(random, &mut bus);
         }
         let group = random.below(20) as u8 % 3;
@@ -94,7 +105,9 @@ fn generated() -> Result<(), String> {
             _ => bus.chips[group as usize % 2],
         };
         let what = format!("generated picture {seed}");
-        agreed(&what, |way| pictured(way, &bus, [group, phase, room]))?;
+        agreed(&what, &PICTURES, |way| {
+            pictured(way, &bus, [group, phase, room])
+        })?;
     }
     Ok(())
 }

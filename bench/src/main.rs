@@ -10,14 +10,14 @@ mod table_loop;
 mod timing;
 mod ways;
 
-use samples::MODES;
+use samples::{MODES, SHOWN};
 use std::process::ExitCode;
 
 fn run() -> Result<(), String> {
     agree::check()?;
     let transfers = MODES.map(measure::transfers);
     report::transfers(&transfers);
-    let pictures = MODES.map(measure::pictures);
+    let pictures = SHOWN.map(|chips| MODES.map(|mode| measure::pictures(mode, chips)));
     report::pictures(&pictures);
     replay::run()?;
     report::targets(&transfers, &pictures);

@@ -1,10 +1,14 @@
 //! The printed tables and targets.
 
-use crate::samples::{Mode, FOUR_CHIPS, MODES};
+use crate::samples::{Mode, MODES, SHOWN};
 use crate::timing::{Figure, SAMPLES};
+use humtrellis_tests::model::COLUMNS;
 
 /// The figures of library, model and loop, mode by mode.
 pub type Rows = [[Figure; 3]; 4];
+
+/// The figures of library, model, loop by columns and loop by words, for each number of columns, mode by mode.
+pub type Pictures = [[[Figure; 4]; 4]; 3];
 
 /// Bytes before the data run: address, four commands with their control bytes, and the run's control byte.
 const BEFORE_DATA: usize = 10;
@@ -59,11 +63,28 @@ pub fn transfers(rows: &Rows) {
     print_spread(rows);
 }
 
-pub fn pictures(rows: &Rows) {
-    println!("The picture of four chips: ns a column, median of {SAMPLES} samples");
-    print_rows("columns", rows, |_| FOUR_CHIPS.to_string());
-    println!("The same: lowest and highest sample");
-    print_spread(rows);
+pub fn pictures(pictures: &Pictures) {
+    println!(
+        "A picture: ns a column, median of {SAMPLES} samples, and the library's lowest and highest"
+    );
+    println!("mode   | columns | library |   model | by columns | by words | library/by columns | library/by words |        library");
+    for (chips, rows) in SHOWN.iter().zip(pictures) {
+        let columns = COLUMNS * (chips[0] + chips[1]) as usize;
+        for (mode, [a, b, c, d]) in MODES.iter().zip(rows) {
+            println!(
+                "{:6} | {columns:7} | {:7.3} | {:7.3} | {:10.3} | {:8.3} | {:18.2} | {:16.2} | {}",
+                mode.name,
+                a.median,
+                b.median,
+                c.median,
+                d.median,
+                ratio(*a, *c),
+                ratio(*a, *d),
+                spread(a)
+            );
+        }
+    }
+    println!();
 }
 
 pub fn replay(length: usize, figures: [Figure; 2]) {
@@ -81,15 +102,15 @@ fn print_target(target: &str, value: f64, limit: f64) {
     println!("{verdict:6} | {value:6.2} | {limit:5} | {target}");
 }
 
-pub fn targets(transfers: &Rows, pictures: &Rows) {
+pub fn targets(transfers: &Rows, pictures: &Pictures) {
     println!("Targets: verdict, measured, at most");
     for (mode, [a, b, c]) in MODES.iter().zip(transfers) {
         let (name, model, table) = (mode.name, ratio(*a, *b), ratio(*a, *c));
         print_target(&format!("transfer, {name}: library/model"), model, 1.0);
         print_target(&format!("transfer, {name}: library/loop"), table, 2.0);
     }
-    for (mode, [a, ..]) in MODES.iter().zip(pictures) {
-        let target = format!("picture, {}: library, ns a column", mode.name);
-        print_target(&target, a.median, 3.0);
+    for (mode, [a, _, c, _]) in MODES.iter().zip(&pictures[1]) {
+        let target = format!("picture, {}: library/by columns", mode.name);
+        print_target(&target, ratio(*a, *c), 1.1);
     }
 }

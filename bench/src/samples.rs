@@ -81,11 +81,14 @@ pub fn transfers(mode: Mode) -> Vec<Vec<u8>> {
         .collect()
 }
 
-/// Four chips in a mode, enabled, with columns of any value and both output banks in turn.
-pub fn shown_buses(mode: Mode) -> Vec<Bus> {
+/// The chips whose pictures are timed: 160, 640 and, both groups one after the other, 1,280 columns.
+pub const SHOWN: [[u8; 2]; 3] = [[1, 0], [4, 0], [4, 4]];
+
+/// Chips in a mode, enabled, with columns of any value and both output banks in turn.
+pub fn shown_buses(mode: Mode, chips: [u8; 2]) -> Vec<Bus> {
     let mut random = Random::new(16 + mode.bits as u64);
     let mut shown = |turn: usize| {
-        let mut bus = Bus::new(&mut random, [4, 0]);
+        let mut bus = Bus::new(&mut random, chips);
         let shown = Registers {
             e: 1,
             m: mode.bits,
@@ -93,6 +96,7 @@ pub fn shown_buses(mode: Mode) -> Vec<Bus> {
             ..Registers::power_on()
         };
         bus.registers[..SET].copy_from_slice(&shown.to_bytes());
+        bus.registers[SET..].copy_from_slice(&shown.to_bytes());
         bus
     };
     (0..TURNS).map(&mut shown).collect()

@@ -10,7 +10,7 @@ mod run;
 mod tables;
 mod transfer;
 
-pub use picture::picture;
+pub use picture::{picture_by_columns, picture_by_words};
 pub use transfer::transfer;
 
 /// Columns of one chip.

@@ -1,32 +1,25 @@
-//! The three ways to carry out a call, behind one signature each, so that all are called alike.
+//! The ways to carry out a call, behind one signature each, so that all are called alike.
 
 use crate::library::{self, Numbers, RegisterBytes};
 use crate::table_loop;
 use humtrellis_tests::model::{self, View};
 
-pub struct Way {
-    pub name: &'static str,
-    pub transfer: fn([u8; 2], &mut RegisterBytes, &mut [u8], &[u8]) -> Numbers,
-    pub picture: fn(View, &mut [u8]) -> Numbers,
-}
+pub type Transfer = fn([u8; 2], &mut RegisterBytes, &mut [u8], &[u8]) -> Numbers;
+pub type Picture = fn(View, &mut [u8]) -> Numbers;
 
 /// (a), (b) and (c), in the order of the printed columns.
-pub const WAYS: [Way; 3] = [
-    Way {
-        name: "library",
-        transfer: library::transfer,
-        picture: library::picture,
-    },
-    Way {
-        name: "model",
-        transfer: model_transfer,
-        picture: model_picture,
-    },
-    Way {
-        name: "loop",
-        transfer: table_loop::transfer,
-        picture: table_loop::picture,
-    },
+pub const TRANSFERS: [(&str, Transfer); 3] = [
+    ("library", library::transfer),
+    ("model", model_transfer),
+    ("loop", table_loop::transfer),
+];
+
+/// The same of a picture; (c) is two loops, one that counts a column at a time, as the library does, and one by words.
+pub const PICTURES: [(&str, Picture); 4] = [
+    ("library", library::picture),
+    ("model", model_picture),
+    ("columns", table_loop::picture_by_columns),
+    ("words", table_loop::picture_by_words),
 ];
 
 fn model_transfer(

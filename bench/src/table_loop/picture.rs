@@ -1,4 +1,4 @@
-//! The picture of a group, eight columns as one word.
+//! The picture of a group, in two ways: a count a column, and eight columns as one word.
 
 use super::{checks, group_range, refused, Refusal, AB, BF, COLUMNS, E, M, O, SET};
 use humtrellis_tests::model::View;
@@ -11,8 +11,11 @@ const ROWS: [u64; 4] = [
     0x0707_0707_0707_0707,
 ];
 
-#[inline(never)]
-pub fn picture(view: View, out: &mut [u8]) -> [usize; 5] {
+/// How the columns of a group are written and counted: the first row, the rows from there on, and the picture.
+type Show = fn(&[u8], u8, u64, &mut [u8]) -> usize;
+
+#[inline(always)]
+fn picture(view: View, out: &mut [u8], show: Show) -> [usize; 5] {
     if let Err(refusal) = check(view, out.len()) {
         return refused(refusal);
     }
@@ -21,6 +24,16 @@ pub fn picture(view: View, out: &mut [u8]) -> [usize; 5] {
     let set = &view.registers.as_chunks::<SET>().0[group];
     let (shift, rows) = shown(set, view.phase);
     [0, 0, show(columns, shift, rows, out), 0, 0]
+}
+
+#[inline(never)]
+pub fn picture_by_columns(view: View, out: &mut [u8]) -> [usize; 5] {
+    picture(view, out, show_columns)
+}
+
+#[inline(never)]
+pub fn picture_by_words(view: View, out: &mut [u8]) -> [usize; 5] {
+    picture(view, out, show_words)
 }
 
 fn check(view: View, length: usize) -> Result<(), Refusal> {
@@ -48,8 +61,25 @@ fn shown(set: &[u8; SET], phase: u8) -> (u8, u64) {
     }
 }
 
+/// A count a column, in a byte for each 32 columns, so that the compiler does many at once.
+#[inline(always)]
+fn show_columns(columns: &[u8], shift: u8, rows: u64, out: &mut [u8]) -> usize {
+    let rows = rows as u8;
+    let mut lit = 0;
+    for (some, values) in columns.chunks(32).zip(out.chunks_mut(32)) {
+        let mut ones = 0;
+        for (column, value) in some.iter().zip(values) {
+            *value = column >> shift & rows;
+            ones += value.count_ones() as u8;
+        }
+        lit += ones as usize;
+    }
+    lit
+}
+
 /// Writes the picture and counts the lit elements; 160 columns a chip are whole words.
-fn show(columns: &[u8], shift: u8, rows: u64, out: &mut [u8]) -> usize {
+#[inline(always)]
+fn show_words(columns: &[u8], shift: u8, rows: u64, out: &mut [u8]) -> usize {
     let mut lit = 0;
     let words = columns.as_chunks::<8>().0;
     for (shown, word) in out.as_chunks_mut::<8>().0.iter_mut().zip(words) {

@@ -4,9 +4,8 @@ use mathlib.Core.Path.{_≡_, refl, sym, ap, ap₂, _∙_}
 use mathlib.Core.Bool.{Bool, true, false, cond}
 use mathlib.Core.List.{List, [], _∷_, _++_, map-append, append-nil}
 use Prim.Native.Nat.{ℕ, zero, suc, _+_, _*_, _≤_, _<_}
-use native.Mathlib.Nat.{add-assoc, zero-add, mul-zero, suc-ne-zero}
+use native.Mathlib.Nat.{mul-zero, suc-ne-zero}
 use native.Mathlib.Omega.{arith}
-use lib.Count.{ones}
 use lib.Dec.{eqb}
 use lib.ListN.{length, take, drop, replicate, length-drop, length-replicate, take-append-drop}
 use lib.Seq.{length-take-le}
@@ -25,12 +24,8 @@ use Rattle.sheet.specs.Agree.{groupChips, groupOf, chipsOf, Valid, chipSeen, li
 use Rattle.laws.proofs.Ranges.{InRange, in-range}
 use Rattle.laws.proofs.Nibbles.{Nibbles, check-nibbles, take-nibbles, drop-nibbles}
 use Rattle.laws.proofs.Fits.{fits-of}
+use Rattle.laws.proofs.Lit.{lit-join}
 use Rattle.agreement.proofs.Chips.{chipAt, own-columns}
-
-lit-join : (a b : List ℕ) → litIn (a ++ b) ≡ litIn a + litIn b
-unfolding litIn
-lit-join [] b = sym (zero-add (litIn b))
-lit-join (q ∷ qs) b = rw (lit-join qs b) (sym (add-assoc (ones q) (litIn qs) (litIn b)))
 
 -- what is seen of columns that are shown
 abbrev seenOf : Registers → ℕ → List ℕ → Seen

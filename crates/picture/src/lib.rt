@@ -3,12 +3,12 @@ use sheet::Registers;
 use sheet::Shown;
 ghost use mathlib.Core.Path.{_≡_};
 ghost use mathlib.Core.Bool.{cond, true};
-ghost use mathlib.Core.List.{map};
 ghost use Prim.Native.Nat.{_-_, _≤_, _<_};
 ghost use lib.ListN.{length};
 ghost use Rattle.sheet.specs.Parts.{pcf8532};
 ghost use Rattle.sheet.specs.Registers.{inRange};
 ghost use Rattle.sheet.specs.Pictures.{shown, lit, pictureOf, litIn};
+ghost use Rattle.picture.specs.Drawn.{drawn, Few, Drawable};
 
 // The bank that is shown: the group's own, or the other one.
 fn bank_shown(o: u8, other: bool) -> u8
@@ -37,49 +37,48 @@ fn lit_rows(first: usize, height: usize, column: u8) -> u8
     (column >> first) & ((1u8 << height) - 1)
 }
 
-// Writes these rows of each column.
-fn write_rows(columns: &[u8], first: usize, height: usize, out: &mut [u8])
-    requires { ⌜ (length (now out) ≡ length (now columns)) × ((first < 8) × (height < 8)) ⌝ }
-    ensures { λ _. ⌜ now (out .exit) ≡ map (lit height (Shown.Rows first)) (now (columns .entry)) ⌝ }
+// Writes these rows of at most 32 columns and counts their ones. The count is a byte, so that many columns are done at once.
+fn draw_some(columns: &[u8], first: usize, height: usize, out: &mut [u8]) -> u8
+    requires { ⌜ Few (now columns) first height (now out) ⌝ }
+    ensures { λ r. ⌜ record { lit = r; out = now (out .exit) } ≡ drawn first height (now (columns .entry)) ⌝ }
 {
+    let mut ones = 0;
     let mut i = 0;
     while i < columns.len() {
-        out[i] = lit_rows(first, height, columns[i]);
+        let column = columns[i];
+        let value = lit_rows(first, height, column);
+        out[i] = value;
+        ones += u8::count_ones(value) as u8;
         i += 1;
     }
+    ones
 }
 
-// Writes the picture, a byte a column. Dark is a picture of no rows.
-fn write(columns: &[u8], registers: Registers, phase: u8, out: &mut [u8])
-    requires { ⌜ (length (now out) ≡ length (now columns)) × (inRange pcf8532 registers ≡ true) ⌝ }
-    ensures { λ _. ⌜ now (out .exit) ≡ pictureOf registers phase (now (columns .entry)) ⌝ }
+// Writes these rows of each column and counts their ones, 32 columns after the other.
+fn draw(columns: &[u8], first: usize, height: usize, out: &mut [u8]) -> usize
+    requires { ⌜ Drawable (now columns) first height (now out) ⌝ }
+    ensures { λ r. ⌜ record { lit = r; out = now (out .exit) } ≡ drawn first height (now (columns .entry)) ⌝ }
 {
-    match shown(registers, phase) {
-        Shown::Dark => write_rows(columns, 0, 0, out),
-        Shown::Rows(first) => write_rows(columns, first, arithmetic::backplanes(registers), out),
+    let n = columns.len();
+    let mut lit = 0;
+    let mut start = 0;
+    while start < n {
+        let end = arithmetic::least(start + 32, n);
+        let ones = draw_some(&columns[start..end], first, height, &mut out[start..end]);
+        lit += ones as usize;
+        start = end;
     }
+    lit
 }
 
-// The lit elements: the ones of each masked column nibble, summed.
-fn count(picture: &[u8]) -> usize
-    requires { ⌜ length (now picture) ≤ 1280 ⌝ }
-    ensures { λ r. ⌜ r ≡ litIn (now (picture .entry)) ⌝ }
-{
-    let mut total = 0;
-    let mut i = 0;
-    while i < picture.len() {
-        total += u8::count_ones(picture[i]) as usize;
-        i += 1;
-    }
-    total
-}
-
-// The picture is written and then walked again to count what is lit.
+// The picture is written, a byte a column, and counted in one walk. Dark is a picture of no rows.
 pub fn show(columns: &[u8], registers: Registers, phase: u8, out: &mut [u8]) -> usize
     requires { ⌜ (length (now out) ≡ length (now columns)) × (length (now out) ≤ 1280) × (inRange pcf8532 registers ≡ true) ⌝ }
     ensures { λ _. ⌜ now (out .exit) ≡ pictureOf registers phase (now (columns .entry)) ⌝ }
     ensures { λ r. ⌜ r ≡ litIn (pictureOf registers phase (now (columns .entry))) ⌝ }
 {
-    write(columns, registers, phase, out);
-    count(out)
+    match shown(registers, phase) {
+        Shown::Dark => draw(columns, 0, 0, out),
+        Shown::Rows(first) => draw(columns, first, arithmetic::backplanes(registers), out),
+    }
 }
