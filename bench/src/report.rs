@@ -63,13 +63,18 @@ pub fn transfers(rows: &Rows) {
     print_spread(rows);
 }
 
+/// The columns of the pictures of both groups.
+fn columns_of(chips: &[u8; 2]) -> usize {
+    COLUMNS * (chips[0] + chips[1]) as usize
+}
+
 pub fn pictures(pictures: &Pictures) {
     println!(
         "A picture: ns a column, median of {SAMPLES} samples, and the library's lowest and highest"
     );
     println!("mode   | columns | library |   model | by columns | by words | library/by columns | library/by words |        library");
     for (chips, rows) in SHOWN.iter().zip(pictures) {
-        let columns = COLUMNS * (chips[0] + chips[1]) as usize;
+        let columns = columns_of(chips);
         for (mode, [a, b, c, d]) in MODES.iter().zip(rows) {
             println!(
                 "{:6} | {columns:7} | {:7.3} | {:7.3} | {:10.3} | {:8.3} | {:18.2} | {:16.2} | {}",
@@ -109,8 +114,14 @@ pub fn targets(transfers: &Rows, pictures: &Pictures) {
         print_target(&format!("transfer, {name}: library/model"), model, 1.0);
         print_target(&format!("transfer, {name}: library/loop"), table, 2.0);
     }
-    for (mode, [a, _, c, _]) in MODES.iter().zip(&pictures[1]) {
-        let target = format!("picture, {}: library/by columns", mode.name);
-        print_target(&target, ratio(*a, *c), 1.1);
+    for (chips, rows) in SHOWN.iter().zip(pictures) {
+        let columns = columns_of(chips);
+        for (mode, [a, _, c, _]) in MODES.iter().zip(rows) {
+            let target = format!(
+                "picture, {columns} columns, {}: library/by columns",
+                mode.name
+            );
+            print_target(&target, ratio(*a, *c), 1.1);
+        }
     }
 }
