@@ -73,7 +73,8 @@ enum humtrellis_refusal {
     HUMTRELLIS_REFUSED_CHIP = 11,         /* a field or column of a plain chip out of range; place: the first such chip */
     HUMTRELLIS_REFUSED_LOG = 12,          /* under 3 bytes or version not 1; this and the next two stand in a log's text */
     HUMTRELLIS_REFUSED_RECORD = 13,       /* cut short; place: the offset of its length field */
-    HUMTRELLIS_REFUSED_LOG_LENGTH = 14    /* over 65,536 bytes */
+    HUMTRELLIS_REFUSED_LOG_LENGTH = 14,   /* over 65,536 bytes */
+    HUMTRELLIS_REFUSED_CONTROL = 17       /* stray bits 5 to 0 of a control byte, in a transfer that a chip hears; place: the first; 7 or 17, whichever byte comes first */
 };
 
 #ifdef __cplusplus
@@ -85,7 +86,7 @@ uint8_t humtrellis_power_on(uint8_t chips0, uint8_t chips1, const uint8_t *ram, 
                             uint8_t *registers, size_t registers_length, size_t *answer, size_t answer_length);
 
 /* One transfer, START to STOP, address byte first: changes registers and RAM. Answer: number, place, acknowledged, stored, discarded.
- * Refusals: 3, 6, 4, 5, 1, 2, 7. */
+ * Refusals: 3, 6, 4, 5, 1, 2, then 7 or 17 by the first faulty byte. */
 uint8_t humtrellis_transfer(uint8_t chips0, uint8_t chips1, uint8_t *registers, size_t registers_length,
                             uint8_t *ram, size_t ram_length, const uint8_t *bytes, size_t bytes_length,
                             size_t *answer, size_t answer_length);
@@ -96,7 +97,7 @@ uint8_t humtrellis_picture(uint8_t chips0, uint8_t chips1, const uint8_t *regist
                            uint8_t *out, size_t out_length, size_t *answer, size_t answer_length);
 
 /* One transfer to a list of 0 to 8 plain chips, each of which follows every byte by itself; gaps and repeated subaddresses are allowed.
- * Answer: number, place, acknowledged (a byte counts once), 0, 0. Refusals: 10, 11, 1, 2, 7. */
+ * Answer: number, place, acknowledged (a byte counts once), 0, 0. Refusals: 10, 11, 1, 2, then 7 or 17 by the first faulty byte. */
 uint8_t humtrellis_plain_transfer(uint8_t *chips, size_t chips_length, const uint8_t *bytes, size_t bytes_length,
                                   size_t *answer, size_t answer_length);
 

@@ -97,12 +97,14 @@ static void answers(void) {
 }
 
 static void refusals(void) {
-    const uint8_t undefined[] = {0x70, 0x00, 0x00, 0xFC};
+    const uint8_t undefined[] = {0x70, 0x00, 0x00, 0xFC}, stray[] = {0x70, 0x80, 0xC8, 0x41, 0xA5};
     EXPECT(power_on() == HUMTRELLIS_TAKEN);
     EXPECT(send(undefined, 0) == HUMTRELLIS_REFUSED_EMPTY_TRANSFER);
     EXPECT(send(many, 4097) == HUMTRELLIS_REFUSED_LONG_TRANSFER);
     EXPECT(send(undefined, sizeof undefined) == HUMTRELLIS_REFUSED_COMMAND);
     EXPECT(answer[HUMTRELLIS_NUMBER] == HUMTRELLIS_REFUSED_COMMAND && answer[HUMTRELLIS_PLACE] == 3);
+    EXPECT(send(stray, sizeof stray) == HUMTRELLIS_REFUSED_CONTROL);
+    EXPECT(answer[HUMTRELLIS_NUMBER] == HUMTRELLIS_REFUSED_CONTROL && answer[HUMTRELLIS_PLACE] == 3);
     EXPECT(show(2, 0, sizeof picture) == HUMTRELLIS_REFUSED_VIEW && show(0, 2, sizeof picture) == HUMTRELLIS_REFUSED_VIEW);
     EXPECT(show(0, 0, sizeof picture - 1) == HUMTRELLIS_REFUSED_OUT_LENGTH);
     EXPECT(humtrellis_power_on(5, 0, ram, 0, registers, sizeof registers, answer, HUMTRELLIS_ANSWER) == HUMTRELLIS_REFUSED_CHIP_COUNT);

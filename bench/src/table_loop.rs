@@ -1,5 +1,5 @@
 //! (c): what a careful programmer writes by hand, in plain Rust without `unsafe`.
-//! It trusts its caller as little as the library does: every check of paper 01 in its order, with the same refusals.
+//! It trusts its caller as little as the library does: every check of the papers in its order, with the same refusals.
 //! A run then goes a byte at a time over a table of 256 entries a mode: bytes whose columns are all there without a test
 //! for the end, the one cut byte apart, the counts in closed form.
 

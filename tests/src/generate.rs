@@ -101,39 +101,28 @@ fn address(random: &mut Random) -> u8 {
     random.pick(&[0x70, 0x70, 0x72])
 }
 
-/// Control bits that the rules ignore, set now and then.
-fn ignored_bits(random: &mut Random) -> u8 {
-    if random.one_in(5) {
-        random.byte() & 0x3F
-    } else {
-        0
-    }
-}
-
 /// A control byte with Co = 1 and RS as given, and the byte that follows it.
-fn push_single(random: &mut Random, bytes: &mut Vec<u8>, rs: u8, byte: u8) {
-    bytes.push(0x80 | rs | ignored_bits(random));
-    bytes.push(byte);
+fn push_single(bytes: &mut Vec<u8>, rs: u8, byte: u8) {
+    bytes.extend([0x80 | rs, byte]);
 }
 
 /// A transfer without a fault: commands and single data bytes, then a run of commands or data.
 pub fn good_transfer(random: &mut Random) -> Vec<u8> {
     let mut bytes = vec![address(random)];
     for command in commands(random) {
-        push_single(random, &mut bytes, 0, command);
+        push_single(&mut bytes, 0, command);
     }
     for _ in 0..random.pick(&[0, 0, 0, 1, 2, 5]) {
-        let byte = random.byte();
-        push_single(random, &mut bytes, 0x40, byte);
+        push_single(&mut bytes, 0x40, random.byte());
     }
     match random.below(6) {
         0 => {}
         1 => {
-            bytes.push(ignored_bits(random));
+            bytes.push(0x00);
             bytes.extend(commands(random));
         }
         _ => {
-            bytes.push(0x40 | ignored_bits(random));
+            bytes.push(0x40);
             bytes.extend(data(random));
         }
     }
@@ -171,16 +160,31 @@ fn cut(random: &mut Random) -> Vec<u8> {
     bytes
 }
 
-/// An address with bytes after it that follow no plan.
+/// The places of a transfer's control bytes: every second one, up to the first with Co = 0.
+pub fn control_places(bytes: &[u8]) -> Vec<usize> {
+    let mut places = Vec::new();
+    for place in (1..bytes.len()).step_by(2) {
+        places.push(place);
+        if bytes[place] & 0x80 == 0 {
+            break;
+        }
+    }
+    places
+}
+
+/// An address with bytes after it that follow no plan, but for clean control bytes.
 fn noise(random: &mut Random) -> Vec<u8> {
     let mut bytes = vec![address(random)];
     let length = random.below(12);
     bytes.extend(random.bytes(length));
+    for place in control_places(&bytes) {
+        bytes[place] &= 0xC0;
+    }
     bytes
 }
 
-/// A transfer, most often a good one, never over-long.
-pub fn transfer(random: &mut Random) -> Vec<u8> {
+/// A transfer with clean control bytes, most often a good one, never over-long.
+pub fn clean_transfer(random: &mut Random) -> Vec<u8> {
     match random.below(16) {
         0 => with_undefined(random),
         1 => with_other_address(random),
@@ -188,6 +192,33 @@ pub fn transfer(random: &mut Random) -> Vec<u8> {
         3 => noise(random),
         4 if random.one_in(3) => Vec::new(),
         _ => good_transfer(random),
+    }
+}
+
+/// Some of bits 5 to 0, at least one.
+fn stray_bits(random: &mut Random) -> u8 {
+    let others = random.byte() & random.pick(&[0x00, 0x3F]);
+    1 << random.below(6) | others
+}
+
+/// A transfer of any kind with stray bits in some of its control bytes.
+pub fn stray_transfer(random: &mut Random) -> Vec<u8> {
+    let mut bytes = clean_transfer(random);
+    let rarity = random.between(1, 8);
+    for place in control_places(&bytes) {
+        if random.one_in(rarity) {
+            bytes[place] |= stray_bits(random);
+        }
+    }
+    bytes
+}
+
+/// A transfer, now and then with stray bits.
+pub fn transfer(random: &mut Random) -> Vec<u8> {
+    if random.one_in(12) {
+        stray_transfer(random)
+    } else {
+        clean_transfer(random)
     }
 }
 
@@ -222,7 +253,8 @@ fn push_record(log: &mut Vec<u8>, bytes: &[u8]) {
     log.extend(bytes);
 }
 
-pub fn good_log(random: &mut Random) -> Vec<u8> {
+/// A log of transfers that `make` makes.
+fn log_made_by(make: fn(&mut Random) -> Vec<u8>, random: &mut Random) -> Vec<u8> {
     let chips0 = random.below(5) as u8;
     let chips1 = random.below(5) as u8;
     let count = match random.below(10) {
@@ -230,8 +262,12 @@ pub fn good_log(random: &mut Random) -> Vec<u8> {
         1 => random.between(80, 140),
         _ => random.between(3, 40),
     };
-    let transfers: Vec<_> = (0..count).map(|_| transfer(random)).collect();
+    let transfers: Vec<_> = (0..count).map(|_| make(random)).collect();
     log_of(chips0, chips1, &transfers)
+}
+
+pub fn good_log(random: &mut Random) -> Vec<u8> {
+    log_made_by(clean_transfer, random)
 }
 
 /// A log with one fault: cut, a wrong length field, a wrong head, or a chip count over 4.
@@ -264,7 +300,7 @@ pub fn log_of_length(random: &mut Random, length: usize) -> Vec<u8> {
             let length = random.between(100, 900);
             transfer_of_length(random, length)
         } else {
-            transfer(random)
+            clean_transfer(random)
         };
         push_record(&mut log, &bytes);
     }
@@ -273,12 +309,21 @@ pub fn log_of_length(random: &mut Random, length: usize) -> Vec<u8> {
     log
 }
 
-/// A log of any kind, of at most some thousand bytes.
-pub fn log(random: &mut Random) -> Vec<u8> {
+/// A log with clean control bytes, of any kind, of at most some thousand bytes.
+pub fn clean_log(random: &mut Random) -> Vec<u8> {
     match random.below(20) {
         0 => log_with_long_transfer(random),
         1..=3 => damaged_log(random),
         _ => good_log(random),
+    }
+}
+
+/// A log of any kind; one in five has transfers with stray bits.
+pub fn log(random: &mut Random) -> Vec<u8> {
+    if random.one_in(5) {
+        log_made_by(transfer, random)
+    } else {
+        clean_log(random)
     }
 }
 

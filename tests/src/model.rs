@@ -1,4 +1,4 @@
-//! The model, bit by bit as paper 01 tells it, amended by request 3 of paper 02: the long account, the plain account and bus logs.
+//! The model, bit by bit as paper 01 tells it, amended by requests 3 and 7 of paper 02: the long account, the plain account and bus logs.
 
 /// Columns of one chip.
 pub const COLUMNS: usize = 160;
@@ -236,7 +236,7 @@ fn put_bit(column: &mut u8, row: usize, value: u8) {
 /// What a byte of a transfer is, after the address.
 #[derive(Clone, Copy, Debug, PartialEq, Eq)]
 enum Part {
-    Control,
+    Control(u8),
     Command(u8),
     Data(u8),
 }
@@ -247,7 +247,7 @@ fn parts(bytes: &[u8]) -> Vec<Part> {
     let mut at = 1;
     while at < bytes.len() {
         let control = bytes[at];
-        parts.push(Part::Control);
+        parts.push(Part::Control(control));
         let rest = &bytes[at + 1..];
         let length = if control & 0x80 == 0 {
             rest.len()
@@ -268,10 +268,21 @@ fn part(control: u8, byte: u8) -> Part {
     }
 }
 
-/// Place of the first undefined command.
-fn first_undefined(bytes: &[u8]) -> Option<usize> {
-    let undefined = |part: &Part| matches!(part, Part::Command(byte) if !defined(*byte));
-    parts(bytes).iter().position(undefined).map(|at| at + 1)
+/// A byte of a heard transfer at its place: an undefined command is refused, and a control byte with one of bits 5 to 0 set.
+fn check_part(part: Part, place: usize) -> Check {
+    match part {
+        Part::Command(byte) if !defined(byte) => Err((7, place)),
+        Part::Control(byte) if byte & 0x3F != 0 => Err((17, place)),
+        _ => Ok(()),
+    }
+}
+
+/// The walk through a heard transfer, in which the first wrong byte counts.
+fn check_parts(bytes: &[u8]) -> Check {
+    for (part, place) in parts(bytes).into_iter().zip(1..) {
+        check_part(part, place)?;
+    }
+    Ok(())
 }
 
 /// The group that an address byte calls.
@@ -365,8 +376,8 @@ pub fn transfer(
     let Some(group) = hearing_group(chips0, chips1, bytes) else {
         return Answer::taken([0; 3]);
     };
-    if let Some(place) = first_undefined(bytes) {
-        return refused((7, place));
+    if let Err(refusal) = check_parts(bytes) {
+        return refused(refusal);
     }
     let columns = &mut ram[group_range(chips0, chips1, group)];
     let set = &mut registers[SET * group..SET * group + SET];
@@ -381,7 +392,7 @@ fn carry_out(state: &mut Registers, columns: &mut [u8], bytes: &[u8]) -> [usize;
     let mut counts = [1, 0, 0];
     for part in parts(bytes) {
         match part {
-            Part::Control => counts[0] += 1,
+            Part::Control(_) => counts[0] += 1,
             Part::Command(byte) => {
                 counts[0] += 1;
                 state.obey(byte);
@@ -481,7 +492,7 @@ impl Chip {
     /// Takes one byte after the address; true if this chip acknowledges it.
     fn take(&mut self, part: Part) -> bool {
         match part {
-            Part::Control => true,
+            Part::Control(_) => true,
             Part::Command(byte) => {
                 self.registers.obey(byte);
                 true
@@ -519,7 +530,7 @@ fn check_plain(chips: &[Chip], bytes: &[u8]) -> Check {
     refuse_at(chips.iter().position(|chip| !chip.in_range()), 11)?;
     check_length(bytes)?;
     if chips.iter().any(|chip| chip.hears(bytes)) {
-        refuse_at(first_undefined(bytes), 7)?;
+        check_parts(bytes)?;
     }
     Ok(())
 }

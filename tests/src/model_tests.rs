@@ -1,5 +1,8 @@
 //! The paper's cases ("Both sides of each edge"), blinking, the worked log, refusals, and the two accounts compared.
 
+#[path = "control_tests.rs"]
+mod control;
+
 use super::*;
 use crate::{generate, random::Random};
 

@@ -1,6 +1,6 @@
 //! The commands: which bytes are any, and what each does to a group's registers.
 
-use super::{A, AB, B, BF, E, I, M, O, P, SET};
+use super::{Refusal, A, AB, B, BF, E, I, M, O, P, SET};
 
 const DEFINED: [bool; 256] = defined();
 
@@ -15,20 +15,29 @@ const fn defined() -> [bool; 256] {
     table
 }
 
-/// Place of the first undefined command; a data run ends the search.
-pub fn first_undefined(bytes: &[u8]) -> Option<usize> {
-    let undefined = |byte: &u8| !DEFINED[*byte as usize];
+/// The first undefined command or control byte with stray bits; a data run ends the search.
+pub fn check_bytes(bytes: &[u8]) -> Result<(), Refusal> {
     let mut at = 1;
     while at < bytes.len() {
         let rest = &bytes[at + 1..];
-        match bytes[at] >> 6 {
-            0 => return rest.iter().position(undefined).map(|place| at + 1 + place),
-            1 => return None,
-            2 if rest.first().is_some_and(undefined) => return Some(at + 1),
-            _ => at += 2,
+        match bytes[at] {
+            0x00 => return check_commands(rest, at + 1),
+            0x40 => return Ok(()),
+            0x80 => check_commands(&rest[..rest.len().min(1)], at + 1)?,
+            0xC0 => {}
+            _ => return Err((17, at)),
         }
+        at += 2;
     }
-    None
+    Ok(())
+}
+
+fn check_commands(commands: &[u8], at: usize) -> Result<(), Refusal> {
+    let undefined = |byte: &u8| !DEFINED[*byte as usize];
+    match commands.iter().position(undefined) {
+        Some(place) => Err((7, at + place)),
+        None => Ok(()),
+    }
 }
 
 pub fn obey(set: &mut [u8; SET], byte: u8) {

@@ -39,10 +39,8 @@ fn hearing_group(
         114 if chips[1] > 0 => 1,
         _ => return Ok(None),
     };
-    match commands::first_undefined(bytes) {
-        Some(place) => Err((7, place)),
-        None => Ok(Some(group)),
-    }
+    commands::check_bytes(bytes)?;
+    Ok(Some(group))
 }
 
 /// Goes from control byte to control byte; every part but data bytes is acknowledged.

@@ -26,6 +26,7 @@ pub fn number_of(refusal: Refusal) -> usize
         Refusal::LogHead => 12,
         Refusal::CutRecord(_) => 13,
         Refusal::LongLog => 14,
+        Refusal::StrayBits(_) => 17,
     }
 }
 
@@ -38,6 +39,7 @@ pub fn place_of(refusal: Refusal) -> usize
         Refusal::UndefinedCommand(at) => at,
         Refusal::ChipField(at) => at,
         Refusal::CutRecord(at) => at,
+        Refusal::StrayBits(at) => at,
         Refusal::EmptyTransfer => 0,
         Refusal::LongTransfer => 0,
         Refusal::ChipCount => 0,

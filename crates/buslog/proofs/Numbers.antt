@@ -4,7 +4,7 @@ use mathlib.Core.Path.{_≡_, refl}
 use mathlib.Core.Logic.{⊎-elim}
 use mathlib.Core.Bool.{Bool, true, false, _&&_}
 use mathlib.Core.List.{List, [], _∷_}
-use Prim.Native.Nat.{ℕ, zero, suc, _+_, _-_, _≤_, _<_}
+use Prim.Native.Nat.{ℕ, zero, suc, _+_, _-_, _%_, _≤_, _<_}
 use native.Mathlib.Omega.{arith}
 use lib.Dec.{leb, ltb, eqb}
 use lib.ListN.{length, getD, drop, length-take, length-drop}
@@ -16,7 +16,7 @@ use Rattle.sheet.specs.declared.Kind.{Kind}
 use Rattle.sheet.specs.declared.Expect.{Expect}
 use Rattle.sheet.specs.declared.Expect.the-variants.{Control, One, All}
 use Rattle.sheet.specs.declared.Refusal.{Refusal}
-use Rattle.sheet.specs.declared.Refusal.the-variants.{EmptyTransfer, LongTransfer, ChipCount, UndefinedCommand, LogHead, LongLog}
+use Rattle.sheet.specs.declared.Refusal.the-variants.{EmptyTransfer, LongTransfer, ChipCount, UndefinedCommand, LogHead, LongLog, StrayBits}
 use Rattle.sheet.specs.declared.Check.{Check}
 use Rattle.sheet.specs.declared.Check.the-variants.{Passed, Refused}
 use Rattle.sheet.specs.Refusals.{numberOf, placeOf, numbers}
@@ -56,7 +56,7 @@ kind-few Kind.Command i x h = unless-few (defined (commandOf x)) (UndefinedComma
 kind-few Kind.Data i x h = tt
 
 fault-few : (e : Expect) (i x : ℕ) → i ≤ 99999 → Few (fault pcf8532 e i x)
-fault-few Control i x h = tt
+fault-few Control i x h = unless-few (eqb (x % 64) 0) (StrayBits i) (omega arith)
 fault-few (One k) i x h = kind-few k i x h
 fault-few (All k) i x h = kind-few k i x h
 

@@ -32,7 +32,7 @@ pub extern "C" fn humtrellis_power_on(
     }
 }
 
-// A transfer of the long account, taken or refused by 3, 6, 4, 5, 1, 2, 7.
+// A transfer of the long account, taken or refused by 3, 6, 4, 5, 1, 2, then 7 and 17.
 #[no_mangle]
 pub extern "C" fn humtrellis_transfer(
     chips0: u8,
@@ -123,7 +123,7 @@ pub extern "C" fn humtrellis_chip_picture(
     }
 }
 
-// A transfer to a list of chips, taken or refused by 10, 11, 1, 2, 7.
+// A transfer to a list of chips, taken or refused by 10, 11, 1, 2, then 7 and 17.
 #[no_mangle]
 pub extern "C" fn humtrellis_plain_transfer(
     chips: &mut [u8],

@@ -60,7 +60,7 @@ fn unheard(registers: Both) -> Transferred
     }
 }
 
-// A transfer, START to STOP, taken or refused by 3, 6, 4, 5, 1, 2, 7.
+// A transfer, START to STOP, taken or refused by 3, 6, 4, 5, 1, 2, then 7 and 17.
 pub fn transfer(chips: Chips, registers: Both, ram: &mut [u8], bytes: &[u8]) -> Transferred
     ensures { λ r. ⌜ record { result = r; ram = now (ram .exit) } ≡ transferCall pcf8532 chips registers (now (ram .entry)) (now (bytes .entry)) ⌝ }
     ensures { λ r. ⌜ numbers (r .answer) ≡ numbers (transferCall pcf8532 chips registers (now (ram .entry)) (now (bytes .entry)) .result .answer) ⌝ }

@@ -14,7 +14,7 @@ use Rattle.sheet.specs.Checks.{unless, orElse, checkLength, passed, faultIn}
 use Rattle.plain.specs.declared.Turn.{Turn}
 use Rattle.plain.specs.declared.Start.{Start}
 
--- 11, 1, 2, 7
+-- 11, 1, 2, then 7 and 17
 abbrev pub checkOf : List ℕ → ℕ → ℕ → ℕ → Check
 checkOf bytes count misfit hearer =
     orElse (unless (leb count misfit) (ChipField misfit))

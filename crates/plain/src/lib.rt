@@ -247,7 +247,7 @@ fn many_chips() -> PlainAnswer
     PlainAnswer::Refused(Refusal::ManyChips)
 }
 
-// A transfer, START to STOP, taken or refused by 10, 11, 1, 2, 7. Of more than eight chips none is looked at.
+// A transfer, START to STOP, taken or refused by 10, 11, 1, 2, then 7 and 17. Of more than eight chips none is looked at.
 pub fn transfer(chips: &mut [Chip], bytes: &[u8]) -> PlainAnswer
     ensures { λ r. ⌜ (r ≡ plainCall pcf8532 (now (chips .entry)) (now (bytes .entry)) .answer) × (plainNumbers r ≡ plainNumbers (plainCall pcf8532 (now (chips .entry)) (now (bytes .entry)) .answer)) ⌝ }
     ensures { λ _. ⌜ now (chips .exit) ≡ plainCall pcf8532 (now (chips .entry)) (now (bytes .entry)) .chips ⌝ }
@@ -284,7 +284,7 @@ fn transfer_first(bytes: &[u8], bench: Bench) -> BenchTransferred
     }
 }
 
-// The same, taken or refused by 10, 11, 1, 2, 7; a count over eight is refused by 10.
+// The same, taken or refused by 10, 11, 1, 2, then 7 and 17; a count over eight is refused by 10.
 pub fn transfer_bench(bench: Bench, bytes: &[u8]) -> BenchTransferred
     ensures { λ r. ⌜ r ≡ benchTransferred bench (now (bytes .entry)) ⌝ }
     ensures { λ r. ⌜ plainNumbers (r .answer) ≡ plainNumbers (benchTransferred bench (now (bytes .entry)) .answer) ⌝ }

@@ -68,7 +68,7 @@ fn fault(expect: Expect, i: usize, byte: u8) -> Check
     ensures { λ r. ⌜ r ≡ fault pcf8532 expect i byte ⌝ }
 {
     match expect {
-        Expect::Control => Check::Passed,
+        Expect::Control => checks::unless(byte % 64 == 0, Refusal::StrayBits(i)),
         Expect::One(kind) => fault_of(kind, i, byte),
         Expect::All(kind) => fault_of(kind, i, byte),
     }

@@ -69,7 +69,7 @@ fn check_bytes(chips: Chips, bytes: &[u8]) -> Check
     }
 }
 
-// A transfer: 3, 6, 4, 5, 1, 2, 7.
+// A transfer: 3, 6, 4, 5, 1, 2, then 7 and 17.
 pub fn check_transfer(chips: Chips, registers: Both, ram: &[u8], bytes: &[u8]) -> Check
     ensures { λ r. ⌜ r ≡ checkTransfer pcf8532 chips registers (now (ram .entry)) (now (bytes .entry)) ⌝ }
 {

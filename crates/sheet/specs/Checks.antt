@@ -1,5 +1,5 @@
 -- Which calls are refused, and in which order (paper 01, "Refusal numbers").
-use Prim.Native.Nat.{ℕ, suc, _+_, _*_}
+use Prim.Native.Nat.{ℕ, suc, _+_, _*_, _%_}
 use mathlib.Core.Bool.{Bool, cond, _&&_}
 use mathlib.Core.List.{List, [], _∷_}
 use lib.Dec.{eqb, ltb, leb}
@@ -12,7 +12,7 @@ use Rattle.sheet.specs.declared.Kind.{Kind}
 use Rattle.sheet.specs.declared.Expect.{Expect}
 use Rattle.sheet.specs.declared.Expect.the-variants.{Control, One, All}
 use Rattle.sheet.specs.declared.Refusal.{Refusal}
-use Rattle.sheet.specs.declared.Refusal.the-variants.{EmptyTransfer, LongTransfer, ChipCount, RamLength, RamByte, Register, UndefinedCommand, GroupOrPhase, PictureLength}
+use Rattle.sheet.specs.declared.Refusal.the-variants.{EmptyTransfer, LongTransfer, ChipCount, RamLength, RamByte, Register, UndefinedCommand, GroupOrPhase, PictureLength, StrayBits}
 use Rattle.sheet.specs.declared.Check.{Check}
 use Rattle.sheet.specs.declared.Check.the-variants.{Passed, Refused}
 use Rattle.sheet.specs.Parts.{Part}
@@ -60,8 +60,9 @@ abbrev pub faultOf : Part → Kind → ℕ → ℕ → Check
 faultOf K Kind.Command i x = unless (defined (K .command x)) (UndefinedCommand i)
 faultOf K Kind.Data i x = Passed
 
+-- a control byte's bits 5 to 0 are zero (paper 02, request 7)
 abbrev pub fault : Part → Expect → ℕ → ℕ → Check
-fault K Control i x = Passed
+fault K Control i x = unless (eqb (x % 64) 0) (StrayBits i)
 fault K (One k) i x = faultOf K k i x
 fault K (All k) i x = faultOf K k i x
 
@@ -70,7 +71,7 @@ unfoldable pub faultIn : Part → Expect → ℕ → List ℕ → Check
 faultIn K e i [] = Passed
 faultIn K e i (x ∷ xs) = orElse (fault K e i x) (faultIn K (next e x) (suc i) xs)
 
--- 7: only a transfer that a chip hears is looked at
+-- 7 and 17, whichever byte comes first: only a transfer that a chip hears is looked at
 abbrev pub checkBytes : Part → Addressed → List ℕ → Check
 checkBytes K (To g) bytes = faultIn K Control 1 (drop 1 bytes)
 checkBytes K Nobody bytes = Passed
@@ -85,7 +86,7 @@ checkState K n r ram = orElse (checkChips K n) (orElse (checkRegisters K r) (che
 unfoldable pub checkPowerOn : Part → Chips → List ℕ → Check
 checkPowerOn K n ram = orElse (checkChips K n) (checkRam K n ram)
 
--- transfer: 3, 6, 4, 5, 1, 2, 7
+-- transfer: 3, 6, 4, 5, 1, 2, then 7 and 17
 unfoldable pub checkTransfer : Part → Chips → Both → List ℕ → List ℕ → Check
 checkTransfer K n r ram bytes =
     orElse (checkState K n r ram) (orElse (checkLength (length bytes)) (checkBytes K (heardBy n (getD bytes 0 0)) bytes))

@@ -17,6 +17,7 @@ pub mod Lands
 pub mod Pointing
 pub mod Starred
 pub mod Blinking
+pub mod Stray
 pub mod Landing
 pub mod Orders
 pub mod Worked

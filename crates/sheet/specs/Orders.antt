@@ -66,22 +66,25 @@ ram many long over = replicate 2 0 ++ (cond over 16 0 ∷ replicate (cond many 9
 abbrev both : Bool → Both
 both bad = record { zero = powerOn; one = record { e = 0; b = 0; m = cond bad 4 0; p = 0; a = 0; i = 0; o = 0; ab = 0; bf = 0 } }
 
--- a command 00, or 0A
-abbrev commands : Bool → List ℕ
-commands undefined = 0x70 ∷ 0x00 ∷ cond undefined 0x0A 0x00 ∷ []
+-- a control byte 80, or 81; a command 00, or 0A, further on
+abbrev commands : Bool → Bool → List ℕ
+commands stray undefined = 0x70 ∷ cond stray 0x81 0x80 ∷ 0x00 ∷ 0x00 ∷ cond undefined 0x0A 0x00 ∷ []
 
 -- no bytes, or 4,097
 abbrev empty : Bool → List ℕ → List ℕ
 empty none bytes = cond none [] bytes
 
 abbrev over4096 : Bool → List ℕ → List ℕ
-over4096 more bytes = bytes ++ cond more (replicate 4094 0) []
+over4096 more bytes = bytes ++ cond more (replicate 4092 0) []
+
+abbrev bytes : List Fault
+bytes = refusal 17 1 ∷ refusal 7 4 ∷ []
 
 abbrev state : List Fault
 state = refusal 3 0 ∷ refusal 6 0 ∷ refusal 4 0 ∷ refusal 5 2 ∷ []
 
 abbrev sent : (Bool → List ℕ → List ℕ) → List Bool → List ℕ
-sent length f = numbers (transferCall pcf8532 (chips (is f 0)) (both (is f 1)) (ram (is f 0) (is f 2) (is f 3)) (length (is f 4) (commands (is f 5))) .result .answer)
+sent length f = numbers (transferCall pcf8532 (chips (is f 0)) (both (is f 1)) (ram (is f 0) (is f 2) (is f 3)) (length (is f 4) (commands (is f 5) (is f 6))) .result .answer)
 
 abbrev shownTo : (Bool → ℕ) → (Bool → ℕ) → List Bool → List ℕ
 shownTo group phase f =
@@ -90,7 +93,7 @@ shownTo group phase f =
 abbrev pub long : Bool
 long =
     inOrder (refusal 3 0 ∷ refusal 4 0 ∷ refusal 5 2 ∷ []) (λ f. checkNumbers (powerOnCall pcf8532 (chips (is f 0)) (ram (is f 0) (is f 1) (is f 2)) .check))
-    && (inOrder (state ++ (refusal 1 0 ∷ refusal 7 2 ∷ [])) (sent empty) && (inOrder (state ++ (refusal 2 0 ∷ refusal 7 2 ∷ [])) (sent over4096)
+    && (inOrder (state ++ (refusal 1 0 ∷ bytes)) (sent empty) && (inOrder (state ++ (refusal 2 0 ∷ bytes)) (sent over4096)
     && (inOrder (state ++ (refusal 8 0 ∷ refusal 9 0 ∷ [])) (shownTo (λ bad. cond bad 2 0) (λ bad. 0))
     && inOrder (state ++ (refusal 8 0 ∷ refusal 9 0 ∷ [])) (shownTo (λ bad. 0) (λ bad. cond bad 2 0)))))
 
@@ -103,12 +106,12 @@ abbrev list : Bool → Bool → List Chip
 list many misfit = chip 0 ∷ chip (cond misfit 4 1) ∷ cond many (replicate 7 (chip 2)) []
 
 abbrev called : (Bool → List ℕ → List ℕ) → List Bool → List ℕ
-called length f = plainNumbers (plainCall pcf8532 (list (is f 0) (is f 1)) (length (is f 2) (commands (is f 3))) .answer)
+called length f = plainNumbers (plainCall pcf8532 (list (is f 0) (is f 1)) (length (is f 2) (commands (is f 3) (is f 4))) .answer)
 
 abbrev pub plain : Bool
 plain =
-    inOrder (refusal 10 0 ∷ refusal 11 1 ∷ refusal 1 0 ∷ refusal 7 2 ∷ []) (called empty)
-    && (inOrder (refusal 10 0 ∷ refusal 11 1 ∷ refusal 2 0 ∷ refusal 7 2 ∷ []) (called over4096)
+    inOrder (refusal 10 0 ∷ refusal 11 1 ∷ refusal 1 0 ∷ bytes) (called empty)
+    && (inOrder (refusal 10 0 ∷ refusal 11 1 ∷ refusal 2 0 ∷ bytes) (called over4096)
     && (inOrder (refusal 11 0 ∷ []) (λ f. checkNumbers (chipPowerOn pcf8532 (chip (cond (is f 0) 4 1)) .check))
     && inOrder (refusal 11 0 ∷ refusal 8 0 ∷ refusal 9 0 ∷ [])
     (λ f. pictureNumbers (chipPictureCall pcf8532 (chip (cond (is f 0) 4 1)) (cond (is f 1) 2 0) (replicate (160 + cond (is f 2) 1 0) 0) .result))))

@@ -145,7 +145,7 @@ unfoldable pub misfitIn : Part → ℕ → List Chip → Check
 misfitIn K i [] = Passed
 misfitIn K i (c ∷ cs) = cond (chipFits K c) (misfitIn K (suc i) cs) (Refused (ChipField i))
 
--- 10, 11, 1, 2, 7. At most eight chips: two groups of the limit
+-- 10, 11, 1, 2, then 7 and 17. At most eight chips: two groups of the limit
 unfoldable pub checkPlain : Part → List Chip → List ℕ → Check
 checkPlain K cs bytes =
     orElse (unless (leb (length cs) (2 * K .limit)) ManyChips)

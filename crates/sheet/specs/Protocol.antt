@@ -25,7 +25,7 @@ chipsIn g n = cond (eqb g 0) (n .zero) (n .one)
 abbrev pub kindOf : ℕ → Kind
 kindOf x = cond (eqb (x / 64 % 2) 1) Kind.Data Kind.Command
 
--- what follows a control byte: Co is bit 7, and the rest is ignored. After Co = 1 one byte, after Co = 0 all that are left
+-- what follows a control byte: Co is bit 7. After Co = 1 one byte, after Co = 0 all that are left
 unfoldable pub controlOf : ℕ → Expect
 controlOf x = cond (eqb (x / 128 % 2) 1) (One (kindOf x)) (All (kindOf x))
 

@@ -59,6 +59,7 @@ pub enum Refusal {
     LogHead,
     CutRecord(usize),
     LongLog,
+    StrayBits(usize),
 }
 
 pub enum Check {

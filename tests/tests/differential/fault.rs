@@ -110,9 +110,10 @@ fn wrong_columns(random: &mut Random, case: &mut Case) {
 }
 
 fn wrong_transfer(random: &mut Random, case: &mut Case) {
-    case.bytes = match random.below(3) {
+    case.bytes = match random.below(4) {
         0 => vec![],
         1 => generate::long_transfer(random),
+        2 => generate::stray_transfer(random),
         _ => random.bytes(20),
     };
 }

@@ -6,6 +6,7 @@ compile_error!("target/staticlib/libcabi.a is missing: run rt staticlib cabi fir
 
 mod case;
 mod chip;
+mod control;
 mod fault;
 mod library;
 mod orders;

@@ -48,24 +48,30 @@ fn power_on() {
     }
 }
 
+/// Transfers to group 0 or to nobody, and what refuses each.
+pub fn transfers() -> Vec<(Vec<u8>, u8)> {
+    let undefined = vec![0x70, 0x80, 0x01, 0x00, 0xE4, 0xFC];
+    let stray = vec![0x70, 0x80, 0x01, 0x01];
+    let too_long = |start: &[u8]| [start, &vec![0xFF; 4097 - start.len()]].concat();
+    vec![
+        (vec![0x70], 0),
+        (vec![], 1),
+        (too_long(&undefined), 2),
+        (too_long(&stray), 2),
+        (vec![0x71; 4097], 2),
+        (undefined, 7),
+        (stray, 17),
+        (vec![0x71, 0x00, 0xFF], 0),
+        (vec![0x71, 0x3F], 0),
+    ]
+}
+
 #[test]
 fn transfer() {
-    let undefined = [0x70, 0x80, 0x01, 0x00, 0xE4, 0xFC];
-    let unheard = [0x71, 0x00, 0xFF];
-    let too_long = [&undefined[..], &[0xFF; 4091]].concat();
-    let too_long_unheard = [0x71; 4097];
-    let transfers: [(&[u8], u8); 6] = [
-        (&[0x70], 0),
-        (&[], 1),
-        (&too_long, 2),
-        (&too_long_unheard, 2),
-        (&undefined, 7),
-        (&unheard, 0),
-    ];
     for faults in 0..16 {
-        for (bytes, number) in transfers {
+        for (bytes, number) in transfers() {
             let mut case = bus_with(faults);
-            case.bytes = bytes.to_vec();
+            case.bytes = bytes;
             let expected = refusal_of_bus(faults, true).unwrap_or(number);
             assert_eq!(case.compare(Call::Transfer), expected);
         }

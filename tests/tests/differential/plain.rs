@@ -1,7 +1,7 @@
 //! The plain account: transfers over chips of 171 bytes.
 
 use crate::library;
-use crate::{fault, for_seeds};
+use crate::{fault, for_seeds, orders};
 use humtrellis_tests::model::{self, Chip, Registers, COLUMNS};
 use humtrellis_tests::random::Random;
 
@@ -35,12 +35,16 @@ fn by_model(chips: &mut [u8], sent: &[u8], answer: &mut [usize]) -> u8 {
 
 /// Makes the call both ways on `chips` and holds all results together.
 pub fn compare(chips: &mut [u8], sent: &[u8], answer_length: usize) -> u8 {
+    compare_into(chips, sent, &mut vec![77; answer_length])
+}
+
+/// The same, with the answer in the caller's buffer.
+pub fn compare_into(chips: &mut [u8], sent: &[u8], answer: &mut [usize]) -> u8 {
     let given = chips.to_vec();
     let mut others = chips.to_vec();
-    let mut answer = vec![77; answer_length];
-    let mut expected = answer.clone();
+    let mut expected = answer.to_vec();
     let mut lent = sent.to_vec();
-    let number = library::plain_transfer(chips, &mut lent, &mut answer);
+    let number = library::plain_transfer(chips, &mut lent, answer);
     let expected_number = by_model(&mut others, sent, &mut expected);
     let same = number == expected_number && answer == expected && *chips == others && lent == sent;
     assert!(
@@ -100,26 +104,16 @@ fn plain_damaged() {
     });
 }
 
-/// Every set of faults at once: 10, 11, 1, 2, 7.
+/// Every set of faults at once: 10, 11, 1, 2, then 7 and 17.
 #[test]
 fn plain_orders() {
-    let undefined = [0x70, 0x80, 0x01, 0x00, 0xE4, 0xFC];
-    let too_long = [&undefined[..], &[0xFF; 4091]].concat();
-    let transfers: [(&[u8], u8); 6] = [
-        (&[0x70], 0),
-        (&[], 1),
-        (&too_long, 2),
-        (&[0x71; 4097], 2),
-        (&undefined, 7),
-        (&[0x71, 0x00, 0xFF], 0),
-    ];
     for (count, many) in [(1, 0), (8, 0), (9, 10), (10, 10)] {
         for (value, misfit) in [(0, 0), (9, 11)] {
-            for (sent, number) in transfers {
+            for (sent, number) in orders::transfers() {
                 let mut chips = vec![0; count * CHIP];
                 chips[count * CHIP - 1] = value;
                 let expected = [many, misfit, number].into_iter().find(|&n| n != 0);
-                assert_eq!(compare(&mut chips, sent, 5), expected.unwrap_or(0));
+                assert_eq!(compare(&mut chips, &sent, 5), expected.unwrap_or(0));
             }
         }
     }

@@ -29,6 +29,16 @@ fn replay_paper() {
     }
 }
 
+/// The paper's log with each bit turned: of its head, its lengths, its control bytes, commands and data.
+#[test]
+fn replay_every_bit() {
+    for bit in 0..8 * generate::WORKED_LOG.len() {
+        let mut log = generate::WORKED_LOG;
+        log[bit / 8] ^= 1 << (bit % 8);
+        compare(&log);
+    }
+}
+
 /// One byte less is refused with 0 and nothing is written.
 #[test]
 fn replay_small_buffer() {

@@ -8,6 +8,9 @@ use borrow.Author.Needs.{needs}
 use Rattle.protocol.proofs.fault.Statement.{statement}
 use Rattle.protocol.proofs.fault.Tie as tie
 
+returns : tie.Need-returns
+returns c = rw (c .before .enum-told .given .1) (c .unless .ensures)
+
 returns-2 : tie.Need-returns-2
 returns-2 c = let a = c .before .before .before .before .args in
     c .fault-of .ensures ∙ sym (ap (λ (e : Expect). fault pcf8532 e (a .i) (a .byte)) (c .before .before .expect .given .1))
@@ -21,10 +24,11 @@ fault-spec =
     tie.close
     (tie.spec
     (λ c. search needs)
-    (λ c. search needs)
     (λ c κs. search needs)
     (λ c. search needs)
     (λ c κs. search needs)
     (λ c. search needs)
+    (λ c κs. search needs)
+    returns
     returns-2
     returns-3)
