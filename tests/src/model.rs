@@ -1,5 +1,7 @@
 //! The model, bit by bit as paper 01 tells it, amended by requests 3 and 7 of paper 02: the long account, the plain account and bus logs.
 
+/// Numbers of an answer.
+pub const ANSWER: usize = 5;
 /// Columns of one chip.
 pub const COLUMNS: usize = 160;
 /// Bytes of one register set.
@@ -29,8 +31,8 @@ impl Answer {
         }
     }
 
-    /// The five numbers in the order of the C interface.
-    pub fn numbers(self) -> [usize; 5] {
+    /// The numbers in the order of the C interface.
+    pub fn numbers(self) -> [usize; ANSWER] {
         let [x, y, z] = self.counts;
         [self.number, self.place, x, y, z]
     }

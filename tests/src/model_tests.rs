@@ -22,12 +22,12 @@ impl Bus {
         }
     }
 
-    fn send(&mut self, bytes: &[u8]) -> [usize; 5] {
+    fn send(&mut self, bytes: &[u8]) -> [usize; ANSWER] {
         transfer(self.chips, 0, &mut self.registers, &mut self.ram, bytes).numbers()
     }
 
     /// Sends commands one by one, then data; gives the answer.
-    fn set_and_send(&mut self, commands: &[u8], data: &[u8]) -> [usize; 5] {
+    fn set_and_send(&mut self, commands: &[u8], data: &[u8]) -> [usize; ANSWER] {
         self.send(&generate::commands_then_data(112, commands, data))
     }
 
@@ -46,7 +46,7 @@ impl Bus {
     }
 
     /// Shows the group in a buffer that was all 9.
-    fn show(&self, phase: u8) -> ([usize; 5], Vec<u8>) {
+    fn show(&self, phase: u8) -> ([usize; ANSWER], Vec<u8>) {
         let view = View {
             chips0: self.chips,
             chips1: 0,
@@ -60,7 +60,7 @@ impl Bus {
     }
 
     /// Shows each chip alone, in buffers that were all 9.
-    fn show_chips(&self, phase: u8) -> Vec<([usize; 5], Vec<u8>)> {
+    fn show_chips(&self, phase: u8) -> Vec<([usize; ANSWER], Vec<u8>)> {
         let chips = plain_chips([self.chips, 0], &self.registers, &self.ram);
         let show = |chip| {
             let mut out = vec![9; COLUMNS];

@@ -2,13 +2,12 @@
 //! Safety of every call: the refusal comes before a byte behind the false length is read or written; the other lengths are true.
 
 use crate::library::*;
+use crate::plain::CHIP;
 use humtrellis_tests::header::text_room;
+use humtrellis_tests::model::{ANSWER, COLUMNS};
 
 /// More than is mapped behind any buffer here.
 const FALSE: usize = 1 << 44;
-
-const COLUMNS: usize = 160;
-const CHIP: usize = 171;
 
 /// One chip, and the lengths that are told of its buffers.
 struct Bus {
@@ -17,7 +16,7 @@ struct Bus {
     ram_length: usize,
     bytes_length: usize,
     out_length: usize,
-    answer: [usize; 5],
+    answer: [usize; ANSWER],
 }
 
 impl Bus {
@@ -28,7 +27,7 @@ impl Bus {
             ram_length: COLUMNS,
             bytes_length: 2,
             out_length: COLUMNS,
-            answer: [77; 5],
+            answer: [77; ANSWER],
         }
     }
 
@@ -49,7 +48,7 @@ impl Bus {
                 r.as_mut_ptr(),
                 18,
                 a.as_mut_ptr(),
-                5,
+                ANSWER,
             )
         };
         self.refused(number, expected);
@@ -69,7 +68,7 @@ impl Bus {
                 bytes.as_ptr(),
                 self.bytes_length,
                 a.as_mut_ptr(),
-                5,
+                ANSWER,
             )
         };
         self.refused(number, expected);
@@ -91,7 +90,7 @@ impl Bus {
                 out.as_mut_ptr(),
                 self.out_length,
                 a.as_mut_ptr(),
-                5,
+                ANSWER,
             )
         };
         self.refused(number, expected);
@@ -138,13 +137,14 @@ fn stops_at_list_transfer_and_picture_of_chips() {
     for (chips, length, expected) in [(FALSE / CHIP * CHIP, 2, 10), (CHIP, FALSE, 2)] {
         let a = bus.answer.as_mut_ptr();
         let number = unsafe {
-            humtrellis_plain_transfer(chip.as_mut_ptr(), chips, bytes.as_ptr(), length, a, 5)
+            humtrellis_plain_transfer(chip.as_mut_ptr(), chips, bytes.as_ptr(), length, a, ANSWER)
         };
         bus.refused(number, expected);
     }
     let a = bus.answer.as_mut_ptr();
-    let number =
-        unsafe { humtrellis_chip_picture(chip.as_ptr(), CHIP, 0, out.as_mut_ptr(), FALSE, a, 5) };
+    let number = unsafe {
+        humtrellis_chip_picture(chip.as_ptr(), CHIP, 0, out.as_mut_ptr(), FALSE, a, ANSWER)
+    };
     bus.refused(number, 9);
     assert_eq!(out, [0xEE; COLUMNS]);
 }
