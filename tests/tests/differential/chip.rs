@@ -167,7 +167,7 @@ fn chip_power_on_registers() {
         assert_eq!(call.power_on(), number);
         assert_eq!(call.chip[..COLUMNS + 2], chip[..COLUMNS + 2]);
         assert_eq!(call.chip[COLUMNS + 2..], [0; 9]);
-        assert_eq!(call.answer, [number as usize, 0, 0, 0, 0]);
+        assert_eq!(call.answer, [number as usize, 0, 0, 0, 0, 0]);
     }
 }
 

@@ -4,7 +4,7 @@
 use crate::library::*;
 use crate::plain::CHIP;
 use humtrellis_tests::header::text_room;
-use humtrellis_tests::model::{ANSWER, COLUMNS};
+use humtrellis_tests::model::{ANSWER, COLUMNS, NONE};
 
 /// More than is mapped behind any buffer here.
 const FALSE: usize = 1 << 44;
@@ -31,10 +31,10 @@ impl Bus {
         }
     }
 
-    /// A call that is refused by this number, with place 0.
-    fn refused(&self, number: u8, expected: u8) {
+    /// A call that is refused by this number, with place 0; only a transfer has a chip, and that is none.
+    fn refused(&self, number: u8, expected: u8, chip: usize) {
         assert_eq!(number, expected);
-        assert_eq!(self.answer, [expected.into(), 0, 0, 0, 0]);
+        assert_eq!(self.answer, [expected.into(), 0, 0, 0, 0, chip]);
     }
 
     fn power_on(&mut self, expected: u8) {
@@ -51,7 +51,7 @@ impl Bus {
                 ANSWER,
             )
         };
-        self.refused(number, expected);
+        self.refused(number, expected, 0);
     }
 
     fn transfer(&mut self, expected: u8) {
@@ -71,7 +71,7 @@ impl Bus {
                 ANSWER,
             )
         };
-        self.refused(number, expected);
+        self.refused(number, expected, NONE);
     }
 
     fn picture(&mut self, expected: u8) {
@@ -93,7 +93,7 @@ impl Bus {
                 ANSWER,
             )
         };
-        self.refused(number, expected);
+        self.refused(number, expected, 0);
         assert_eq!(out, [0xEE; COLUMNS]);
     }
 }
@@ -139,13 +139,13 @@ fn stops_at_list_transfer_and_picture_of_chips() {
         let number = unsafe {
             humtrellis_plain_transfer(chip.as_mut_ptr(), chips, bytes.as_ptr(), length, a, ANSWER)
         };
-        bus.refused(number, expected);
+        bus.refused(number, expected, NONE);
     }
     let a = bus.answer.as_mut_ptr();
     let number = unsafe {
         humtrellis_chip_picture(chip.as_ptr(), CHIP, 0, out.as_mut_ptr(), FALSE, a, ANSWER)
     };
-    bus.refused(number, 9);
+    bus.refused(number, 9, 0);
     assert_eq!(out, [0xEE; COLUMNS]);
 }
 
