@@ -27,7 +27,7 @@
 #define HUMTRELLIS_SET 9       /* registers of a group or a chip; group 1's begin at this index */
 #define HUMTRELLIS_REGISTERS 18
 #define HUMTRELLIS_ANSWER 6
-#define HUMTRELLIS_NONE 4 /* what acknowledged by says where no chip did */
+#define HUMTRELLIS_NONE 4 /* what HUMTRELLIS_ACKNOWLEDGED_BY holds where no chip did */
 #define HUMTRELLIS_SIZE 255
 #define HUMTRELLIS_TEXT 700000 /* bytes that hold the text of any log */
 
