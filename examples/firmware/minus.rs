@@ -34,7 +34,7 @@ fn main() {
         (on, sent)
     };
     assert_eq!(taken, (0, 0));
-    assert_eq!(answer, [0, 0, 12, 16, 0]);
+    assert_eq!(answer, [0, 0, 12, 16, 0, 1]);
     assert_eq!(ram[160], 4, "the minus bar is row 2 of column 160");
     println!(
         "ok: {} bytes acknowledged, {} bits stored, the minus bar is set",
