@@ -6,7 +6,7 @@
  * Registers   18 bytes: group 0's nine, then group 1's, each in the order of enum humtrellis_register.
  * Plain chip  171 bytes: its 160 columns, SA0 (0 or 1), subaddress (0 to 3) and nine registers.
  * Picture     160 bytes for each chip of the group shown. A byte is a column; bit r is the element on backplane r.
- * Answer      five numbers, in the order of enum humtrellis_answer.
+ * Answer      six numbers, in the order of enum humtrellis_answer.
  *
  * Every call but humtrellis_replay returns its answer's first number: 0 for taken, else the refusal.
  * A refused call writes its answer and nothing else; a refused power-on writes the power-on registers too.
@@ -22,10 +22,12 @@
 #include <stddef.h>
 #include <stdint.h>
 
+#define HUMTRELLIS_VERSION 2    /* of these sizes and calls; docs/C.md says what changed */
 #define HUMTRELLIS_COLUMNS 160 /* of a chip: its bytes in the RAM and in a picture */
 #define HUMTRELLIS_SET 9       /* registers of a group or a chip; group 1's begin at this index */
 #define HUMTRELLIS_REGISTERS 18
-#define HUMTRELLIS_ANSWER 5
+#define HUMTRELLIS_ANSWER 6
+#define HUMTRELLIS_NONE 4 /* what HUMTRELLIS_ACKNOWLEDGED_BY holds where no chip did */
 #define HUMTRELLIS_SIZE 255
 #define HUMTRELLIS_TEXT 700000 /* bytes that hold the text of any log */
 
@@ -54,7 +56,8 @@ enum humtrellis_answer {
     HUMTRELLIS_ACKNOWLEDGED = 2, /* bytes; a transfer and a plain transfer */
     HUMTRELLIS_LIT = 2,          /* elements; a picture */
     HUMTRELLIS_STORED = 3,       /* bits; a transfer */
-    HUMTRELLIS_DISCARDED = 4     /* bits past the group's last chip; a transfer */
+    HUMTRELLIS_DISCARDED = 4,    /* bits past the group's last chip; a transfer */
+    HUMTRELLIS_ACKNOWLEDGED_BY = 5 /* the subaddress that acknowledged the last data byte of a transfer or plain transfer; HUMTRELLIS_NONE where none did, there is no data, or it is refused */
 };
 
 /* What a call returns. */
@@ -85,19 +88,19 @@ extern "C" {
 uint8_t humtrellis_power_on(uint8_t chips0, uint8_t chips1, const uint8_t *ram, size_t ram_length,
                             uint8_t *registers, size_t registers_length, size_t *answer, size_t answer_length);
 
-/* One transfer, START to STOP, address byte first: changes registers and RAM. Answer: number, place, acknowledged, stored, discarded.
+/* One transfer, START to STOP, address byte first: changes registers and RAM. Answer: number, place, acknowledged, stored, discarded, acknowledged by.
  * Refusals: 3, 6, 4, 5, 1, 2, then 7 or 17 by the first faulty byte. */
 uint8_t humtrellis_transfer(uint8_t chips0, uint8_t chips1, uint8_t *registers, size_t registers_length,
                             uint8_t *ram, size_t ram_length, const uint8_t *bytes, size_t bytes_length,
                             size_t *answer, size_t answer_length);
 
-/* The lit elements of a group (0 or 1) at a blink phase (0 or 1) into `out`. Answer: number, place, lit, 0, 0. Refusals: 3, 6, 4, 5, 8, 9. */
+/* The lit elements of a group (0 or 1) at a blink phase (0 or 1) into `out`. Answer: number, place, lit, 0, 0, 0. Refusals: 3, 6, 4, 5, 8, 9. */
 uint8_t humtrellis_picture(uint8_t chips0, uint8_t chips1, const uint8_t *registers, size_t registers_length,
                            const uint8_t *ram, size_t ram_length, uint8_t group, uint8_t phase,
                            uint8_t *out, size_t out_length, size_t *answer, size_t answer_length);
 
 /* One transfer to a list of 0 to 8 plain chips, each of which follows every byte by itself; gaps and repeated subaddresses are allowed.
- * Answer: number, place, acknowledged (a byte counts once), 0, 0. Refusals: 10, 11, 1, 2, then 7 or 17 by the first faulty byte. */
+ * Answer: number, place, acknowledged (a byte counts once), 0, 0, acknowledged by (the smallest subaddress that did). Refusals: 10, 11, 1, 2, then 7 or 17 by the first faulty byte. */
 uint8_t humtrellis_plain_transfer(uint8_t *chips, size_t chips_length, const uint8_t *bytes, size_t bytes_length,
                                   size_t *answer, size_t answer_length);
 
@@ -105,7 +108,7 @@ uint8_t humtrellis_plain_transfer(uint8_t *chips, size_t chips_length, const uin
  * Refusal: 11 with place 0, for SA0, subaddress or a column. */
 uint8_t humtrellis_chip_power_on(uint8_t *chip, size_t chip_length, size_t *answer, size_t answer_length);
 
-/* The lit elements of one plain chip at a blink phase into 160 bytes. Answer: number, place, lit, 0, 0. Refusals: 11 with place 0, 8, 9. */
+/* The lit elements of one plain chip at a blink phase into 160 bytes. Answer: number, place, lit, 0, 0, 0. Refusals: 11 with place 0, 8, 9. */
 uint8_t humtrellis_chip_picture(const uint8_t *chip, size_t chip_length, uint8_t phase,
                                 uint8_t *out, size_t out_length, size_t *answer, size_t answer_length);
 

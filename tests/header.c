@@ -89,11 +89,12 @@ static void answers(void) {
     EXPECT(power_on() == HUMTRELLIS_TAKEN);
     EXPECT(send(past_the_end, sizeof past_the_end) == HUMTRELLIS_TAKEN);
     EXPECT(answer[HUMTRELLIS_ACKNOWLEDGED] == 8 && answer[HUMTRELLIS_STORED] == 3 && answer[HUMTRELLIS_DISCARDED] == 5);
+    EXPECT(answer[HUMTRELLIS_ACKNOWLEDGED_BY] == HUMTRELLIS_NONE && HUMTRELLIS_NONE == 4 && HUMTRELLIS_VERSION == 2);
     EXPECT(ram[HUMTRELLIS_COLUMNS - 1] == 7 && ram[HUMTRELLIS_COLUMNS] == 0);
-    EXPECT(send(group1, sizeof group1) == HUMTRELLIS_TAKEN);
+    EXPECT(send(group1, sizeof group1) == HUMTRELLIS_TAKEN && answer[HUMTRELLIS_ACKNOWLEDGED_BY] == 0);
     EXPECT(ram[HUMTRELLIS_COLUMNS] == 5 && ram[HUMTRELLIS_COLUMNS + 1] == 10);
     EXPECT(show(1, 0, sizeof picture) == HUMTRELLIS_TAKEN);
-    EXPECT(answer[HUMTRELLIS_LIT] == 4 && picture[0] == 5 && picture[1] == 10);
+    EXPECT(answer[HUMTRELLIS_LIT] == 4 && answer[HUMTRELLIS_ACKNOWLEDGED_BY] == 0 && picture[0] == 5 && picture[1] == 10);
 }
 
 static void refusals(void) {
@@ -102,7 +103,7 @@ static void refusals(void) {
     EXPECT(send(undefined, 0) == HUMTRELLIS_REFUSED_EMPTY_TRANSFER);
     EXPECT(send(many, 4097) == HUMTRELLIS_REFUSED_LONG_TRANSFER);
     EXPECT(send(undefined, sizeof undefined) == HUMTRELLIS_REFUSED_COMMAND);
-    EXPECT(answer[HUMTRELLIS_NUMBER] == HUMTRELLIS_REFUSED_COMMAND && answer[HUMTRELLIS_PLACE] == 3);
+    EXPECT(answer[HUMTRELLIS_NUMBER] == HUMTRELLIS_REFUSED_COMMAND && answer[HUMTRELLIS_PLACE] == 3 && answer[HUMTRELLIS_ACKNOWLEDGED_BY] == HUMTRELLIS_NONE);
     EXPECT(send(stray, sizeof stray) == HUMTRELLIS_REFUSED_CONTROL);
     EXPECT(answer[HUMTRELLIS_NUMBER] == HUMTRELLIS_REFUSED_CONTROL && answer[HUMTRELLIS_PLACE] == 3);
     EXPECT(show(2, 0, sizeof picture) == HUMTRELLIS_REFUSED_VIEW && show(0, 2, sizeof picture) == HUMTRELLIS_REFUSED_VIEW);
@@ -130,7 +131,7 @@ static void plain_chips(void) {
     chips[HUMTRELLIS_CHIP_SUBADDRESS] = second[HUMTRELLIS_CHIP_SUBADDRESS] = 2;
     second[HUMTRELLIS_CHIP_REGISTERS + HUMTRELLIS_P] = 7;
     EXPECT(send_plain(2, data, sizeof data) == HUMTRELLIS_TAKEN);
-    EXPECT(answer[HUMTRELLIS_ACKNOWLEDGED] == 5);
+    EXPECT(answer[HUMTRELLIS_ACKNOWLEDGED] == 5 && answer[HUMTRELLIS_ACKNOWLEDGED_BY] == 2);
     EXPECT(chips[0] == 5 && chips[1] == 10 && second[7] == 5 && second[8] == 10);
     EXPECT(second[HUMTRELLIS_CHIP_REGISTERS + HUMTRELLIS_P] == 9);
     second[HUMTRELLIS_CHIP_SUBADDRESS] = 4;

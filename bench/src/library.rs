@@ -1,11 +1,11 @@
 //! (a): the proved library, through the calls of include/humtrellis.h.
 
-use humtrellis_tests::model::{View, REGISTERS};
+use humtrellis_tests::model::{View, ANSWER, REGISTERS};
 
 /// Both groups' registers as bytes.
 pub type RegisterBytes = [u8; REGISTERS];
-/// Refusal number, place and three counts.
-pub type Numbers = [usize; 5];
+/// Refusal number, place, three counts and the last chip.
+pub type Numbers = [usize; ANSWER];
 
 #[rustfmt::skip]
 extern "C" {
@@ -30,7 +30,7 @@ pub fn transfer(
     ram: &mut [u8],
     bytes: &[u8],
 ) -> Numbers {
-    let mut answer = [0; 5];
+    let mut answer = [0; ANSWER];
     // Safety: each pointer goes with the length of the buffer that it points to.
     unsafe {
         humtrellis_transfer(
@@ -50,7 +50,7 @@ pub fn transfer(
 }
 
 pub fn picture(view: View, out: &mut [u8]) -> Numbers {
-    let mut answer = [0; 5];
+    let mut answer = [0; ANSWER];
     // Safety: each pointer goes with the length of the buffer that it points to.
     unsafe {
         humtrellis_picture(

@@ -13,6 +13,9 @@ mod transfer;
 pub use picture::{picture_by_columns, picture_by_words};
 pub use transfer::transfer;
 
+/// Numbers of an answer, and the last one where no chip acknowledged the last data byte.
+const ANSWER: usize = 6;
+const NONE: usize = 4;
 /// Columns of one chip.
 const COLUMNS: usize = 160;
 /// Bytes of one register set.
@@ -32,8 +35,8 @@ const BF: usize = 8;
 /// A refusal's number and place.
 type Refusal = (usize, usize);
 
-fn refused((number, place): Refusal) -> [usize; 5] {
-    [number, place, 0, 0, 0]
+fn refused((number, place): Refusal, last: usize) -> [usize; ANSWER] {
+    [number, place, 0, 0, 0, last]
 }
 
 /// Where the columns of a group begin and end in the long RAM.

@@ -15,7 +15,7 @@ extern "C" {
 }
 
 fn main() {
-    let (mut registers, mut ram, mut answer) = ([0u8; 18], [0u8; 320], [0usize; 5]);
+    let (mut registers, mut ram, mut answer) = ([0u8; 18], [0u8; 320], [0usize; 6]);
     // 1:3 with E, device 0, pointer 159, and two data bytes.
     let bytes = [
         0x70, 0x80, 0xCB, 0x80, 0xE0, 0x80, 0x09, 0x80, 0x4F, 0x40, 0x04, 0xA6,
@@ -24,17 +24,17 @@ fn main() {
     let taken = unsafe {
         #[rustfmt::skip]
         let on = humtrellis_power_on(
-            2, 0, ram.as_ptr(), ram.len(), registers.as_mut_ptr(), 18, answer.as_mut_ptr(), 5,
+            2, 0, ram.as_ptr(), ram.len(), registers.as_mut_ptr(), 18, answer.as_mut_ptr(), 6,
         );
         #[rustfmt::skip]
         let sent = humtrellis_transfer(
             2, 0, registers.as_mut_ptr(), 18, ram.as_mut_ptr(), ram.len(),
-            bytes.as_ptr(), bytes.len(), answer.as_mut_ptr(), 5,
+            bytes.as_ptr(), bytes.len(), answer.as_mut_ptr(), 6,
         );
         (on, sent)
     };
     assert_eq!(taken, (0, 0));
-    assert_eq!(answer, [0, 0, 12, 16, 0]);
+    assert_eq!(answer, [0, 0, 12, 16, 0, 1]);
     assert_eq!(ram[160], 4, "the minus bar is row 2 of column 160");
     println!(
         "ok: {} bytes acknowledged, {} bits stored, the minus bar is set",

@@ -10,14 +10,13 @@ fn sent(bytes: &[u8]) -> (usize, usize) {
     let mut bus = Bus::new(2, 9);
     let given = plain_chips([2, 0], &bus.registers, &bus.ram);
     let mut chips = given.clone();
-    let long = bus.send(bytes);
-    let plain = plain_transfer(&mut chips, bytes).numbers();
-    assert_eq!(long[..3], plain[..3]);
+    let long = bus.answer(bytes);
+    assert_eq!(common(long), common(plain_transfer(&mut chips, bytes)));
     assert_eq!(chips, plain_chips([2, 0], &bus.registers, &bus.ram));
-    if long[0] != 0 {
-        assert_eq!((&long[2..], chips), (&[0; 3][..], given));
+    if long.number != 0 {
+        assert_eq!((long.counts, long.chip, chips), ([0; 3], 4, given));
     }
-    (long[0], long[1])
+    (long.number, long.place)
 }
 
 /// Each stray bit alone under each Co and RS: as the last byte, before others, and behind a command and data.
@@ -98,7 +97,7 @@ fn length_first() {
 fn log_lines() {
     let mut log = generate::WORKED_LOG;
     log[12] |= 0x20;
-    let first = "T 0 17 7 0 0 0\nT 1 7 2 0 0 0\nT 2 0 0 0 0 0\nG 0 0\nG 1 0\n";
+    let first = "T 0 17 7 0 0 0 4\nT 1 7 2 0 0 0 4\nT 2 0 0 0 0 0 4\nG 0 0\nG 1 0\n";
     assert_eq!(text(&log), first);
     log[17] |= 0x01;
     assert_eq!(text(&log), first.replace("1 7 2", "1 17 1"));

@@ -106,7 +106,7 @@ fn push_single(bytes: &mut Vec<u8>, rs: u8, byte: u8) {
     bytes.extend([0x80 | rs, byte]);
 }
 
-/// A transfer without a fault: commands and single data bytes, then a run of commands or data.
+/// A transfer without a fault: commands, single data bytes with a command between now and then, and a run of commands or data.
 pub fn good_transfer(random: &mut Random) -> Vec<u8> {
     let mut bytes = vec![address(random)];
     for command in commands(random) {
@@ -114,6 +114,9 @@ pub fn good_transfer(random: &mut Random) -> Vec<u8> {
     }
     for _ in 0..random.pick(&[0, 0, 0, 1, 2, 5]) {
         push_single(&mut bytes, 0x40, random.byte());
+        if random.one_in(4) {
+            push_single(&mut bytes, 0, command(random));
+        }
     }
     match random.below(6) {
         0 => {}

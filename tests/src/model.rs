@@ -1,5 +1,9 @@
-//! The model, bit by bit as paper 01 tells it, amended by requests 3 and 7 of paper 02: the long account, the plain account and bus logs.
+//! The model, bit by bit as paper 01 tells it, amended by requests 3, 4 and 7 of paper 02: the long account, the plain account and bus logs.
 
+/// Numbers of an answer.
+pub const ANSWER: usize = 6;
+/// A transfer's chip where none acknowledged the last data byte, there is no such byte, or the transfer is refused.
+pub const NONE: usize = 4;
 /// Columns of one chip.
 pub const COLUMNS: usize = 160;
 /// Bytes of one register set.
@@ -13,12 +17,13 @@ pub const LOG_LIMIT: usize = 65536;
 /// Most chips of the plain account.
 pub const CHIP_LIMIT: usize = 8;
 
-/// A call's answer: refusal number (0 is taken), place and three counts.
+/// A call's answer: refusal number (0 is taken), place and three counts, and a transfer's chip.
 #[derive(Clone, Copy, Debug, Default, PartialEq, Eq)]
 pub struct Answer {
     pub number: usize,
     pub place: usize,
     pub counts: [usize; 3],
+    pub chip: usize,
 }
 
 impl Answer {
@@ -29,10 +34,18 @@ impl Answer {
         }
     }
 
-    /// The five numbers in the order of the C interface.
-    pub fn numbers(self) -> [usize; 5] {
+    /// The answer of a transfer whose last data byte this subaddress acknowledged, or none did.
+    fn with_chip(self, subaddress: Option<u8>) -> Self {
+        Answer {
+            chip: subaddress.map_or(NONE, usize::from),
+            ..self
+        }
+    }
+
+    /// The numbers in the order of the C interface.
+    pub fn numbers(self) -> [usize; ANSWER] {
         let [x, y, z] = self.counts;
-        [self.number, self.place, x, y, z]
+        [self.number, self.place, x, y, z, self.chip]
     }
 }
 
@@ -54,7 +67,7 @@ fn refused((number, place): (usize, usize)) -> Answer {
     Answer {
         number,
         place,
-        counts: [0; 3],
+        ..Default::default()
     }
 }
 
@@ -371,25 +384,26 @@ pub fn transfer(
 ) -> Answer {
     let checked = check_bus(chips0, chips1, registers, ram).and_then(|()| check_length(bytes));
     if let Err(refusal) = checked {
-        return refused(refusal);
+        return refused(refusal).with_chip(None);
     }
     let Some(group) = hearing_group(chips0, chips1, bytes) else {
-        return Answer::taken([0; 3]);
+        return Answer::taken([0; 3]).with_chip(None);
     };
     if let Err(refusal) = check_parts(bytes) {
-        return refused(refusal);
+        return refused(refusal).with_chip(None);
     }
     let columns = &mut ram[group_range(chips0, chips1, group)];
     let set = &mut registers[SET * group..SET * group + SET];
     let mut state = Registers::from_bytes(set);
-    let counts = carry_out(&mut state, columns, bytes);
+    let answer = carry_out(&mut state, columns, bytes);
     set.copy_from_slice(&state.to_bytes());
-    Answer::taken(counts)
+    answer
 }
 
-/// Carries out a heard transfer on a group: bytes acknowledged, bits stored, bits discarded.
-fn carry_out(state: &mut Registers, columns: &mut [u8], bytes: &[u8]) -> [usize; 3] {
+/// Carries out a heard transfer on a group: bytes acknowledged, bits stored, bits discarded, and the last data byte's chip.
+fn carry_out(state: &mut Registers, columns: &mut [u8], bytes: &[u8]) -> Answer {
     let mut counts = [1, 0, 0];
+    let mut last = None;
     for part in parts(bytes) {
         match part {
             Part::Control(_) => counts[0] += 1,
@@ -397,14 +411,19 @@ fn carry_out(state: &mut Registers, columns: &mut [u8], bytes: &[u8]) -> [usize;
                 counts[0] += 1;
                 state.obey(byte);
             }
-            Part::Data(byte) => store(state, columns, byte, &mut counts),
+            Part::Data(byte) => last = store(state, columns, byte, &mut counts),
         }
     }
-    counts
+    Answer::taken(counts).with_chip(last)
 }
 
-/// One data byte, by the position v.
-fn store(state: &mut Registers, columns: &mut [u8], byte: u8, counts: &mut [usize; 3]) {
+/// One data byte, by the position v: the subaddress that acknowledges it, if one does.
+fn store(
+    state: &mut Registers,
+    columns: &mut [u8],
+    byte: u8,
+    counts: &mut [usize; 3],
+) -> Option<u8> {
     let (v, m) = (state.position(), state.backplanes());
     for k in 0..8 {
         match columns.get_mut(v + k / m) {
@@ -415,11 +434,13 @@ fn store(state: &mut Registers, columns: &mut [u8], byte: u8, counts: &mut [usiz
             None => counts[2] += 1,
         }
     }
-    let next = v + state.width();
-    if next - 1 < columns.len() {
-        counts[0] += 1;
+    let last = v + state.width() - 1;
+    state.set_position(last + 1);
+    if last >= columns.len() {
+        return None;
     }
-    state.set_position(next);
+    counts[0] += 1;
+    Some((last / COLUMNS) as u8)
 }
 
 /// What a picture shows: the bus, a group and a blink phase.
@@ -535,24 +556,36 @@ fn check_plain(chips: &[Chip], bytes: &[u8]) -> Check {
     Ok(())
 }
 
+/// All hearing chips take a byte: the smallest subaddress that acknowledges it, if one does.
+fn take_by_all(hearing: &mut [&mut Chip], part: Part) -> Option<u8> {
+    let mut acknowledging = Vec::new();
+    for chip in hearing {
+        if chip.take(part) {
+            acknowledging.push(chip.subaddress);
+        }
+    }
+    acknowledging.into_iter().min()
+}
+
 /// A transfer over plain chips; the first count is the bytes acknowledged.
 pub fn plain_transfer(chips: &mut [Chip], bytes: &[u8]) -> Answer {
     if let Err(refusal) = check_plain(chips, bytes) {
-        return refused(refusal);
+        return refused(refusal).with_chip(None);
     }
     let mut hearing: Vec<&mut Chip> = chips.iter_mut().filter(|c| c.hears(bytes)).collect();
     if hearing.is_empty() {
-        return Answer::taken([0; 3]);
+        return Answer::taken([0; 3]).with_chip(None);
     }
     let mut acknowledged = 1;
+    let mut last = None;
     for part in parts(bytes) {
-        let mut heard = false;
-        for chip in &mut hearing {
-            heard |= chip.take(part);
+        let chip = take_by_all(&mut hearing, part);
+        acknowledged += chip.is_some() as usize;
+        if let Part::Data(_) = part {
+            last = chip;
         }
-        acknowledged += heard as usize;
     }
-    Answer::taken([acknowledged, 0, 0])
+    Answer::taken([acknowledged, 0, 0]).with_chip(last)
 }
 
 /// Power-on of one plain chip: its registers become the power-on ones, taken or refused.
@@ -619,8 +652,9 @@ fn replay(chips0: u8, chips1: u8, records: &[&[u8]]) -> String {
     let mut text = String::new();
     for (index, bytes) in records.iter().enumerate() {
         let answer = transfer(chips0, chips1, &mut registers, &mut ram, bytes);
-        let [number, place, acknowledged, stored, discarded] = answer.numbers();
-        text += &format!("T {index} {number} {place} {acknowledged} {stored} {discarded}\n");
+        let [number, place, acknowledged, stored, discarded, chip] = answer.numbers();
+        let counts = format!("{acknowledged} {stored} {discarded}");
+        text += &format!("T {index} {number} {place} {counts} {chip}\n");
     }
     let mut totals = String::new();
     for group in 0..2 {

@@ -2,6 +2,8 @@
 
 #[path = "control_tests.rs"]
 mod control;
+#[path = "last_chip_tests.rs"]
+mod last_chip;
 
 use super::*;
 use crate::{generate, random::Random};
@@ -22,12 +24,16 @@ impl Bus {
         }
     }
 
-    fn send(&mut self, bytes: &[u8]) -> [usize; 5] {
-        transfer(self.chips, 0, &mut self.registers, &mut self.ram, bytes).numbers()
+    fn answer(&mut self, bytes: &[u8]) -> Answer {
+        transfer(self.chips, 0, &mut self.registers, &mut self.ram, bytes)
+    }
+
+    fn send(&mut self, bytes: &[u8]) -> [usize; ANSWER] {
+        self.answer(bytes).numbers()
     }
 
     /// Sends commands one by one, then data; gives the answer.
-    fn set_and_send(&mut self, commands: &[u8], data: &[u8]) -> [usize; 5] {
+    fn set_and_send(&mut self, commands: &[u8], data: &[u8]) -> [usize; ANSWER] {
         self.send(&generate::commands_then_data(112, commands, data))
     }
 
@@ -46,7 +52,7 @@ impl Bus {
     }
 
     /// Shows the group in a buffer that was all 9.
-    fn show(&self, phase: u8) -> ([usize; 5], Vec<u8>) {
+    fn show(&self, phase: u8) -> ([usize; ANSWER], Vec<u8>) {
         let view = View {
             chips0: self.chips,
             chips1: 0,
@@ -60,7 +66,7 @@ impl Bus {
     }
 
     /// Shows each chip alone, in buffers that were all 9.
-    fn show_chips(&self, phase: u8) -> Vec<([usize; 5], Vec<u8>)> {
+    fn show_chips(&self, phase: u8) -> Vec<([usize; ANSWER], Vec<u8>)> {
         let chips = plain_chips([self.chips, 0], &self.registers, &self.ram);
         let show = |chip| {
             let mut out = vec![9; COLUMNS];
@@ -73,7 +79,7 @@ impl Bus {
 #[test]
 fn mode_4_over_the_edge() {
     let mut bus = Bus::new(2, 0);
-    assert_eq!(bus.set_and_send(&[0x09, 0x4F], &[0xA5]), [0, 0, 7, 8, 0]);
+    assert_eq!(bus.set_and_send(&[0x09, 0x4F], &[0xA5]), [0, 0, 7, 8, 0, 1]);
     assert_eq!(bus.others(0), [(159, 5), (160, 10)]);
     assert_eq!(bus.a_and_p(), (1, 1));
 }
@@ -83,7 +89,7 @@ fn mode_3_over_the_edge() {
     let mut bus = Bus::new(2, 0);
     assert_eq!(
         bus.set_and_send(&[0xC3, 0x09, 0x4F], &[0xFF]),
-        [0, 0, 9, 8, 0]
+        [0, 0, 9, 8, 0, 1]
     );
     assert_eq!(bus.others(0), [(159, 7), (160, 7), (161, 3)]);
     assert_eq!(bus.a_and_p(), (1, 2));
@@ -116,7 +122,7 @@ fn mode_3_past_the_last_chip() {
     let mut bus = Bus::new(1, 0);
     assert_eq!(
         bus.set_and_send(&[0xC3, 0x09, 0x4F], &[0xFF]),
-        [0, 0, 8, 3, 5]
+        [0, 0, 8, 3, 5, 4]
     );
     assert_eq!(bus.others(0), [(159, 7)]);
 }
@@ -125,7 +131,7 @@ fn mode_3_past_the_last_chip() {
 fn past_the_fourth_chip() {
     let mut bus = Bus::new(4, 0);
     let answer = bus.set_and_send(&[0xE3, 0x09, 0x4E], &[0xFF, 0xFF]);
-    assert_eq!(answer, [0, 0, 9, 8, 8]);
+    assert_eq!(answer, [0, 0, 9, 8, 8, 4]);
     assert_eq!(bus.others(0), [(638, 15), (639, 15)]);
     assert_eq!(bus.a_and_p(), (4, 2));
 }
@@ -143,9 +149,9 @@ fn pointer_high_keeps_the_low_nibble() {
 fn edges_of_the_commands() {
     for (taken, refused) in [(0x09, 0x0A), (0xE3, 0xE4), (0xFB, 0xFC)] {
         let mut bus = Bus::new(1, 0);
-        assert_eq!(bus.send(&[0x70, 0x00, taken]), [0, 0, 3, 0, 0]);
+        assert_eq!(bus.send(&[0x70, 0x00, taken]), [0, 0, 3, 0, 0, 4]);
         let before = bus.registers;
-        assert_eq!(bus.send(&[0x70, 0x00, refused]), [7, 2, 0, 0, 0]);
+        assert_eq!(bus.send(&[0x70, 0x00, refused]), [7, 2, 0, 0, 0, 4]);
         assert_eq!(bus.registers, before);
     }
     assert_eq!((0..=255).filter(|byte| defined(*byte)).count(), 66);
@@ -155,7 +161,7 @@ fn edges_of_the_commands() {
 fn alternate_blinking_shows_the_other_bank() {
     let mut bus = Bus::new(1, 12);
     bus.send(&[0x70, 0x00, 0xCA, 0xF8, 0xF5]);
-    assert_eq!(bus.show(1), ([0, 0, 320, 0, 0], vec![3; COLUMNS]));
+    assert_eq!(bus.show(1), ([0, 0, 320, 0, 0, 0], vec![3; COLUMNS]));
 }
 
 /// The customer's glass of request 3 in paper 02: four backplanes, AB = 1.
@@ -163,8 +169,8 @@ fn alternate_blinking_shows_the_other_bank() {
 fn alternate_blinking_darkens_four_backplanes() {
     let mut bus = Bus::new(1, 15);
     bus.send(&[0x70, 0x00, 0xC8, 0xF5]);
-    assert_eq!(bus.show(0), ([0, 0, 640, 0, 0], vec![15; COLUMNS]));
-    assert_eq!(bus.show(1), ([0, 0, 0, 0, 0], vec![0; COLUMNS]));
+    assert_eq!(bus.show(0), ([0, 0, 640, 0, 0, 0], vec![15; COLUMNS]));
+    assert_eq!(bus.show(1), ([0, 0, 0, 0, 0, 0], vec![0; COLUMNS]));
 }
 
 /// What is shown of columns with the values 0 to 15, and its lit elements.
@@ -185,8 +191,8 @@ fn hold_phases(commands: [u8; 3], expected: [Shown; 2]) {
     bus.ram = (0..16).collect::<Vec<u8>>().repeat(20);
     bus.set_and_send(&commands, &[]);
     for (phase, (columns, lit)) in [0, 1].into_iter().zip(expected) {
-        let group = ([0, 0, 20 * lit, 0, 0], columns.repeat(20));
-        let chip = ([0, 0, 10 * lit, 0, 0], columns.repeat(10));
+        let group = ([0, 0, 20 * lit, 0, 0, 0], columns.repeat(20));
+        let chip = ([0, 0, 10 * lit, 0, 0, 0], columns.repeat(10));
         assert_eq!(bus.show(phase), group, "{commands:02X?} phase {phase}");
         assert_eq!(bus.show_chips(phase), [chip.clone(), chip]);
     }
@@ -246,15 +252,16 @@ fn static_and_mode_2_blink_with_the_other_bank() {
 
 #[test]
 fn addresses_alone() {
-    assert_eq!(Bus::new(1, 0).send(&[0x70]), [0, 0, 1, 0, 0]);
-    assert_eq!(Bus::new(1, 0).send(&[0x71]), [0, 0, 0, 0, 0]);
-    assert_eq!(Bus::new(1, 0).send(&[0x72, 0x00, 0xFF]), [0, 0, 0, 0, 0]);
-    assert_eq!(Bus::new(0, 0).send(&[0x70]), [0, 0, 0, 0, 0]);
+    assert_eq!(Bus::new(1, 0).send(&[0x70]), [0, 0, 1, 0, 0, 4]);
+    assert_eq!(Bus::new(1, 0).send(&[0x71]), [0, 0, 0, 0, 0, 4]);
+    assert_eq!(Bus::new(1, 0).send(&[0x72, 0x00, 0xFF]), [0, 0, 0, 0, 0, 4]);
+    assert_eq!(Bus::new(0, 0).send(&[0x70]), [0, 0, 0, 0, 0, 4]);
 }
 
 #[test]
 fn worked_log() {
-    let text = "T 0 0 0 9 8 0\nT 1 7 2 0 0 0\nT 2 0 0 0 0 0\nS 0 159 5\nS 0 160 10\nG 0 4\nG 1 0\n";
+    let text =
+        "T 0 0 0 9 8 0 1\nT 1 7 2 0 0 0 4\nT 2 0 0 0 0 0 4\nS 0 159 5\nS 0 160 10\nG 0 4\nG 1 0\n";
     assert_eq!(log_text(&generate::WORKED_LOG), text.as_bytes());
 }
 
@@ -277,9 +284,9 @@ fn refused_logs() {
 #[test]
 fn odd_records() {
     assert_eq!(text(&[1, 4, 4]), "G 0 0\nG 1 0\n");
-    assert_eq!(text(&[1, 1, 0, 0, 0]), "T 0 1 0 0 0 0\nG 0 0\nG 1 0\n");
+    assert_eq!(text(&[1, 1, 0, 0, 0]), "T 0 1 0 0 0 0 4\nG 0 0\nG 1 0\n");
     let long = [vec![1, 0, 0, 0x10, 0x01], vec![0x50; 4097]].concat();
-    assert_eq!(text(&long), "T 0 2 0 0 0 0\nG 0 0\nG 1 0\n");
+    assert_eq!(text(&long), "T 0 2 0 0 0 0 4\nG 0 0\nG 1 0\n");
 }
 
 #[test]
@@ -308,13 +315,19 @@ fn order_of_plain_refusals() {
     bad.registers.p = 160;
     assert_eq!(plain_transfer(&mut [bad; 9], &[]).number, 10);
     let mut chips = [Chip::new(0, 0), bad];
-    assert_eq!(plain_transfer(&mut chips, &[]).numbers(), [11, 1, 0, 0, 0]);
+    assert_eq!(
+        plain_transfer(&mut chips, &[]).numbers(),
+        [11, 1, 0, 0, 0, 4]
+    );
     assert_eq!(plain_transfer(&mut [], &[]).number, 1);
-    assert_eq!(plain_transfer(&mut [], &[0x70, 0, 0xFF]), Answer::default());
+    assert_eq!(
+        plain_transfer(&mut [], &[0x70, 0, 0xFF]).numbers(),
+        [0, 0, 0, 0, 0, 4]
+    );
     let mut chips = [Chip::new(1, 0)];
     assert_eq!(plain_transfer(&mut chips, &[0x70, 0, 0xFF]).number, 0);
     let refused = plain_transfer(&mut chips, &[0x72, 0, 0xFF]);
-    assert_eq!(refused.numbers(), [7, 2, 0, 0, 0]);
+    assert_eq!(refused.numbers(), [7, 2, 0, 0, 0, 4]);
 }
 
 #[test]
@@ -338,10 +351,15 @@ fn one_plain_chip() {
 fn plain_acknowledgement_counts_once() {
     let mut chips = [Chip::new(0, 0), Chip::new(0, 0), Chip::new(0, 2)];
     let answer = plain_transfer(&mut chips, &[0x70, 0x40, 0xFF, 0xFF]);
-    assert_eq!(answer.numbers(), [0, 0, 4, 0, 0]);
+    assert_eq!(answer.numbers(), [0, 0, 4, 0, 0, 0]);
     assert_eq!(chips[1].columns[..5], [15, 15, 15, 15, 0]);
     assert_eq!(chips[2].columns, [0; COLUMNS]);
     assert_eq!(chips[2].registers.p, 4);
+}
+
+/// What both accounts say of a transfer: number, place, bytes acknowledged, and the last data byte's chip.
+fn common(answer: Answer) -> [usize; 4] {
+    [answer.number, answer.place, answer.counts[0], answer.chip]
 }
 
 /// The chips of the plain account that stand for a long bus.
@@ -371,7 +389,7 @@ fn both_accounts_agree() {
             let bytes = generate::transfer(&mut random);
             let long = transfer(counts[0], counts[1], &mut registers, &mut ram, &bytes);
             let plain = plain_transfer(&mut chips, &bytes);
-            assert_eq!(long.numbers()[..3], plain.numbers()[..3]);
+            assert_eq!(common(long), common(plain));
             assert_eq!(chips, plain_chips(counts, &registers, &ram));
         }
     }

@@ -1,6 +1,6 @@
 //! The picture of a group, in two ways: a count a column, and eight columns as one word.
 
-use super::{checks, group_range, refused, Refusal, AB, BF, COLUMNS, E, M, O, SET};
+use super::{checks, group_range, refused, Refusal, AB, ANSWER, BF, COLUMNS, E, M, O, SET};
 use humtrellis_tests::model::View;
 
 /// The rows that each mode shows, for eight columns at once.
@@ -15,24 +15,24 @@ const ROWS: [u64; 4] = [
 type Show = fn(&[u8], u8, u64, &mut [u8]) -> usize;
 
 #[inline(always)]
-fn picture(view: View, out: &mut [u8], show: Show) -> [usize; 5] {
+fn picture(view: View, out: &mut [u8], show: Show) -> [usize; ANSWER] {
     if let Err(refusal) = check(view, out.len()) {
-        return refused(refusal);
+        return refused(refusal, 0);
     }
     let group = view.group as usize;
     let columns = &view.ram[group_range([view.chips0, view.chips1], group)];
     let set = &view.registers.as_chunks::<SET>().0[group];
     let (shift, rows) = shown(set, view.phase);
-    [0, 0, show(columns, shift, rows, out), 0, 0]
+    [0, 0, show(columns, shift, rows, out), 0, 0, 0]
 }
 
 #[inline(never)]
-pub fn picture_by_columns(view: View, out: &mut [u8]) -> [usize; 5] {
+pub fn picture_by_columns(view: View, out: &mut [u8]) -> [usize; ANSWER] {
     picture(view, out, show_columns)
 }
 
 #[inline(never)]
-pub fn picture_by_words(view: View, out: &mut [u8]) -> [usize; 5] {
+pub fn picture_by_words(view: View, out: &mut [u8]) -> [usize; ANSWER] {
     picture(view, out, show_words)
 }
 

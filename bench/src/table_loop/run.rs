@@ -1,10 +1,16 @@
 //! A run of data bytes into a group's columns.
 
 use super::tables::{Table, FOUR, STATIC, THREE, TWO};
-use super::{A, COLUMNS, I, M, P, SET};
+use super::{A, COLUMNS, I, M, NONE, P, SET};
 
-/// Stores a run, moves the position, and adds to the counts acknowledged, stored and discarded.
-pub fn store(set: &mut [u8; SET], columns: &mut [u8], data: &[u8], counts: &mut [usize; 3]) {
+/// Stores a run of some bytes, moves the position, and adds to the counts acknowledged, stored and discarded.
+/// The chip that has the last byte's last column, if it is there.
+pub fn store(
+    set: &mut [u8; SET],
+    columns: &mut [u8],
+    data: &[u8],
+    counts: &mut [usize; 3],
+) -> usize {
     let (backplanes, width) = [(4, 2), (1, 8), (2, 4), (3, 3)][set[M] as usize & 3];
     let position = COLUMNS * set[A] as usize + set[P] as usize;
     let start = position.min(columns.len());
@@ -24,6 +30,11 @@ pub fn store(set: &mut [u8; SET], columns: &mut [u8], data: &[u8], counts: &mut 
     let after = position + width * data.len();
     set[P] = (after % COLUMNS) as u8;
     set[A] = (after / COLUMNS).min(4) as u8;
+    if after <= columns.len() {
+        (after - 1) / COLUMNS
+    } else {
+        NONE
+    }
 }
 
 /// Bytes whose columns are all there.

@@ -1,6 +1,6 @@
 //! A transfer: the checks, then its parts.
 
-use super::{checks, commands, group_range, refused, run, Refusal, SET};
+use super::{checks, commands, group_range, refused, run, Refusal, ANSWER, NONE, SET};
 
 #[inline(never)]
 pub fn transfer(
@@ -8,16 +8,16 @@ pub fn transfer(
     registers: &mut [u8; 2 * SET],
     ram: &mut [u8],
     bytes: &[u8],
-) -> [usize; 5] {
+) -> [usize; ANSWER] {
     let group = match hearing_group(chips, registers, ram, bytes) {
-        Err(refusal) => return refused(refusal),
-        Ok(None) => return [0; 5],
+        Err(refusal) => return refused(refusal, NONE),
+        Ok(None) => return [0, 0, 0, 0, 0, NONE],
         Ok(Some(group)) => group,
     };
     let columns = &mut ram[group_range(chips, group)];
     let set = &mut registers.as_chunks_mut::<SET>().0[group];
-    let [acknowledged, stored, discarded] = carry_out(set, columns, bytes);
-    [0, 0, acknowledged, stored, discarded]
+    let ([acknowledged, stored, discarded], last) = carry_out(set, columns, bytes);
+    [0, 0, acknowledged, stored, discarded, last]
 }
 
 /// The group that hears a transfer, if one does, after all checks.
@@ -43,9 +43,10 @@ fn hearing_group(
     Ok(Some(group))
 }
 
-/// Goes from control byte to control byte; every part but data bytes is acknowledged.
-fn carry_out(set: &mut [u8; SET], columns: &mut [u8], bytes: &[u8]) -> [usize; 3] {
+/// Goes from control byte to control byte; every part but data bytes is acknowledged. The counts, and the chip of the last data byte.
+fn carry_out(set: &mut [u8; SET], columns: &mut [u8], bytes: &[u8]) -> ([usize; 3], usize) {
     let mut counts = [1, 0, 0];
+    let mut last = NONE;
     let mut rest = &bytes[1..];
     while let Some((control, after)) = rest.split_first() {
         counts[0] += 1;
@@ -57,10 +58,10 @@ fn carry_out(set: &mut [u8; SET], columns: &mut [u8], bytes: &[u8]) -> [usize; 3
         if control & 0x40 == 0 {
             counts[0] += length;
             part.iter().for_each(|byte| commands::obey(set, *byte));
-        } else {
-            run::store(set, columns, part, &mut counts);
+        } else if !part.is_empty() {
+            last = run::store(set, columns, part, &mut counts);
         }
         rest = next;
     }
-    counts
+    (counts, last)
 }

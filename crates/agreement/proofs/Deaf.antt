@@ -1,14 +1,15 @@
 -- Chips that do not hear an address: they keep all and acknowledge nothing.
 -- Assumes nothing.
-use mathlib.Core.Path.{_≡_, refl, sym, ap}
-use mathlib.Core.Bool.{Bool, false, _&&_, _||_, or-false, or-assoc}
-use mathlib.Core.List.{List, [], _∷_, _++_, map}
+use mathlib.Core.Path.{_≡_, refl, sym, ap, _∙_}
+use mathlib.Core.Bool.{Bool, false, cond, _&&_, _||_, or-assoc}
+use mathlib.Core.List.{List, [], _∷_, _++_, map, append-nil}
 use Prim.Native.Nat.{ℕ}
 use Rattle.lemmas.proofs.Tests.{either-false}
 use Rattle.sheet.specs.declared.Chip.{Chip}
+use Rattle.sheet.specs.declared.Acknowledger.{Acknowledger}
 use Rattle.sheet.specs.declared.Expect.{Expect}
 use Rattle.sheet.specs.Parts.{Part}
-use Rattle.sheet.specs.Plain.{any, hears, takes}
+use Rattle.sheet.specs.Plain.{any, hears, takes, lower, smallest}
 
 pub any-join : (f : Chip → Bool) (a b : List Chip) → any f (a ++ b) ≡ (any f a || any f b)
 any-join f [] b = refl
@@ -24,16 +25,21 @@ deaf-keep K address x e (c ∷ cs) h =
     let d = either-false (hears address c) (any (hears address) cs) h in
     rw (d .0) (ap (λ (r : List Chip). c ∷ r) (deaf-keep K address x e cs (d .1)))
 
--- and acknowledge nothing
-deaf-silent : (address : ℕ) (f : Chip → Bool) (cs : List Chip) → Deaf address cs → any (λ c. hears address c && f c) cs ≡ false
-deaf-silent address f [] h = refl
-deaf-silent address f (c ∷ cs) h =
-    let d = either-false (hears address c) (any (hears address) cs) h in
-    rw (d .0) (deaf-silent address f cs (d .1))
+-- and acknowledge nothing, before other chips
+silent : (address : ℕ) (f : Chip → Bool) (deaf cs : List Chip) → Deaf address deaf → smallest (λ c. hears address c && f c) (deaf ++ cs) ≡ smallest (λ c. hears address c && f c) cs
+unfolding smallest
+silent address f [] cs h = refl
+silent address f (c ∷ deaf) cs h =
+    let d = either-false (hears address c) (any (hears address) deaf) h in
+    rw (d .0) (silent address f deaf cs (d .1))
+
+-- and after them
+silent-after : (address : ℕ) (f : Chip → Bool) (cs deaf : List Chip) → Deaf address deaf → smallest (λ c. hears address c && f c) (cs ++ deaf) ≡ smallest (λ c. hears address c && f c) cs
+unfolding smallest
+silent-after address f [] deaf h = ap (smallest (λ c. hears address c && f c)) (sym (append-nil deaf)) ∙ silent address f deaf [] h
+silent-after address f (c ∷ cs) deaf h = ap (λ (who : Acknowledger). cond (hears address c && f c) (lower (c .subaddress) who) who) (silent-after address f cs deaf h)
 
 -- so a byte is acknowledged by the chips between them
 pub deaf-around : (address : ℕ) (f : Chip → Bool) (before cs after : List Chip) → Deaf address before → Deaf address after
-    → any (λ c. hears address c && f c) (before ++ (cs ++ after)) ≡ any (λ c. hears address c && f c) cs
-deaf-around address f before cs after hb ha =
-    let h : Chip → Bool = λ c. hears address c && f c in
-    rw (any-join h before (cs ++ after), deaf-silent address f before hb, any-join h cs after, deaf-silent address f after ha) (or-false (any h cs))
+    → smallest (λ c. hears address c && f c) (before ++ (cs ++ after)) ≡ smallest (λ c. hears address c && f c) cs
+deaf-around address f before cs after hb ha = silent address f before (cs ++ after) hb ∙ silent-after address f cs after ha

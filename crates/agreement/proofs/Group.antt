@@ -5,9 +5,11 @@ use mathlib.Core.Bool.{Bool, true, cond, _&&_}
 use mathlib.Core.List.{List, [], _∷_, _++_, map, map-append}
 use Prim.Native.Nat.{ℕ, _+_, _*_, _/_, _≤_, _<_}
 use native.Mathlib.Nat.{mul-le-mul-left}
-use lib.Dec.{eqb, ltb}
+use lib.Dec.{eqb}
+use lib.ListN.{length}
 use borrow.Author.Tests.{eq-eqb}
 use Rattle.sheet.specs.declared.Chip.{Chip}
+use Rattle.sheet.specs.declared.Acknowledger.{Acknowledger}
 use Rattle.sheet.specs.declared.Expect.{Expect}
 use Rattle.sheet.specs.declared.Kind.{Kind}
 use Rattle.sheet.specs.declared.Expect.the-variants.{Control, One, All}
@@ -16,11 +18,12 @@ use Rattle.sheet.specs.Registers.{backplanes}
 use Rattle.sheet.specs.Commands.{obeyed}
 use Rattle.sheet.specs.Protocol.{addressOf, next}
 use Rattle.sheet.specs.Long.{Group, byteOf, byte, dataByte, heard}
-use Rattle.sheet.specs.Plain.{any, hears, chipByteOf, chipByte, acknowledgesData, acknowledgesByte, takes, acknowledgedOnce, Plain, plainHeard}
+use Rattle.sheet.specs.Plain.{hears, chipByteOf, chipByte, acknowledgesData, acknowledgesByte, takes, smallest, acknowledgedBy, once, lastAfter, Plain, plainHeard}
 use Rattle.sheet.specs.Places.{position}
-use Rattle.sheet.specs.Data.{counted}
+use Rattle.sheet.specs.Data.{counted, acknowledger}
 use Rattle.sheet.specs.Agree.{groupChips, Keeps}
 use Rattle.laws.proofs.Kept.{Kept, byte-keeps}
+use Rattle.laws.proofs.Acknowledgers.{once-any, once-present}
 use Rattle.agreement.proofs.Chips.{chipAt, alike, set-alike}
 use Rattle.agreement.proofs.Deaf.{Deaf, deaf-keep, deaf-around}
 use Rattle.agreement.proofs.Data.{data-agrees}
@@ -51,35 +54,48 @@ module _ (K : Part) (n g : ℕ) (x : ℕ) (s : Group) (l : n ≤ K .limit) (k : 
   each-hears : (b : Bool) → (eqb (addressOf g) (addressOf g) && b) ≡ b
   each-hears b = rw (eq-eqb (addressOf g) (addressOf g) refl)
 
+  -- who acknowledges a byte, of the group's chips
+  abbrev who : Expect → Acknowledger
+  who e = smallest (answers e) (chipsOfGroup K n g s)
+
+  -- a byte's own counts and last: one more is acknowledged if somebody does, and of data it is who did
+  pub record Told (e : Expect) : Type 0 where
+    pub acknowledged : s .counts .acknowledged + once (who e) ≡ byte K e x s .counts .acknowledged
+    pub last : lastAfter e (who e) (s .last) ≡ byte K e x s .last
+
   -- control and command bytes: each chip, and there is one
   always : (e : Expect) → 0 < n → ((c : List ℕ) → acknowledgesByte K e x (chipAt g 0 (s .registers) c) ≡ true)
-      → s .counts .acknowledged + cond (any (answers e) (chipsOfGroup K n g s)) 1 0 ≡ s .counts .acknowledged + 1
+      → s .counts .acknowledged + once (who e) ≡ s .counts .acknowledged + 1
   always e pn h =
-      ap (λ (t : Bool). s .counts .acknowledged + cond t 1 0)
-      (any-all (answers e) K g (s .registers) n 0 (s .ram) pn (λ c. each-hears (acknowledgesByte K e x (chipAt g 0 (s .registers) c)) ∙ h c))
+      ap (λ (k : ℕ). s .counts .acknowledged + k)
+      (once-any (answers e) (chipsOfGroup K n g s)
+      ∙ ap (λ (t : Bool). cond t 1 0) (any-all (answers e) K g (s .registers) n 0 (s .ram) pn (λ c. each-hears (acknowledgesByte K e x (chipAt g 0 (s .registers) c)) ∙ h c)))
 
   -- data bytes
-  by-last-column : (e : Expect) → ((c : Chip) → acknowledgesByte K e x c ≡ acknowledgesData K x c)
-      → s .counts .acknowledged + cond (any (answers e) (chipsOfGroup K n g s)) 1 0 ≡ dataByte K x s .counts .acknowledged
-  unfolding dataByte counted
+  by-last-column : (e : Expect) → ((c : Chip) → acknowledgesByte K e x c ≡ acknowledgesData K x c) → who e ≡ dataByte K x s .last
+  unfolding dataByte
   by-last-column e h =
-      ap (λ (t : Bool). s .counts .acknowledged + cond t 1 0)
-      (acknowledges (answers e) K x n g (s .registers) (s .ram) (k .range .p-in) (k .range .a-in) l
+      acknowledges (answers e) K x n g (s .registers) (s .ram) (k .range .p-in) (k .range .a-in) l
       (λ i c. each-hears (acknowledgesByte K e x (chipAt g i (s .registers) c)) ∙ h (chipAt g i (s .registers) c))
-      ∙ ap (λ (size : ℕ). ltb (position K (s .registers) + 7 / backplanes (s .registers)) size) (sym (k .columns)))
+      ∙ ap (λ (size : ℕ). acknowledger K (backplanes (s .registers)) (position K (s .registers)) size) (sym (k .columns))
 
-  acknowledged-agrees : (e : Expect) → 0 < n → s .counts .acknowledged + cond (any (answers e) (chipsOfGroup K n g s)) 1 0 ≡ byte K e x s .counts .acknowledged
-  acknowledged-agrees Control pn = always Control pn (λ c. refl)
-  acknowledged-agrees (One Kind.Command) pn = always (One Kind.Command) pn (λ c. refl)
-  acknowledged-agrees (All Kind.Command) pn = always (All Kind.Command) pn (λ c. refl)
-  acknowledged-agrees (One Kind.Data) pn = by-last-column (One Kind.Data) (λ c. refl)
-  acknowledged-agrees (All Kind.Data) pn = by-last-column (All Kind.Data) (λ c. refl)
+  counted-by : (e : Expect) → who e ≡ dataByte K x s .last → s .counts .acknowledged + once (who e) ≡ dataByte K x s .counts .acknowledged
+  unfolding dataByte counted
+  counted-by e h = ap (λ (k : ℕ). s .counts .acknowledged + k) (ap once h ∙ once-present K (backplanes (s .registers)) (position K (s .registers)) (length (s .ram)))
+
+  pub told : (e : Expect) → 0 < n → Told e
+  unfolding dataByte
+  told Control pn = record { acknowledged = always Control pn (λ c. refl); last = refl }
+  told (One Kind.Command) pn = record { acknowledged = always (One Kind.Command) pn (λ c. refl); last = refl }
+  told (All Kind.Command) pn = record { acknowledged = always (All Kind.Command) pn (λ c. refl); last = refl }
+  told (One Kind.Data) pn = let h = by-last-column (One Kind.Data) (λ c. refl) in record { acknowledged = counted-by (One Kind.Data) h; last = h }
+  told (All Kind.Data) pn = let h = by-last-column (All Kind.Data) (λ c. refl) in record { acknowledged = counted-by (All Kind.Data) h; last = h }
 
 -- ---- all bytes, the group's chips standing among chips that do not hear
 
 -- the plain account of a group in state s
 abbrev pub plainOf : Part → ℕ → ℕ → List Chip → List Chip → Group → Plain
-plainOf K n g before after s = record { acknowledged = s .counts .acknowledged; chips = before ++ (chipsOfGroup K n g s ++ after) }
+plainOf K n g before after s = record { acknowledged = s .counts .acknowledged; last = s .last; chips = before ++ (chipsOfGroup K n g s ++ after) }
 
 module _ (K : Part) (n g : ℕ) (keeps : Keeps K) (pn : 0 < n) (l : n ≤ K .limit) (before after : List Chip)
     (deaf-before : Deaf (addressOf g) before) (deaf-after : Deaf (addressOf g) after) where
@@ -94,11 +110,10 @@ module _ (K : Part) (n g : ℕ) (keeps : Keeps K) (pn : 0 < n) (l : n ≤ K .lim
       (alike f (chipByte K e x) g (s .registers) (s .registers) (λ i c. rw (eq-eqb (addressOf g) (addressOf g) refl)) K n 0 (s .ram) ∙ byte-agrees K n g x s l k e)
       (deaf-keep K (addressOf g) x e after deaf-after))
 
-  acknowledge : (e : Expect) (x : ℕ) (s : Group) → Kept K (K .columns * n) s
-      → s .counts .acknowledged + acknowledgedOnce K (addressOf g) e x (before ++ (chipsOfGroup K n g s ++ after)) ≡ byte K e x s .counts .acknowledged
-  acknowledge e x s k =
-      ap (λ (t : Bool). s .counts .acknowledged + cond t 1 0) (deaf-around (addressOf g) (acknowledgesByte K e x) before (chipsOfGroup K n g s) after deaf-before deaf-after)
-      ∙ acknowledged-agrees K n g x s l k e pn
+  -- who acknowledges is one of the group's chips
+  among : (e : Expect) (x : ℕ) (s : Group) → Kept K (K .columns * n) s
+      → acknowledgedBy K (addressOf g) e x (before ++ (chipsOfGroup K n g s ++ after)) ≡ smallest (λ c. hears (addressOf g) c && acknowledgesByte K e x c) (chipsOfGroup K n g s)
+  among e x s k = deaf-around (addressOf g) (acknowledgesByte K e x) before (chipsOfGroup K n g s) after deaf-before deaf-after
 
   -- the law
   pub heard-agrees : (xs : List ℕ) (e : Expect) (s : Group) → Kept K (K .columns * n) s
@@ -106,5 +121,6 @@ module _ (K : Part) (n g : ℕ) (keeps : Keeps K) (pn : 0 < n) (l : n ≤ K .lim
   unfolding plainHeard heard
   heard-agrees [] e s k = refl
   heard-agrees (x ∷ xs) e s k =
-      ap₂ (λ (a : ℕ) (cs : List Chip). plainHeard K (addressOf g) (next e x) xs (record { acknowledged = a; chips = cs })) (acknowledge e x s k) (hold e x s k)
+      (λ i. let who = among e x s k i in plainHeard K (addressOf g) (next e x) xs (record { acknowledged = s .counts .acknowledged + once who; last = lastAfter e who (s .last); chips = hold e x s k i }))
+      ∙ (λ i. let t = told K n g x s l k e pn in plainHeard K (addressOf g) (next e x) xs (record { acknowledged = t .acknowledged i; last = t .last i; chips = before ++ (chipsOfGroup K n g (byte K e x s) ++ after) }))
       ∙ heard-agrees xs (next e x) (byte K e x s) (byte-keeps K (K .columns * n) keeps e x s k)

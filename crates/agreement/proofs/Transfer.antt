@@ -21,7 +21,7 @@ use Rattle.sheet.specs.Parts.{Part}
 use Rattle.sheet.specs.Protocol.{addressOf, heardBy}
 use Rattle.sheet.specs.Checks.{checkTransfer}
 use Rattle.sheet.specs.Long.{Group, After, heard, taken, answered, transferCall, State, stateOf}
-use Rattle.sheet.specs.Plain.{Plain, PlainAfter, plainHeard, plainSaid, plainTaken, plainAnswered, plainCall}
+use Rattle.sheet.specs.Plain.{begunBy, Plain, PlainAfter, plainHeard, plainSaid, plainTaken, plainAnswered, plainCall}
 use Rattle.sheet.specs.Agree.{chipsOf, plainly, Keeps, Valid, Agrees}
 use Rattle.laws.proofs.Kept.{Kept, heard-keeps}
 use Rattle.laws.proofs.Fits.{Fits, fits-of}
@@ -59,7 +59,7 @@ module _ (K : Part) (keeps : Keeps K) (n : Chips) (s : State) (bytes : List ℕ)
   -- groups a and b after the transfer
   conclude : (a b : Group) (p : Plain) (t : After) → Kept K (K .columns * n .zero) a → Kept K (K .columns * n .one) b
       → p .chips ≡ chipsOfGroup K (n .zero) 0 a ++ chipsOfGroup K (n .one) 1 b → left t ≡ together a b
-      → PlainAnswer.Acknowledged (p .acknowledged) ≡ plainly (t .result .answer) → Same K n (plainSaid p) t
+      → PlainAnswer.Acknowledged (p .acknowledged) (p .last) ≡ plainly (t .result .answer) → Same K n (plainSaid p) t
   conclude a b p t ka kb ep et ea = record {
     hold = ep ∙ sym (ap (λ (q : State). chipsOf K n q) et ∙ chips-together K n a b ka);
     acknowledge = ea;
@@ -68,7 +68,7 @@ module _ (K : Part) (keeps : Keeps K) (n : Chips) (s : State) (bytes : List ℕ)
 
   -- the transfer to a chip, by its address
   abbrev plain : ℕ → Plain
-  plain address = plainHeard K address Control (drop 1 bytes) (record { acknowledged = 1; chips = chipsOf K n s })
+  plain address = plainHeard K address Control (drop 1 bytes) (begunBy 1 (chipsOf K n s))
 
   abbrev long : Addressed → After
   long to = taken K n (s .registers) (s .ram) bytes to
@@ -77,7 +77,7 @@ module _ (K : Part) (keeps : Keeps K) (n : Chips) (s : State) (bytes : List ℕ)
   to-zero pn =
       let others = chipsOfGroup K (n .one) 1 groupOne in
       let e : plain (addressOf 0) ≡ plainOf K (n .zero) 0 [] others (after groupZero) =
-      ap (λ (cs : List Chip). plainHeard K (addressOf 0) Control (drop 1 bytes) (record { acknowledged = 1; chips = cs })) chips-before
+      ap (λ (cs : List Chip). plainHeard K (addressOf 0) Control (drop 1 bytes) (begunBy 1 cs)) chips-before
       ∙ heard-agrees K (n .zero) 0 keeps pn (fits .zero-few) [] others refl (group-hears (addressOf 0) K (n .one) 1 (groupOne .registers) (groupOne .ram)) (drop 1 bytes) Control groupZero (kept-zero K n s fits) in
       conclude (after groupZero) groupOne (plain (addressOf 0)) (long (To 0)) (heard-keeps K (K .columns * n .zero) keeps (drop 1 bytes) Control groupZero (kept-zero K n s fits)) (kept-one K n s fits)
       (ap (λ (p : Plain). p .chips) e)
@@ -85,13 +85,13 @@ module _ (K : Part) (keeps : Keeps K) (n : Chips) (s : State) (bytes : List ℕ)
         registers = record { zero = after groupZero .registers; one = s .registers .one };
         ram = after groupZero .ram ++ (ap (λ (k : ℕ). drop k (s .ram)) (zero-add (K .columns * n .zero)) ∙ sym (rest-one K n s fits)) i;
       })
-      (ap (λ (p : Plain). PlainAnswer.Acknowledged (p .acknowledged)) e)
+      (ap (λ (p : Plain). PlainAnswer.Acknowledged (p .acknowledged) (p .last)) e)
 
   to-one : 0 < n .one → Same K n (plainSaid (plain (addressOf 1))) (long (To 1))
   to-one pn =
       let others = chipsOfGroup K (n .zero) 0 groupZero in
       let e : plain (addressOf 1) ≡ plainOf K (n .one) 1 others [] (after groupOne) =
-      ap (λ (cs : List Chip). plainHeard K (addressOf 1) Control (drop 1 bytes) (record { acknowledged = 1; chips = cs }))
+      ap (λ (cs : List Chip). plainHeard K (addressOf 1) Control (drop 1 bytes) (begunBy 1 cs))
       (chips-before ∙ ap (λ (cs : List Chip). others ++ cs) (sym (append-nil (chipsOfGroup K (n .one) 1 groupOne))))
       ∙ heard-agrees K (n .one) 1 keeps pn (fits .one-few) others [] (group-hears (addressOf 1) K (n .zero) 0 (groupZero .registers) (groupZero .ram)) refl (drop 1 bytes) Control groupOne (kept-one K n s fits) in
       conclude groupZero (after groupOne) (plain (addressOf 1)) (long (To 1)) (kept-zero K n s fits) (heard-keeps K (K .columns * n .one) keeps (drop 1 bytes) Control groupOne (kept-one K n s fits))
@@ -100,10 +100,10 @@ module _ (K : Part) (keeps : Keeps K) (n : Chips) (s : State) (bytes : List ℕ)
         registers = record { zero = s .registers .zero; one = after groupOne .registers };
         ram = take (K .columns * n .zero) (s .ram) ++ (ap (λ (c : List ℕ). after groupOne .ram ++ c) (drop-of-length-le (s .ram) {i = K .columns * n .zero + K .columns * n .one} (le-of-eq (fits .columns ∙ mul-add (K .columns) (n .zero) (n .one)))) ∙ append-nil (after groupOne .ram)) i;
       })
-      (ap (λ (p : Plain). PlainAnswer.Acknowledged (p .acknowledged)) e)
+      (ap (λ (p : Plain). PlainAnswer.Acknowledged (p .acknowledged) (p .last)) e)
 
   -- nobody hears: all stays
-  to-nobody : Same K n (plainSaid (record { acknowledged = 0; chips = chipsOf K n s })) (long Nobody)
+  to-nobody : Same K n (plainSaid (begunBy 0 (chipsOf K n s))) (long Nobody)
   to-nobody = record { hold = refl; acknowledge = refl; valid = v }
 
   -- ---- by byte 0
@@ -119,7 +119,7 @@ module _ (K : Part) (keeps : Keeps K) (n : Chips) (s : State) (bytes : List ℕ)
 
   abbrev Taken : Bool → Bool → Type 0
   Taken zero one =
-      Same K n (plainSaid (cond (zero || one) (plain (getD bytes 0 0)) (record { acknowledged = 0; chips = chipsOf K n s })))
+      Same K n (plainSaid (cond (zero || one) (plain (getD bytes 0 0)) (begunBy 0 (chipsOf K n s))))
       (long (cond zero (To 0) (cond one (To 1) Nobody)))
 
   by-address : (zero one : Bool) → (zero ≡ true → (getD bytes 0 0 ≡ addressOf 0) × (0 < n .zero)) → (one ≡ true → (getD bytes 0 0 ≡ addressOf 1) × (0 < n .one)) → Taken zero one

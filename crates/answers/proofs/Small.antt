@@ -11,7 +11,8 @@ use Rattle.sheet.specs.declared.Pictured.{Pictured}
 use Rattle.sheet.specs.declared.Check.{Check}
 use Rattle.sheet.specs.declared.Refusal.{Refusal}
 use Rattle.sheet.specs.declared.Refusal.the-variants.{EmptyTransfer, LongTransfer, ChipCount, RamLength, RamByte, Register, UndefinedCommand, GroupOrPhase, PictureLength, ManyChips, ChipField, LogHead, CutRecord, LongLog, StrayBits}
-use Rattle.sheet.specs.Refusals.{numberOf, refusalNumbers, numbers, plainNumbers, pictureNumbers, checkNumbers}
+use Rattle.sheet.specs.Parts.{pcf8532}
+use Rattle.sheet.specs.Refusals.{numberOf, numbers, plainNumbers, pictureNumbers, checkNumbers}
 
 small : (r : Refusal) → numberOf r < 256
 small EmptyTransfer = omega arith
@@ -31,12 +32,12 @@ small LongLog = omega arith
 small (StrayBits at) = omega arith
 
 module _ {l : List ℕ} where
-  pub answer-small : (a : Answer) → l ≡ numbers a → getD l 0 0 < 256
-  answer-small (Answer.Taken t) e = rw e (omega arith)
+  pub answer-small : (a : Answer) → l ≡ numbers pcf8532 a → getD l 0 0 < 256
+  answer-small (Answer.Taken t last) e = rw e (omega arith)
   answer-small (Answer.Refused r) e = rw e (small r)
 
-  pub plain-small : (a : PlainAnswer) → l ≡ plainNumbers a → getD l 0 0 < 256
-  plain-small (PlainAnswer.Acknowledged n) e = rw e (omega arith)
+  pub plain-small : (a : PlainAnswer) → l ≡ plainNumbers pcf8532 a → getD l 0 0 < 256
+  plain-small (PlainAnswer.Acknowledged n last) e = rw e (omega arith)
   plain-small (PlainAnswer.Refused r) e = rw e (small r)
 
   pub picture-small : (p : Pictured) → l ≡ pictureNumbers p → getD l 0 0 < 256
@@ -46,6 +47,3 @@ module _ {l : List ℕ} where
   pub check-small : (k : Check) → l ≡ checkNumbers k → getD l 0 0 < 256
   check-small Check.Passed e = rw e (omega arith)
   check-small (Check.Refused r) e = rw e (small r)
-
-  pub refusal-small : (r : Refusal) → l ≡ refusalNumbers r → getD l 0 0 < 256
-  refusal-small r e = rw e (small r)

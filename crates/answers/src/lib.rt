@@ -1,11 +1,13 @@
-// The numbers of an answer, by value: answer, place and counts. Answer 0 is taken; a refusal has its number, its place and zero counts.
+// The numbers of an answer, by value: answer, place, counts, and of a transfer who acknowledged its last data byte. Answer 0 is taken; a refusal has its number, its place and zero counts.
+use sheet::Acknowledger;
 use sheet::Answer;
 use sheet::Check;
 use sheet::Pictured;
 use sheet::PlainAnswer;
 use sheet::Refusal;
 ghost use mathlib.Core.Path.{_≡_};
-ghost use Rattle.sheet.specs.Refusals.{numberOf, placeOf, refusalNumbers, numbers, plainNumbers, pictureNumbers, checkNumbers};
+ghost use Rattle.sheet.specs.Parts.{pcf8532};
+ghost use Rattle.sheet.specs.Refusals.{numberOf, placeOf, lastNumber, refusalNumbers, numbers, plainNumbers, pictureNumbers, checkNumbers};
 
 // The paper's number of a refusal.
 pub fn number_of(refusal: Refusal) -> usize
@@ -53,49 +55,66 @@ pub fn place_of(refusal: Refusal) -> usize
     }
 }
 
-// Of a refusal: its number, its place, and zero counts.
-pub fn refusal_numbers(refusal: Refusal) -> [usize; 5]
-    ensures { λ r. ⌜ r ≡ refusalNumbers refusal ⌝ }
+// The subaddress that acknowledged the last data byte, or 4.
+fn last_number(last: Acknowledger) -> usize
+    ensures { λ r. ⌜ r ≡ lastNumber pcf8532 last ⌝ }
 {
-    [number_of(refusal), place_of(refusal), 0, 0, 0]
-}
-
-// Of a transfer: acknowledged, stored, discarded.
-pub fn numbers(answer: Answer) -> [usize; 5]
-    ensures { λ r. ⌜ r ≡ numbers answer ⌝ }
-{
-    match answer {
-        Answer::Taken(counts) => [0, 0, counts.acknowledged, counts.stored, counts.discarded],
-        Answer::Refused(refusal) => refusal_numbers(refusal),
+    match last {
+        Acknowledger::Subaddress(subaddress) => subaddress,
+        Acknowledger::None => 4,
     }
 }
 
-// Of a transfer in the plain account: acknowledged only.
-pub fn plain_numbers(answer: PlainAnswer) -> [usize; 5]
-    ensures { λ r. ⌜ r ≡ plainNumbers answer ⌝ }
+// Of a refusal: its number, its place, and zero counts; then `last`.
+fn refusal_numbers(refusal: Refusal, last: usize) -> [usize; 6]
+    ensures { λ r. ⌜ r ≡ refusalNumbers last refusal ⌝ }
+{
+    [number_of(refusal), place_of(refusal), 0, 0, 0, last]
+}
+
+// Of a transfer: acknowledged, stored, discarded, and who acknowledged its last data byte.
+pub fn numbers(answer: Answer) -> [usize; 6]
+    ensures { λ r. ⌜ r ≡ numbers pcf8532 answer ⌝ }
 {
     match answer {
-        PlainAnswer::Acknowledged(acknowledged) => [0, 0, acknowledged, 0, 0],
-        PlainAnswer::Refused(refusal) => refusal_numbers(refusal),
+        Answer::Taken { counts, last } => [
+            0,
+            0,
+            counts.acknowledged,
+            counts.stored,
+            counts.discarded,
+            last_number(last),
+        ],
+        Answer::Refused(refusal) => refusal_numbers(refusal, last_number(Acknowledger::None)),
+    }
+}
+
+// Of a transfer in the plain account: acknowledged only, and the same of its last data byte.
+pub fn plain_numbers(answer: PlainAnswer) -> [usize; 6]
+    ensures { λ r. ⌜ r ≡ plainNumbers pcf8532 answer ⌝ }
+{
+    match answer {
+        PlainAnswer::Acknowledged { bytes, last } => [0, 0, bytes, 0, 0, last_number(last)],
+        PlainAnswer::Refused(refusal) => refusal_numbers(refusal, last_number(Acknowledger::None)),
     }
 }
 
 // Of a picture: the lit elements.
-pub fn picture_numbers(pictured: Pictured) -> [usize; 5]
+pub fn picture_numbers(pictured: Pictured) -> [usize; 6]
     ensures { λ r. ⌜ r ≡ pictureNumbers pictured ⌝ }
 {
     match pictured {
-        Pictured::Lit(lit) => [0, 0, lit, 0, 0],
-        Pictured::Refused(refusal) => refusal_numbers(refusal),
+        Pictured::Lit(lit) => [0, 0, lit, 0, 0, 0],
+        Pictured::Refused(refusal) => refusal_numbers(refusal, 0),
     }
 }
 
 // Of a power-on: no counts.
-pub fn check_numbers(check: Check) -> [usize; 5]
+pub fn check_numbers(check: Check) -> [usize; 6]
     ensures { λ r. ⌜ r ≡ checkNumbers check ⌝ }
 {
     match check {
-        Check::Passed => [0; 5],
-        Check::Refused(refusal) => refusal_numbers(refusal),
+        Check::Passed => [0; 6],
+        Check::Refused(refusal) => refusal_numbers(refusal, 0),
     }
 }

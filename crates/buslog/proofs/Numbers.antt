@@ -7,7 +7,7 @@ use mathlib.Core.List.{List, [], _∷_}
 use Prim.Native.Nat.{ℕ, zero, suc, _+_, _-_, _%_, _≤_, _<_}
 use native.Mathlib.Omega.{arith}
 use lib.Dec.{leb, ltb, eqb}
-use lib.ListN.{length, getD, drop, length-take, length-drop}
+use lib.ListN.{length, getD, take, drop, length-take, length-drop}
 use Rattle.sheet.specs.declared.Answer.{Answer}
 use Rattle.sheet.specs.declared.Chips.{Chips}
 use Rattle.sheet.specs.declared.Addressed.{Addressed}
@@ -19,16 +19,19 @@ use Rattle.sheet.specs.declared.Refusal.{Refusal}
 use Rattle.sheet.specs.declared.Refusal.the-variants.{EmptyTransfer, LongTransfer, ChipCount, UndefinedCommand, LogHead, LongLog, StrayBits}
 use Rattle.sheet.specs.declared.Check.{Check}
 use Rattle.sheet.specs.declared.Check.the-variants.{Passed, Refused}
-use Rattle.sheet.specs.Refusals.{numberOf, placeOf, numbers}
+use Rattle.sheet.specs.Refusals.{numberOf, placeOf, lastNumber, numbers}
 use Rattle.sheet.specs.Parts.{commandOf, pcf8532}
 use Rattle.sheet.specs.Commands.{defined}
-use Rattle.sheet.specs.Protocol.{heardBy, next}
+use Rattle.sheet.specs.Protocol.{heardBy, chipsIn, next}
 use Rattle.sheet.specs.Checks.{unless, orElse, checkChips, checkLength, faultOf, fault, faultIn, checkBytes, checkTransfer}
 use Rattle.sheet.specs.Long.{begun, State, Group, heard, taken, answered, transferCall, registersOf, columnsOf}
 use Rattle.sheet.specs.Records.{Records, lengthOf, readIn, recordsFrom}
 use Rattle.sheet.specs.Logs.{logRecords, checkLog}
 use Rattle.sheet.specs.Agree.{Valid}
-use Rattle.laws.proofs.Fits.{transfer-passed}
+use Rattle.laws.proofs.Fits.{fits-of, transfer-passed}
+use Rattle.laws.proofs.Kept.{pcf8532-keeps}
+use Rattle.laws.proofs.Lens.{few-chips-in, group-kept}
+use Rattle.laws.proofs.Acknowledgers.{heard-among, last-few}
 use Rattle.laws.proofs.Sums as sums
 use borrow.Author.Tests.{leb-true, le-leb, lt-leb}
 use Rattle.lemmas.proofs.Order.{lt-or-le}
@@ -112,11 +115,16 @@ log-few log =
 
 -- ---- transfers
 
+-- an answer's six numbers: five small ones and one of one digit
+abbrev Told : Answer → Type 0
+Told a = Small (take 5 (numbers pcf8532 a)) × (getD (numbers pcf8532 a) 5 0 < 10)
+
 -- a group that hears a transfer of 4,096 bytes at most
-heard-few : (g : Group) (bytes : List ℕ) → sums.Few 1 (g .counts) → length bytes < 4097 → Small (numbers (Answer.Taken (heard pcf8532 Control (drop 1 bytes) g .counts)))
-heard-few g bytes begun few =
+heard-few : (g : Group) (bytes : List ℕ) → sums.Few 1 (g .counts) → length bytes < 4097
+    → let h = heard pcf8532 Control (drop 1 bytes) g in lastNumber pcf8532 (h .last) ≤ 4 → Told (Answer.Taken (h .counts) (h .last))
+heard-few g bytes begun few last =
     let s = sums.heard-few pcf8532 Control (drop 1 bytes) g 1 begun in
-    omega (arith, s .acknowledged, s .bits, length-drop 1 bytes)
+    (omega (arith, s .acknowledged, s .bits, length-drop 1 bytes), omega arith)
 
 -- in a state that no call refuses
 module _ (n : Chips) (s : State) (bytes : List ℕ) (v : Valid pcf8532 n s) (short : length bytes ≤ 65536) where
@@ -135,28 +143,33 @@ module _ (n : Chips) (s : State) (bytes : List ℕ) (v : Valid pcf8532 n s) (sho
       lengths false u = omega arith
 
   -- a taken transfer's counts
-  transfer-taken : checkTransfer pcf8532 n (s .registers) (s .ram) bytes ≡ Passed → (to : Addressed) → Small (numbers (taken pcf8532 n (s .registers) (s .ram) bytes to .result .answer))
+  transfer-taken : checkTransfer pcf8532 n (s .registers) (s .ram) bytes ≡ Passed → (to : Addressed) → Told (taken pcf8532 n (s .registers) (s .ram) bytes to .result .answer)
   transfer-taken e (To g) =
-      heard-few (begun (registersOf g (s .registers)) (columnsOf pcf8532 n g (s .ram))) bytes (record { acknowledged = omega arith; bits = omega arith })
+      let f = fits-of pcf8532 n (s .registers) (s .ram) v in
+      let on = begun (registersOf g (s .registers)) (columnsOf pcf8532 n g (s .ram)) in
+      let who = heard pcf8532 Control (drop 1 bytes) on .last in
+      heard-few on bytes (record { acknowledged = omega arith; bits = omega arith })
       (transfer-passed pcf8532 n (s .registers) (s .ram) bytes e .1 .1)
-  transfer-taken e Nobody = omega arith
+      (last-few pcf8532 (chipsIn g n) who (few-chips-in pcf8532 n (s .registers) (s .ram) f g)
+      (heard-among pcf8532 pcf8532-keeps (chipsIn g n) (drop 1 bytes) Control on (group-kept pcf8532 n (s .registers) (s .ram) f g) tt))
+  transfer-taken e Nobody = (omega arith, omega arith)
 
   -- an answer's numbers
-  pub transfer-few : Small (numbers (transferCall pcf8532 n (s .registers) (s .ram) bytes .result .answer))
+  pub transfer-few : Told (transferCall pcf8532 n (s .registers) (s .ram) bytes .result .answer)
   unfolding transferCall
   transfer-few = by-check (checkTransfer pcf8532 n (s .registers) (s .ram) bytes) refl transfer-refused
     where
-      by-check : (k : Check) → checkTransfer pcf8532 n (s .registers) (s .ram) bytes ≡ k → Few k → Small (numbers (answered k (s .registers) (s .ram) (taken pcf8532 n (s .registers) (s .ram) bytes (heardBy n (getD bytes 0 0))) .result .answer))
+      by-check : (k : Check) → checkTransfer pcf8532 n (s .registers) (s .ram) bytes ≡ k → Few k → Told (answered k (s .registers) (s .ram) (taken pcf8532 n (s .registers) (s .ram) bytes (heardBy n (getD bytes 0 0))) .result .answer)
       by-check Passed e f = transfer-taken e (heardBy n (getD bytes 0 0))
-      by-check (Refused r) e f = omega arith
+      by-check (Refused r) e f = (omega arith, omega arith)
 
 -- of a transfer of no byte, or of the address alone, they have one digit each
-pub transfer-short : (n : Chips) (s : State) (bytes : List ℕ) → Valid pcf8532 n s → length bytes < 2 → Below 0 (numbers (transferCall pcf8532 n (s .registers) (s .ram) bytes .result .answer))
+pub transfer-short : (n : Chips) (s : State) (bytes : List ℕ) → Valid pcf8532 n s → length bytes < 2 → Below 0 (numbers pcf8532 (transferCall pcf8532 n (s .registers) (s .ram) bytes .result .answer))
 unfolding transferCall checkTransfer checkLength faultIn heard
 transfer-short n s [] v l = rw v (omega arith)
 transfer-short n s (x ∷ []) v l = rw v (by-address (heardBy n x))
   where
-    by-address : (to : Addressed) → Below 0 (numbers (answered (checkBytes pcf8532 to (x ∷ [])) (s .registers) (s .ram) (taken pcf8532 n (s .registers) (s .ram) (x ∷ []) to) .result .answer))
+    by-address : (to : Addressed) → Below 0 (numbers pcf8532 (answered (checkBytes pcf8532 to (x ∷ [])) (s .registers) (s .ram) (taken pcf8532 n (s .registers) (s .ram) (x ∷ []) to) .result .answer))
     by-address (To g) = omega arith
     by-address Nobody = omega arith
 transfer-short n s (x ∷ y ∷ xs) v l = absurd (omega arith)

@@ -9,7 +9,7 @@ use native.Mathlib.Nat.{div-le-self, mod-le}
 use native.Mathlib.Omega.{arith}
 use lib.Count.{ones-le}
 use lib.Dec.{eqb}
-use lib.ListN.{length, drop, length-append, length-map}
+use lib.ListN.{length, getD, take, drop, length-append, length-map, length-take}
 use borrow.Author.Tests.{lt-ltb, le-ltb}
 use Rattle.lemmas.proofs.Order.{lt-or-le}
 use Rattle.sheet.specs.declared.Answer.{Answer}
@@ -32,25 +32,31 @@ use Rattle.agreement.proofs.Demand.{pcf8532-agrees}
 use Rattle.laws.proofs.Lens.{few-chips-in, length-columns}
 use Rattle.buslog.specs.declared.Replayed.the-variants.{Written}
 use Rattle.buslog.specs.Replays.{room, replayCall}
-use Rattle.buslog.proofs.Widths.{line-few, line-short}
+use Rattle.buslog.proofs.Widths.{line-few, line-last, line-short}
 use Rattle.buslog.proofs.Numbers.{weight, Few, log-bounded, log-few, transfer-few, transfer-short}
 use Rattle.buslog.proofs.Checked.{checked}
 use Rattle.buslog.proofs.States.{start-valid}
 
 -- ---- transfers
 
--- an answer has five numbers, and a transfer's line one more
-five : (a : Answer) → length (numbers a) ≡ 5
-five (Answer.Taken t) = refl
-five (Answer.Refused r) = refl
+-- an answer has six numbers, five and one more
+six : (a : Answer) → length (numbers pcf8532 a) ≡ 6
+six (Answer.Taken t last) = refl
+six (Answer.Refused r) = refl
 
--- ten bytes at most for each byte of the record: a line of one digit a count for a record of no byte or one, and else 38
+and-last : (a : Answer) → numbers pcf8532 a ≡ take 5 (numbers pcf8532 a) ++ (getD (numbers pcf8532 a) 5 0 ∷ [])
+and-last (Answer.Taken t last) = refl
+and-last (Answer.Refused r) = refl
+
+-- ten bytes at most for each byte of the record: a line of one digit a count for a record of no byte or one, and else 40
 transfer-line : (n : Chips) (i : ℕ) (s : State) (t : List ℕ) → Valid pcf8532 n s → length t ≤ 65536 → i < 100000
     → length (transferLine i (transferCall pcf8532 n (s .registers) (s .ram) t .result .answer)) ≤ 10 * (length t + 2)
 transfer-line n i s t v short h =
     let a = transferCall pcf8532 n (s .registers) (s .ram) t .result .answer in
-    ⊎-elim (λ (l : length t < 2). omega (arith, line-short transferLetter i (numbers a) h (transfer-short n s t v l) (five a)))
-    (λ (l : 2 ≤ length t). omega (arith, line-few transferLetter (i ∷ numbers a) (h, transfer-few n s t v short), five a))
+    ⊎-elim (λ (l : length t < 2). omega (arith, line-short transferLetter i (numbers pcf8532 a) h (transfer-short n s t v l) (six a)))
+    (λ (l : 2 ≤ length t).
+    let told = transfer-few n s t v short in
+    rw (and-last a) (omega (arith, line-last transferLetter (i ∷ take 5 (numbers pcf8532 a)) (getD (numbers pcf8532 a) 5 0) (h, told .0) (told .1), length-take 5 (numbers pcf8532 a))))
     (lt-or-le (length t) 2)
 
 -- i records before these had two bytes at least

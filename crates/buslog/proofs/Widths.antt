@@ -1,8 +1,8 @@
 -- How long lines are, by the digits of their numbers.
 -- Assumes nothing.
-use mathlib.Core.Path.{_≡_, ap}
+use mathlib.Core.Path.{_≡_, refl, sym, ap, _∙_}
 use mathlib.Core.Logic.{⊎-elim}
-use mathlib.Core.List.{List, [], _∷_}
+use mathlib.Core.List.{List, [], _∷_, _++_, append-assoc}
 use Prim.Native.Nat.{ℕ, zero, suc, _+_, _*_, _/_, _%_, _^_, _≤_, _<_}
 use native.Mathlib.Nat.{pow-suc}
 use native.Mathlib.Omega.{arith}
@@ -29,6 +29,11 @@ Below k (n ∷ ns) = (n < 10 ^ suc k) × Below k ns
 abbrev pub Small : List ℕ → Type 0
 Small ns = Below 4 ns
 
+spaced-append : (ns ms : List ℕ) → spaced (ns ++ ms) ≡ spaced ns ++ spaced ms
+unfolding spaced
+spaced-append [] ms = refl
+spaced-append (n ∷ ns) ms = ap (λ (l : List ℕ). 32 ∷ l) (ap (λ (l : List ℕ). decimal n ++ l) (spaced-append ns ms) ∙ sym (append-assoc (decimal n) (spaced ns) (spaced ms)))
+
 -- a space and the digits, a number
 pub spaced-few : (k : ℕ) (ns : List ℕ) → Below k ns → length (spaced ns) ≤ (k + 2) * length ns
 unfolding spaced
@@ -39,8 +44,14 @@ spaced-few k (n ∷ ns) s = omega (arith, length-append (decimal n) (spaced ns),
 pub line-few : (letter : ℕ) (ns : List ℕ) → Small ns → length (line letter ns) ≤ 6 * length ns + 2
 line-few letter ns s = omega (arith, length-append (spaced ns) (10 ∷ []), spaced-few 4 ns s)
 
--- a small number and five of one digit
-pub line-short : (letter n : ℕ) (ns : List ℕ) → n < 100000 → Below 0 ns → length ns ≡ 5 → length (line letter (n ∷ ns)) ≤ 18
+-- one number of one digit more
+pub line-last : (letter : ℕ) (ns : List ℕ) (last : ℕ) → Small ns → last < 10 → length (line letter (ns ++ (last ∷ []))) ≤ 6 * length ns + 4
+line-last letter ns last s h =
+    omega
+    (arith, length-append (spaced (ns ++ (last ∷ []))) (10 ∷ []), ap length (spaced-append ns (last ∷ [])), length-append (spaced ns) (spaced (last ∷ [])), spaced-few 4 ns s, spaced-few 0 (last ∷ []) (omega arith))
+
+-- a small number and six of one digit
+pub line-short : (letter n : ℕ) (ns : List ℕ) → n < 100000 → Below 0 ns → length ns ≡ 6 → length (line letter (n ∷ ns)) ≤ 20
 unfolding spaced
 line-short letter n ns h s e =
     omega (arith, length-append (spaced (n ∷ ns)) (10 ∷ []), length-append (decimal n) (spaced ns), decimal-few 4 n h, spaced-few 0 ns s)

@@ -27,9 +27,9 @@ use Rattle.wire.proofs.Given.{Bytes, both-back, unwritten}
 use Rattle.cabi.specs.Calls.{chipsOf, transferC, chipPowerOnC, plainC}
 
 -- power-on of a chip writes its registers only, taken or refused
-pub powered-chip : (chip answer : List ℕ) → length chip ≡ 171 → length answer ≡ 5 → chipPowerOnC chip answer .buffer ≡ take 162 chip ++ bytesOf powerOn
+pub powered-chip : (chip answer : List ℕ) → length chip ≡ 171 → length answer ≡ 6 → chipPowerOnC chip answer .buffer ≡ take 162 chip ++ bytesOf powerOn
 unfolding chipPowerOnC chipPowerOn
-powered-chip chip answer e five = rw (eq-eqb (length chip) 171 e, eq-eqb (length answer) 5 five) (unwritten chip (bytesOf powerOn) e)
+powered-chip chip answer e six = rw (eq-eqb (length chip) 171 e, eq-eqb (length answer) 6 six) (unwritten chip (bytesOf powerOn) e)
 
 -- ---- refused
 
@@ -45,16 +45,16 @@ refused K n r ram bytes x = by (checkTransfer K n r ram bytes) (heardBy n (getD 
     by Passed Nobody e = let z : _≡_ {A = ℕ} 0 1 = cc in absurd (omega arith)
 
 -- a refused transfer gives C back the registers byte for byte, and the RAM
-pub refused-transfer : (z o : ℕ) (registers ram bytes answer : List ℕ) (x : Refusal) → length registers ≡ 18 → Bytes registers → length answer ≡ 5
+pub refused-transfer : (z o : ℕ) (registers ram bytes answer : List ℕ) (x : Refusal) → length registers ≡ 18 → Bytes registers → length answer ≡ 6
     → transferCall pcf8532 (chipsOf z o) (bothOf registers) ram bytes .result .answer ≡ Answer.Refused x
     → let t = transferC z o registers ram bytes answer in (t .registers ≡ registers) × (t .buffer ≡ ram)
 unfolding transferC
-refused-transfer z o registers ram bytes answer x e w five h =
+refused-transfer z o registers ram bytes answer x e w six h =
     let t = refused pcf8532 (chipsOf z o) (bothOf registers) ram bytes x h in
-    rw (eq-eqb (length registers) 18 e, eq-eqb (length answer) 5 five) (ap bothBytes (t .0) ∙ both-back registers e w, t .1)
+    rw (eq-eqb (length registers) 18 e, eq-eqb (length answer) 6 six) (ap bothBytes (t .0) ∙ both-back registers e w, t .1)
 
 -- and one of the plain account gives back the chips
-pub refused-plain : (chips bytes answer : List ℕ) (x : Refusal) → length chips % 171 ≡ 0 → length answer ≡ 5 → lentCall chips bytes .answer ≡ PlainAnswer.Refused x
+pub refused-plain : (chips bytes answer : List ℕ) (x : Refusal) → length chips % 171 ≡ 0 → length answer ≡ 6 → lentCall chips bytes .answer ≡ PlainAnswer.Refused x
     → plainC chips bytes answer .buffer ≡ chips
 unfolding plainC lentCall
-refused-plain chips bytes answer x e five h = rw (eq-eqb (length chips % 171) 0 e, eq-eqb (length answer) 5 five, h) refl
+refused-plain chips bytes answer x e six h = rw (eq-eqb (length chips % 171) 0 e, eq-eqb (length answer) 6 six, h) refl

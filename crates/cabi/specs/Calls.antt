@@ -24,10 +24,10 @@ pub record Called : Type 0 where
   pub buffer : List ℕ
   pub answer : List ℕ
 
--- 255, and nothing is written, unless registers are 18 bytes and an answer has five numbers
+-- 255, and nothing is written, unless registers are 18 bytes and an answer has six numbers
 abbrev pub sized : List ℕ → List ℕ → List ℕ → Called → Called
 sized registers buffer answer c =
-    cond (eqb (length registers) 18 && eqb (length answer) 5) c (record { number = 255; registers = registers; buffer = buffer; answer = answer })
+    cond (eqb (length registers) 18 && eqb (length answer) 6) c (record { number = 255; registers = registers; buffer = buffer; answer = answer })
 
 unfoldable pub powerOnC : ℕ → ℕ → List ℕ → List ℕ → List ℕ → Called
 powerOnC z o ram registers answer =
@@ -38,7 +38,7 @@ powerOnC z o ram registers answer =
 unfoldable pub transferC : ℕ → ℕ → List ℕ → List ℕ → List ℕ → List ℕ → Called
 transferC z o registers ram bytes answer =
     let t = transferCall pcf8532 (chipsOf z o) (bothOf registers) ram bytes in
-    let k = numbers (t .result .answer) in
+    let k = numbers pcf8532 (t .result .answer) in
     sized registers ram answer (record { number = getD k 0 0; registers = bothBytes (t .result .registers); buffer = t .ram; answer = k })
 
 unfoldable pub pictureC : ℕ → ℕ → List ℕ → List ℕ → ℕ → ℕ → List ℕ → List ℕ → Called
@@ -54,9 +54,9 @@ pub record PlainCalled : Type 0 where
   pub buffer : List ℕ
   pub answer : List ℕ
 
--- 255, and nothing is written, unless chips are whole and an answer has five numbers
+-- 255, and nothing is written, unless chips are whole and an answer has six numbers
 abbrev pub plainSized : Bool → List ℕ → List ℕ → PlainCalled → PlainCalled
-plainSized whole buffer answer c = cond (whole && eqb (length answer) 5) c (record { number = 255; buffer = buffer; answer = answer })
+plainSized whole buffer answer c = cond (whole && eqb (length answer) 6) c (record { number = 255; buffer = buffer; answer = answer })
 
 -- one chip, 171 bytes: taken or refused, only the registers are new
 unfoldable pub chipPowerOnC : List ℕ → List ℕ → PlainCalled
@@ -75,7 +75,7 @@ chipPictureC chip phase out answer =
 unfoldable pub plainC : List ℕ → List ℕ → List ℕ → PlainCalled
 plainC chips bytes answer =
     let s = lentCall chips bytes in
-    let k = plainNumbers (s .answer) in
+    let k = plainNumbers pcf8532 (s .answer) in
     plainSized (eqb (length chips % 171) 0) chips answer (record { number = getD k 0 0; buffer = s .chips; answer = k })
 
 -- ---- replay

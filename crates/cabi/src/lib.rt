@@ -1,5 +1,5 @@
 // The model for C and Rust: numbers and lent buffers only. Registers are 18 bytes, group 0's nine and then group 1's, in the order E B M P A I O AB BF;
-// a chip is 171 bytes (`wire`); an answer is five numbers: answer, place, acknowledged, stored, discarded. A buffer of another size is answered 255 and nothing is written.
+// a chip is 171 bytes (`wire`); an answer is six numbers: answer, place, acknowledged, stored, discarded, and who acknowledged the last data byte. A buffer of another size is answered 255 and nothing is written.
 use buslog::Replayed;
 use sheet::Chips;
 ghost use mathlib.Core.Path.{_≡_};
@@ -17,7 +17,7 @@ pub extern "C" fn humtrellis_power_on(
 ) -> u8
     ensures { λ r. ⌜ powerOnC chips0 chips1 (now (ram .entry)) (now (registers .entry)) (now (answer .entry)) ≡ record { number = r; registers = now (registers .exit); buffer = now (ram .entry); answer = now (answer .exit) } ⌝ }
 {
-    if (registers.len() == 18) & (answer.len() == 5) {
+    if (registers.len() == 18) & (answer.len() == 6) {
         let chips = Chips {
             zero: chips0,
             one: chips1,
@@ -44,7 +44,7 @@ pub extern "C" fn humtrellis_transfer(
 ) -> u8
     ensures { λ r. ⌜ transferC chips0 chips1 (now (registers .entry)) (now (ram .entry)) (now (bytes .entry)) (now (answer .entry)) ≡ record { number = r; registers = now (registers .exit); buffer = now (ram .exit); answer = now (answer .exit) } ⌝ }
 {
-    if (registers.len() == 18) & (answer.len() == 5) {
+    if (registers.len() == 18) & (answer.len() == 6) {
         let chips = Chips {
             zero: chips0,
             one: chips1,
@@ -74,7 +74,7 @@ pub extern "C" fn humtrellis_picture(
 ) -> u8
     ensures { λ r. ⌜ pictureC chips0 chips1 (now (registers .entry)) (now (ram .entry)) group phase (now (out .entry)) (now (answer .entry)) ≡ record { number = r; registers = now (registers .entry); buffer = now (out .exit); answer = now (answer .exit) } ⌝ }
 {
-    if (registers.len() == 18) & (answer.len() == 5) {
+    if (registers.len() == 18) & (answer.len() == 6) {
         let chips = Chips {
             zero: chips0,
             one: chips1,
@@ -92,7 +92,7 @@ pub extern "C" fn humtrellis_picture(
 pub extern "C" fn humtrellis_chip_power_on(chip: &mut [u8], answer: &mut [usize]) -> u8
     ensures { λ r. ⌜ chipPowerOnC (now (chip .entry)) (now (answer .entry)) ≡ record { number = r; buffer = now (chip .exit); answer = now (answer .exit) } ⌝ }
 {
-    if (chip.len() == 171) & (answer.len() == 5) {
+    if (chip.len() == 171) & (answer.len() == 6) {
         let before = wire::chip_of(chip);
         let done = chip::power_on(before);
         let after = done.chip;
@@ -114,7 +114,7 @@ pub extern "C" fn humtrellis_chip_picture(
 ) -> u8
     ensures { λ r. ⌜ chipPictureC (now (chip .entry)) phase (now (out .entry)) (now (answer .entry)) ≡ record { number = r; buffer = now (out .exit); answer = now (answer .exit) } ⌝ }
 {
-    if (chip.len() == 171) & (answer.len() == 5) {
+    if (chip.len() == 171) & (answer.len() == 6) {
         let before = wire::chip_of(chip);
         let shown = chip::picture(before, phase, out);
         wire::put_numbers(answers::picture_numbers(shown), answer)
@@ -132,7 +132,7 @@ pub extern "C" fn humtrellis_plain_transfer(
 ) -> u8
     ensures { λ r. ⌜ plainC (now (chips .entry)) (now (bytes .entry)) (now (answer .entry)) ≡ record { number = r; buffer = now (chips .exit); answer = now (answer .exit) } ⌝ }
 {
-    if (chips.len() % 171 == 0) & (answer.len() == 5) {
+    if (chips.len() % 171 == 0) & (answer.len() == 6) {
         let said = lent::transfer(chips, bytes);
         wire::put_numbers(answers::plain_numbers(said), answer)
     } else {

@@ -15,7 +15,7 @@ use Rattle.sheet.specs.declared.Expect.the-variants.{Control, One, All}
 use Rattle.sheet.specs.Parts.{pcf8532}
 use Rattle.sheet.specs.Protocol.{next}
 use Rattle.sheet.specs.Long.{Group, begun, byte, heard}
-use Rattle.sheet.specs.Runs.{writtenBy, countedBy, movedBy}
+use Rattle.sheet.specs.Runs.{writtenBy}
 use Rattle.laws.proofs.Runs.{run-at-once}
 use Rattle.laws.proofs.Kept.{Kept, heard-keeps, pcf8532-keeps}
 use Rattle.laws.proofs.Sums.{Few, heard-few}
@@ -115,7 +115,7 @@ module _ (ram₀ bytes : List ℕ) (r : Registers) (ram : List ℕ) (l : Listene
       let run : IsRun (l .expect) xs = subst (λ (k : ℕ). IsRun (l .expect) (take (k - i) (drop i bytes))) (sym ends) (run-of bytes i h (l .expect) (rw (sym ends) some)) in
       turn end (le-of-lt some) most after l′
       (ap (λ (k : Listener). k .expect) el ∙ sym (run .then))
-      ((λ j. record { registers = el j .registers; ram = er j; counts = el j .counts })
-      ∙ ap₂ (λ (n size : ℕ). record { registers = movedBy pcf8532 n (l .registers); ram = writtenBy pcf8532 (l .registers) xs ram; counts = countedBy pcf8532 (l .registers) n size (l .counts) }) (sym (part-length bytes i end most)) (sym (inv .kept .columns))
+      ((λ j. record { registers = el j .registers; ram = er j; counts = el j .counts; last = el j .last })
+      ∙ ap₂ (λ (n size : ℕ). groupOf (ran l n size) (writtenBy pcf8532 (l .registers) xs ram)) (sym (part-length bytes i end most)) (sym (inv .kept .columns))
       ∙ sym (run-at-once pcf8532 xs (groupOf l ram) (inv .kept .range .p-in) (inv .kept .range .a-in) (rw (inv .kept .columns) small))
       ∙ sym (run .alike (groupOf l ram)))

@@ -1,4 +1,4 @@
--- Data bytes followed one by one are a run at one position. A run keeps the length, and past the end it changes and counts nothing but discards.
+-- Data bytes followed one by one are a run at one position. A run keeps the length, and past the end it changes and counts nothing but discards, and nobody acknowledges it.
 -- Assumes nothing.
 use mathlib.Core.Path.{_≡_, refl, sym, ap, _∙_}
 use mathlib.Core.Logic.{⊎-elim}
@@ -11,14 +11,15 @@ use lib.Seq.{set-getD, set-out}
 use borrow.Author.Tests.{le-ltb}
 use Rattle.sheet.specs.declared.Registers.{Registers}
 use Rattle.sheet.specs.declared.Counts.{Counts}
+use Rattle.sheet.specs.declared.Acknowledger.{Acknowledger}
 use Rattle.sheet.specs.declared.Kind.{Kind}
 use Rattle.sheet.specs.declared.Expect.the-variants.{All}
 use Rattle.sheet.specs.Parts.{Part}
 use Rattle.sheet.specs.Registers.{backplanes, bankRow}
 use Rattle.sheet.specs.Long.{Group, heard, dataByte}
 use Rattle.sheet.specs.Places.{position, atPosition}
-use Rattle.sheet.specs.Data.{changed, putBits, widthOf, storedBits, counted}
-use Rattle.sheet.specs.Runs.{putRun, countedRun, writtenBy, countedBy, movedBy}
+use Rattle.sheet.specs.Data.{changed, putBits, widthOf, storedBits, counted, acknowledger}
+use Rattle.sheet.specs.Runs.{putRun, countedRun, lastRun, writtenBy, countedBy, lastBy, movedBy}
 use Rattle.laws.proofs.Steps.{home, on, many, p-at, a-at, settled}
 
 -- ---- one column changed
@@ -86,6 +87,27 @@ counts-past (suc n) m v size t h =
     ∙ rw (stored-past 8 m v size h, le-ltb (v + 7 / m) size (omega arith), add-zero (t .acknowledged), add-zero (t .stored), mul-suc 8 n)
     (ap (λ (d : ℕ). record { acknowledged = t .acknowledged; stored = t .stored; discarded = d }) (omega arith))
 
+-- and nobody acknowledges a byte
+none-past : (K : Part) (m v size : ℕ) → size ≤ v → acknowledger K m v size ≡ Acknowledger.None
+unfolding acknowledger
+none-past K m v size h = rw (le-ltb (v + 7 / m) size (omega arith))
+
+last-past : (K : Part) (n m u v size : ℕ) (before : Acknowledger) → size ≤ u → size ≤ v → lastRun K n m u size before ≡ lastRun K n m v size before
+unfolding lastRun
+last-past K zero m u v size before hu hv = refl
+last-past K (suc n) m u v size before hu hv =
+    rw (none-past K m u size hu, none-past K m v size hv) (last-past K n m (u + widthOf m) (v + widthOf m) size Acknowledger.None (omega arith) (omega arith))
+
+-- n bytes from the next byte on
+along : (v w n : ℕ) → v + w + w * n ≡ v + w * suc n
+along v w n = omega arith
+
+-- of some bytes it is the last one's
+pub last-at-once : (K : Part) (n m v size : ℕ) (before : Acknowledger) → lastRun K (suc n) m v size before ≡ acknowledger K m (v + widthOf m * n) size
+unfolding lastRun
+last-at-once K zero m v size before = rw (mul-zero (widthOf m), add-zero v)
+last-at-once K (suc n) m v size before = last-at-once K n m (v + widthOf m) size (acknowledger K m v size) ∙ ap (λ (u : ℕ). acknowledger K m u size) (along v (widthOf m) n)
+
 -- ---- from the position that a place stands for
 
 -- what is the same from any two positions past the end is the same from u and from the position of the registers at u
@@ -106,15 +128,16 @@ ran K xs g =
       registers = movedBy K (length xs) r;
       ram = writtenBy K r xs (g .ram);
       counts = countedBy K r (length xs) (length (g .ram)) (g .counts);
+      last = lastBy K r (length xs) (length (g .ram)) (g .last);
     }
 
 -- heard byte by byte, it is the same group
 pub run-at-once : (K : Part) (xs : List ℕ) (g : Group) → g .registers .p < K .columns → g .registers .a ≤ K .limit → length (g .ram) ≤ K .columns * K .limit
     → heard K (All Kind.Data) xs g ≡ ran K xs g
-unfolding heard dataByte putRun countedRun backplanes atPosition
+unfolding heard dataByte putRun countedRun lastRun backplanes atPosition
 run-at-once K [] g lp la ll =
     rw (mul-zero (widthOf (backplanes (g .registers))), add-zero (position K (g .registers)))
-    (ap (λ (s : Registers). record { registers = s; ram = g .ram; counts = g .counts }) (sym (home K (g .registers) lp la)))
+    (ap (λ (s : Registers). record { registers = s; ram = g .ram; counts = g .counts; last = g .last }) (sym (home K (g .registers) lp la)))
 run-at-once K (x ∷ xs) g lp la ll =
     let r = g .registers in
     let m = backplanes r in
@@ -140,7 +163,8 @@ run-at-once K (x ∷ xs) g lp la ll =
           (ap (λ (n : ℕ). countedRun (length xs) m (position K s) n (counted m v size (g .counts))) el
           ∙ as-good K (v + w) r size ll (λ u. countedRun (length xs) m u size (counted m v size (g .counts)))
           (λ u t hu ht. counts-past (length xs) m u size _ hu ∙ sym (counts-past (length xs) m t size _ ht))) i;
+      last =
+          (ap (λ (n : ℕ). lastRun K (length xs) m (position K s) n (acknowledger K m v size)) el
+          ∙ as-good K (v + w) r size ll (λ u. lastRun K (length xs) m u size (acknowledger K m v size))
+          (λ u t hu ht. last-past K (length xs) m u t size _ hu ht)) i;
     })
-  where
-    along : (v w n : ℕ) → v + w + w * n ≡ v + w * suc n
-    along v w n = omega arith

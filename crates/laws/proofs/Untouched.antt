@@ -25,7 +25,7 @@ use Rattle.sheet.specs.Parts.{Part}
 use Rattle.sheet.specs.Registers.{backplanes, bankRow}
 use Rattle.sheet.specs.Protocol.{addressOf, heardBy, next}
 use Rattle.sheet.specs.Long.{Group, After, begun, byteOf, byte, dataByte, heard, registersOf, columnsOf, taken, transferCall}
-use Rattle.sheet.specs.Plain.{putRows, afterColumn, afterColumns, chipData, chipByteOf, chipByte, any, hears, takes, Plain, plainHeard, plainTaken, plainSaid, plainAnswered, checkPlain, plainCall}
+use Rattle.sheet.specs.Plain.{begunBy, putRows, afterColumn, afterColumns, chipData, chipByteOf, chipByte, any, hears, takes, Plain, plainHeard, plainTaken, plainSaid, plainAnswered, checkPlain, plainCall}
 use Rattle.sheet.specs.Data.{bitOf, rowOf, withRow, changed, putBits, widthOf}
 use Rattle.sheet.specs.Lands.{bitsOn, kindOn, byteOn, heardOn, Missed, LongStays, rowsOn, columnOn, columnsOn, chipKindOn, chipByteOn, chipHeardOn, PlainStays, Untouched}
 use Rattle.laws.proofs.Rows.{row-other, row-kept, row-stays, changed-other, bit-lt}
@@ -191,7 +191,7 @@ module _ (K : Part) (cs : List Chip) (bytes : List ℕ) (i : ℕ) (d : Chip) (l 
   unfolding plainCall
   chip-after P kept moved = by-check (checkPlain K cs bytes) (plainTaken K cs bytes) (by-hearers (any (hears (getD bytes 0 0)) cs))
     where
-      by-hearers : (t : Bool) → P (getD (cond t (plainHeard K (getD bytes 0 0) Control (drop 1 bytes) (record { acknowledged = 1; chips = cs })) (record { acknowledged = 0; chips = cs }) .chips) i d)
+      by-hearers : (t : Bool) → P (getD (cond t (plainHeard K (getD bytes 0 0) Control (drop 1 bytes) (begunBy 1 cs)) (begunBy 0 cs) .chips) i d)
       by-hearers true = subst P (sym (ap (λ (k : List Chip). getD k i d) (each-alone K (getD bytes 0 0) Control (drop 1 bytes) _) ∙ map-at _ cs i d l)) moved
       by-hearers false = kept
 

@@ -16,7 +16,7 @@ use Rattle.sheet.specs.declared.PlainAnswer.{PlainAnswer}
 use Rattle.sheet.specs.declared.Refusal.the-variants.{ManyChips}
 use Rattle.sheet.specs.Parts.{Part, pcf8532}
 use Rattle.sheet.specs.Protocol.{next}
-use Rattle.sheet.specs.Plain.{Plain, takes, any, hears, plainHeard, plainSaid, plainTaken, plainAnswered, checkPlain, plainCall}
+use Rattle.sheet.specs.Plain.{begunBy, Plain, takes, any, hears, plainHeard, plainSaid, plainTaken, plainAnswered, checkPlain, plainCall}
 use Rattle.plain.specs.declared.Bench.{Bench}
 use Rattle.plain.specs.declared.BenchTransferred.{BenchTransferred}
 use Rattle.plain.specs.Benches.{benchTransferred}
@@ -34,7 +34,7 @@ length-plain : (K : Part) (cs : List Chip) (bytes : List ℕ) → length (plainC
 unfolding plainCall
 length-plain K cs bytes = go (checkPlain K cs bytes)
   where
-    taken : (h : Bool) → length (cond h (plainHeard K (getD bytes 0 0) Expect.Control (drop 1 bytes) (record { acknowledged = 1; chips = cs })) (record { acknowledged = 0; chips = cs }) .chips) ≡ length cs
+    taken : (h : Bool) → length (cond h (plainHeard K (getD bytes 0 0) Expect.Control (drop 1 bytes) (begunBy 1 cs)) (begunBy 0 cs) .chips) ≡ length cs
     taken true = heard-length K (getD bytes 0 0) Expect.Control (drop 1 bytes) _
     taken false = refl
 

@@ -15,7 +15,7 @@ pub record Lent : Type 0 where
 
 -- taken, the chips are written; refused, they are as given
 abbrev pub written : PlainAnswer → List Chip → List ℕ → List ℕ
-written (PlainAnswer.Acknowledged n) after given = listBytes after
+written (PlainAnswer.Acknowledged n last) after given = listBytes after
 written (PlainAnswer.Refused r) after given = given
 
 unfoldable pub lentCall : List ℕ → List ℕ → Lent

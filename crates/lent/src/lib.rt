@@ -16,7 +16,7 @@ fn transfer_few(chips: &mut [u8], bytes: &[u8]) -> PlainAnswer
     let after = done.bench;
     let said = done.answer;
     match said {
-        PlainAnswer::Acknowledged(_) => {
+        PlainAnswer::Acknowledged { bytes: _, last: _ } => {
             wire::put_bench(after, chips);
             said
         }

@@ -12,7 +12,7 @@ pub fn put_transfer(out: &mut [u8], at: usize, index: usize, answer: Answer) -> 
     ensures { λ r. ⌜ Puts at (transferLine index answer) (now (out .entry)) (now (out .exit)) r ⌝ }
 {
     let n = answers::numbers(answer);
-    text::put_line(out, at, b'T', &[index, n[0], n[1], n[2], n[3], n[4]])
+    text::put_line(out, at, b'T', &[index, n[0], n[1], n[2], n[3], n[4], n[5]])
 }
 
 // A column's line, if it is lit.

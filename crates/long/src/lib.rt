@@ -1,4 +1,5 @@
 // THE LONG ACCOUNT: one register set a group and one long RAM. Every input gets an answer; a refused call changes nothing.
+use sheet::Acknowledger;
 use sheet::Addressed;
 use sheet::Answer;
 use sheet::Both;
@@ -40,22 +41,26 @@ fn deliver(chips: Chips, registers: Both, ram: &mut [u8], bytes: &[u8], group: u
     let heard = hearing::hear(&mut ram[start..end], before, bytes);
     let after = heard.registers;
     let counts = heard.counts;
+    let last = heard.last;
     Transferred {
-        answer: Answer::Taken(counts),
+        answer: Answer::Taken { counts, last },
         registers: groups::replaced(group, after, registers),
     }
 }
 
 // A transfer that nobody hears.
 fn unheard(registers: Both) -> Transferred
-    ensures { λ r. ⌜ r ≡ record { answer = Answer.Taken noCounts; registers = registers } ⌝ }
+    ensures { λ r. ⌜ r ≡ record { answer = Answer.Taken noCounts Acknowledger.None; registers = registers } ⌝ }
 {
     Transferred {
-        answer: Answer::Taken(Counts {
-            acknowledged: 0,
-            stored: 0,
-            discarded: 0,
-        }),
+        answer: Answer::Taken {
+            counts: Counts {
+                acknowledged: 0,
+                stored: 0,
+                discarded: 0,
+            },
+            last: Acknowledger::None,
+        },
         registers,
     }
 }
@@ -63,7 +68,7 @@ fn unheard(registers: Both) -> Transferred
 // A transfer, START to STOP, taken or refused by 3, 6, 4, 5, 1, 2, then 7 and 17.
 pub fn transfer(chips: Chips, registers: Both, ram: &mut [u8], bytes: &[u8]) -> Transferred
     ensures { λ r. ⌜ record { result = r; ram = now (ram .exit) } ≡ transferCall pcf8532 chips registers (now (ram .entry)) (now (bytes .entry)) ⌝ }
-    ensures { λ r. ⌜ numbers (r .answer) ≡ numbers (transferCall pcf8532 chips registers (now (ram .entry)) (now (bytes .entry)) .result .answer) ⌝ }
+    ensures { λ r. ⌜ numbers pcf8532 (r .answer) ≡ numbers pcf8532 (transferCall pcf8532 chips registers (now (ram .entry)) (now (bytes .entry)) .result .answer) ⌝ }
 {
     match refused::check_transfer(chips, registers, ram, bytes) {
         Check::Refused(refusal) => Transferred {

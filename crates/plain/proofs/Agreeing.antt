@@ -1,23 +1,24 @@
 -- What the chips of a list are asked and become is, for chips whose registers are in range, what the sheet says; and they stay in range.
 -- Assumes nothing.
 use mathlib.Core.Path.{_≡_, refl, sym}
-use mathlib.Core.Bool.{Bool, true, false, cond, _&&_, _||_}
+use mathlib.Core.Bool.{Bool, true, false, cond, _&&_}
 use mathlib.Core.List.{List, [], _∷_, map}
 use Rattle.sheet.specs.declared.Chip.{Chip}
 use Rattle.sheet.specs.Parts.{pcf8532}
 use Rattle.sheet.specs.Registers.{inRange}
-use Rattle.sheet.specs.Plain.{hears, any, takes, chipByte, acknowledgesByte}
+use Rattle.sheet.specs.Plain.{hears, takes, chipByte, acknowledgesByte, lower, smallest, acknowledgedBy}
 use Rattle.laws.proofs.Kept.{pcf8532-keeps}
 use Rattle.laws.proofs.Moves.{byte-still-in}
 use Rattle.plain.specs.declared.BusByte.{BusByte}
-use Rattle.plain.specs.declared.Question.the-variants.{Acknowledges}
-use Rattle.plain.specs.Asking.{yes, taken}
+use Rattle.plain.specs.Asking.{answers, taken}
 use Rattle.plain.specs.Turns.{AllIn}
 
 module _ (h : BusByte) where
-  pub asked : (cs : List Chip) → AllIn cs → any (λ c. hears (h .address) c && acknowledgesByte pcf8532 (h .expect) (h .byte) c) cs ≡ any (yes (Acknowledges h)) cs
+  pub asked : (cs : List Chip) → AllIn cs → acknowledgedBy pcf8532 (h .address) (h .expect) (h .byte) cs ≡ smallest (answers h) cs
+  unfolding smallest
   asked [] i = refl
-  asked (c ∷ cs) i = λ j. (hears (h .address) c && (sym (i .0) j && acknowledgesByte pcf8532 (h .expect) (h .byte) c)) || asked cs (i .1) j
+  asked (c ∷ cs) i = λ j. let others = asked cs (i .1) j in
+      cond (hears (h .address) c && (sym (i .0) j && acknowledgesByte pcf8532 (h .expect) (h .byte) c)) (lower (c .subaddress) others) others
 
   pub all-taken : (cs : List Chip) → AllIn cs → map (takes pcf8532 (h .address) (h .expect) (h .byte)) cs ≡ map (taken h) cs
   all-taken [] i = refl

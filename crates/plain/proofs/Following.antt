@@ -1,23 +1,19 @@
 -- A turn of a transfer: what is left for the chips to follow gives the whole answer, before the turn and after it.
 -- Assumes nothing.
 use mathlib.Core.Path.{_≡_, refl, sym, ap, _∙_}
-use mathlib.Core.Bool.{cond, _&&_}
 use mathlib.Core.List.{List, _∷_, map}
 use Prim.Native.Nat.{ℕ, _+_, _<_, _≤_}
 use native.Mathlib.Omega.{arith}
-use lib.Dec.{ltb}
 use lib.ListN.{length, drop, drop-of-length-le, length-map}
 use Rattle.lemmas.proofs.Lists.{next as next-of}
-use Rattle.laws.proofs.Counts.{present-le}
 use Rattle.sheet.specs.declared.Chip.{Chip}
+use Rattle.sheet.specs.declared.Acknowledger.{Acknowledger}
 use Rattle.sheet.specs.Parts.{within, pcf8532}
 use Rattle.sheet.specs.Protocol.{next}
-use Rattle.sheet.specs.Plain.{Plain, plainHeard, hears, any, acknowledgesByte}
+use Rattle.sheet.specs.Plain.{smallest, once, lastAfter, Plain, plainHeard}
 use Rattle.plain.specs.declared.Turn.{Turn}
-use Rattle.plain.specs.declared.Question.the-variants.{Acknowledges}
-use Rattle.plain.specs.Asking.{yes, taken, firstYes}
-use Rattle.plain.specs.Turns.{turnAfter, followed, AllIn, Ready}
-use Rattle.plain.proofs.Searching.{any-first}
+use Rattle.plain.specs.Asking.{answers, taken}
+use Rattle.plain.specs.Turns.{turnAfter, plainAt, tallyOf, followed, AllIn, Ready}
 use Rattle.plain.proofs.Agreeing.{asked, all-taken, all-kept}
 
 -- from the chips cs₀ in the turn t₀, the transfer has come to cs in the turn t
@@ -26,31 +22,36 @@ pub record Following (cs₀ : List Chip) (bytes : List ℕ) (t₀ : Turn) (t : T
   pub same : length cs ≡ length cs₀
   pub left : followed cs bytes t ≡ followed cs₀ bytes t₀
 
+once-le : (who : Acknowledger) → once who ≤ 1
+once-le (Acknowledger.Subaddress a) = omega arith
+once-le Acknowledger.None = omega arith
+
 module _ (cs₀ : List Chip) (bytes : List ℕ) (t₀ t : Turn) (cs : List Chip) (s : Following cs₀ bytes t₀ t cs) where
   -- at the end nothing is left
-  pub ended : length bytes ≤ t .at → (t .acknowledged ≡ followed cs₀ bytes t₀ .acknowledged) × (cs ≡ followed cs₀ bytes t₀ .chips)
+  pub ended : length bytes ≤ t .at → (t .tally ≡ tallyOf (followed cs₀ bytes t₀)) × (cs ≡ followed cs₀ bytes t₀ .chips)
   unfolding plainHeard
   ended l =
-      let all : record { acknowledged = t .acknowledged; chips = cs } ≡ followed cs₀ bytes t₀ =
-      sym (ap (λ (l : List ℕ). plainHeard pcf8532 (t .heard .address) (t .heard .expect) l (record { acknowledged = t .acknowledged; chips = cs })) (drop-of-length-le bytes l)) ∙ s .left in
-      (ap (λ (p : Plain). p .acknowledged) all, ap (λ (p : Plain). p .chips) all)
+      let all : plainAt (t .tally) cs ≡ followed cs₀ bytes t₀ =
+      sym (ap (λ (l : List ℕ). plainHeard pcf8532 (t .heard .address) (t .heard .expect) l (plainAt (t .tally) cs)) (drop-of-length-le bytes l)) ∙ s .left in
+      (ap tallyOf all, ap (λ (p : Plain). p .chips) all)
 
-  abbrev found : ℕ
-  found = firstYes (yes (Acknowledges (t .heard))) cs
+  -- who acknowledges the turn's byte
+  abbrev who : Acknowledger
+  who = smallest (answers (t .heard)) cs
 
   -- a byte more
-  stepped : t .at < length bytes → followed cs bytes t ≡ followed (map (taken (t .heard)) cs) bytes (turnAfter bytes t found (length cs₀))
+  stepped : t .at < length bytes → followed cs bytes t ≡ followed (map (taken (t .heard)) cs) bytes (turnAfter bytes t who)
   unfolding plainHeard
   stepped l =
       let h = t .heard in
       let i : AllIn cs = s .ready .right l in
-      let counted : any (λ c. hears (h .address) c && acknowledgesByte pcf8532 (h .expect) (h .byte) c) cs ≡ ltb found (length cs₀) = asked h cs i ∙ any-first (yes (Acknowledges h)) cs ∙ ap (ltb found) (s .same) in
-      ap (λ (l : List ℕ). plainHeard pcf8532 (h .address) (h .expect) l (record { acknowledged = t .acknowledged; chips = cs })) (next-of bytes (t .at) l ∙ ap (λ (x : ℕ). x ∷ drop (t .at + 1) bytes) (sym (s .ready .byte)))
-      ∙ (λ j. plainHeard pcf8532 (h .address) (next (h .expect) (h .byte)) (drop (t .at + 1) bytes) (record { acknowledged = t .acknowledged + cond (counted j) 1 0; chips = all-taken h cs i j }))
+      ap (λ (l : List ℕ). plainHeard pcf8532 (h .address) (h .expect) l (plainAt (t .tally) cs)) (next-of bytes (t .at) l ∙ ap (λ (x : ℕ). x ∷ drop (t .at + 1) bytes) (sym (s .ready .byte)))
+      ∙ (λ j. let by = asked h cs i j in
+      plainHeard pcf8532 (h .address) (next (h .expect) (h .byte)) (drop (t .at + 1) bytes) (record { acknowledged = t .tally .acknowledged + once by; last = lastAfter (h .expect) by (t .tally .last); chips = all-taken h cs i j }))
 
-  pub turn-more : t .at < length bytes → Following cs₀ bytes t₀ (turnAfter bytes t found (length cs₀)) (map (taken (t .heard)) cs)
+  pub turn-more : t .at < length bytes → Following cs₀ bytes t₀ (turnAfter bytes t who) (map (taken (t .heard)) cs)
   turn-more l = record {
-    ready = record { within = omega arith; counted = omega (arith, s .ready .counted, present-le (length cs₀) found); byte = refl; right = λ _. all-kept (t .heard) cs (s .ready .right l) };
+    ready = record { within = omega arith; counted = omega (arith, s .ready .counted, once-le who); byte = refl; right = λ _. all-kept (t .heard) cs (s .ready .right l) };
     same = length-map cs (taken (t .heard)) ∙ s .same;
     left = sym (stepped l) ∙ s .left;
   }

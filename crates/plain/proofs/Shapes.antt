@@ -8,12 +8,16 @@ use Rattle.sheet.proofs.Chip as ChipType
 use Rattle.sheet.proofs.Chip.Laws as ChipLaws
 use Rattle.sheet.proofs.Check as CheckType
 use Rattle.sheet.proofs.Check.Laws as CheckLaws
+use Rattle.sheet.proofs.Acknowledger as AcknowledgerType
+use Rattle.sheet.proofs.Acknowledger.Laws as AcknowledgerLaws
 use Rattle.sheet.proofs.PlainAnswer as AnswerType
 use Rattle.sheet.proofs.PlainAnswer.Laws as AnswerLaws
 use Rattle.plain.proofs.BusByte as BusByteType
 use Rattle.plain.proofs.BusByte.Laws as BusByteLaws
 use Rattle.plain.proofs.Question as QuestionType
 use Rattle.plain.proofs.Question.Laws as QuestionLaws
+use Rattle.plain.proofs.Tally as TallyType
+use Rattle.plain.proofs.Tally.Laws as TallyLaws
 use Rattle.plain.proofs.Turn as TurnType
 use Rattle.plain.proofs.Turn.Laws as TurnLaws
 use Rattle.plain.proofs.Start as StartType
@@ -34,6 +38,12 @@ heard = struct BusByteType.the-type BusByteLaws.the-laws BusByteLaws.the-plain B
 
 abbrev pub question : Data QuestionType.the-row
 question = enum QuestionType.the-type QuestionLaws.the-laws QuestionLaws.the-plain QuestionLaws.the-copy tt
+
+abbrev pub acknowledger : Data AcknowledgerType.the-row
+acknowledger = enum AcknowledgerType.the-type AcknowledgerLaws.the-laws AcknowledgerLaws.the-plain AcknowledgerLaws.the-copy tt
+
+abbrev pub tally : Data TallyType.the-row
+tally = struct TallyType.the-type TallyLaws.the-laws TallyLaws.the-plain TallyLaws.the-copy
 
 abbrev pub turn : Data TurnType.the-row
 turn = struct TurnType.the-type TurnLaws.the-laws TurnLaws.the-plain TurnLaws.the-copy

@@ -19,25 +19,25 @@ use Rattle.sheet.specs.declared.Check.the-variants.{Passed, Refused}
 use Rattle.sheet.specs.declared.PlainAnswer.{PlainAnswer}
 use Rattle.sheet.specs.Parts.{within, pcf8532}
 use Rattle.sheet.specs.Checks.{unless, orElse, checkLength, passed, faultIn}
-use Rattle.sheet.specs.Plain.{any, hears, chipFits, misfitIn, checkPlain, plainHeard, plainSaid, plainAnswered, plainCall}
+use Rattle.sheet.specs.Plain.{begunBy, any, hears, chipFits, misfitIn, checkPlain, plainHeard, plainSaid, plainAnswered, plainCall}
 use Rattle.laws.proofs.Fits.{both-pass, unless-passes}
 use Rattle.laws.proofs.Fits.{registers-in}
 use Rattle.plain.specs.declared.Start.{Start}
 use Rattle.plain.specs.declared.Question.the-variants.{Misfit, Hears}
 use Rattle.plain.specs.Asking.{yes, firstYes}
-use Rattle.plain.specs.Turns.{followed, AllIn, Ready}
+use Rattle.plain.specs.Turns.{tallyOf, followed, AllIn, Ready}
 use Rattle.plain.specs.Starts.{checkOf, turnAt, firstTurn, startOf, answerOf}
 use Rattle.plain.proofs.Searching.{any-first}
 
 -- ---- the answer, by the check and whether a chip hears
 module _ (cs : List Chip) (bytes : List ℕ) where
   -- nothing is left to follow
-  idle : followed cs bytes (turnAt bytes (length bytes) 0) ≡ record { acknowledged = 0; chips = cs }
+  idle : followed cs bytes (turnAt bytes (length bytes) 0) ≡ begunBy 0 cs
   unfolding plainHeard
-  idle = ap (λ (l : List ℕ). plainHeard pcf8532 (getD bytes 0 0) Control l (record { acknowledged = 0; chips = cs })) (drop-length bytes)
+  idle = ap (λ (l : List ℕ). plainHeard pcf8532 (getD bytes 0 0) Control l (begunBy 0 cs)) (drop-length bytes)
 
-  answered : (k : Check) (t : Bool) → record { answer = answerOf k (followed cs bytes (firstTurn bytes k t) .acknowledged); chips = followed cs bytes (firstTurn bytes k t) .chips }
-      ≡ plainAnswered k cs (plainSaid (cond t (plainHeard pcf8532 (getD bytes 0 0) Control (drop 1 bytes) (record { acknowledged = 1; chips = cs })) (record { acknowledged = 0; chips = cs })))
+  answered : (k : Check) (t : Bool) → record { answer = answerOf k (tallyOf (followed cs bytes (firstTurn bytes k t))); chips = followed cs bytes (firstTurn bytes k t) .chips }
+      ≡ plainAnswered k cs (plainSaid (cond t (plainHeard pcf8532 (getD bytes 0 0) Control (drop 1 bytes) (begunBy 1 cs)) (begunBy 0 cs)))
   answered Passed true = refl
   answered Passed false = ap plainSaid idle
   answered (Refused r) t = λ j. record { answer = PlainAnswer.Refused r; chips = idle j .chips }
@@ -118,6 +118,6 @@ module _ (cs : List Chip) (bytes : List ℕ) where
       by-test false e = record { within = le-refl (length bytes); counted = zero-le; byte = refl; right = λ l. absurd (lt-irrefl (length bytes) l) }
 
   -- the call, as it is begun, followed and answered
-  pub concluded : length cs ≤ 8 → record { answer = answerOf (begun .check) (followed cs bytes (begun .turn) .acknowledged); chips = followed cs bytes (begun .turn) .chips } ≡ plainCall pcf8532 cs bytes
+  pub concluded : length cs ≤ 8 → record { answer = answerOf (begun .check) (tallyOf (followed cs bytes (begun .turn))); chips = followed cs bytes (begun .turn) .chips } ≡ plainCall pcf8532 cs bytes
   unfolding plainCall
-  concluded few = (λ j. record { answer = answerOf (checked few j) (followed cs bytes (turned few j) .acknowledged); chips = followed cs bytes (turned few j) .chips }) ∙ answered cs bytes (checkPlain pcf8532 cs bytes) heard
+  concluded few = (λ j. record { answer = answerOf (checked few j) (tallyOf (followed cs bytes (turned few j))); chips = followed cs bytes (turned few j) .chips }) ∙ answered cs bytes (checkPlain pcf8532 cs bytes) heard

@@ -7,12 +7,15 @@ use Rattle.sheet.specs.Parts.{pcf8532}
 use Rattle.sheet.specs.Plain.{hears, chipFits, chipStepped, chipAnswers}
 use Rattle.plain.specs.declared.BusByte.{BusByte}
 use Rattle.plain.specs.declared.Question.{Question}
-use Rattle.plain.specs.declared.Question.the-variants.{Misfit, Hears, Acknowledges}
+use Rattle.plain.specs.declared.Question.the-variants.{Misfit, Hears}
 
 abbrev pub yes : Question → Chip → Bool
 yes Misfit c = not (chipFits pcf8532 c)
 yes (Hears address) c = hears address c
-yes (Acknowledges h) c = hears (h .address) c && chipAnswers pcf8532 (h .expect) (h .byte) c
+
+-- whether it hears and acknowledges a byte
+abbrev pub answers : BusByte → Chip → Bool
+answers h c = hears (h .address) c && chipAnswers pcf8532 (h .expect) (h .byte) c
 
 -- the chip after a byte
 abbrev pub taken : BusByte → Chip → Chip

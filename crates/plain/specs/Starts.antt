@@ -6,11 +6,13 @@ use lib.Dec.{ltb, leb}
 use lib.ListN.{length, getD, drop}
 use Rattle.sheet.specs.declared.Expect.the-variants.{Control}
 use Rattle.sheet.specs.declared.Refusal.the-variants.{ChipField}
+use Rattle.sheet.specs.declared.Acknowledger.{Acknowledger}
 use Rattle.sheet.specs.declared.Check.{Check}
 use Rattle.sheet.specs.declared.Check.the-variants.{Passed, Refused}
 use Rattle.sheet.specs.declared.PlainAnswer.{PlainAnswer}
 use Rattle.sheet.specs.Parts.{pcf8532}
 use Rattle.sheet.specs.Checks.{unless, orElse, checkLength, passed, faultIn}
+use Rattle.plain.specs.declared.Tally.{Tally}
 use Rattle.plain.specs.declared.Turn.{Turn}
 use Rattle.plain.specs.declared.Start.{Start}
 
@@ -23,7 +25,7 @@ checkOf bytes count misfit hearer =
 
 -- the turn at a place after the address
 abbrev pub turnAt : List ℕ → ℕ → ℕ → Turn
-turnAt bytes at acknowledged = record { at = at; acknowledged = acknowledged; heard = record { address = getD bytes 0 0; expect = Control; byte = getD bytes at 0 } }
+turnAt bytes at acknowledged = record { at = at; tally = record { acknowledged = acknowledged; last = Acknowledger.None }; heard = record { address = getD bytes 0 0; expect = Control; byte = getD bytes at 0 } }
 
 -- from the byte after the address on, if the transfer is taken and heard; else nothing is left to follow
 abbrev pub firstTurn : List ℕ → Check → Bool → Turn
@@ -33,6 +35,6 @@ abbrev pub startOf : List ℕ → ℕ → ℕ → ℕ → Start
 startOf bytes count misfit hearer =
     record { check = checkOf bytes count misfit hearer; turn = firstTurn bytes (checkOf bytes count misfit hearer) (ltb hearer count) }
 
-abbrev pub answerOf : Check → ℕ → PlainAnswer
-answerOf Passed acknowledged = PlainAnswer.Acknowledged acknowledged
-answerOf (Refused r) acknowledged = PlainAnswer.Refused r
+abbrev pub answerOf : Check → Tally → PlainAnswer
+answerOf Passed t = PlainAnswer.Acknowledged (t .acknowledged) (t .last)
+answerOf (Refused r) t = PlainAnswer.Refused r

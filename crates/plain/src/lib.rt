@@ -1,22 +1,23 @@
 // THE PLAIN ACCOUNT: a lent list of at most eight chips, each of which follows every byte by itself. Every input gets an answer; a refused call changes nothing.
 // What is decided and done is decided and done by value. The functions over the list only go along it, and are proved by hand.
+use sheet::Acknowledger;
 use sheet::Check;
 use sheet::Chip;
 use sheet::Expect;
+use sheet::Kind;
 use sheet::PlainAnswer;
 use sheet::Refusal;
 ghost use mathlib.Core.Path.{_≡_};
 ghost use mathlib.Core.Bool.{cond};
 ghost use mathlib.Core.List.{map};
 ghost use Prim.Native.Nat.{_+_, _≤_, _<_, _^_};
-ghost use lib.Dec.{ltb};
 ghost use lib.ListN.{length, getD, drop};
 ghost use Rattle.sheet.specs.Refusals.{plainNumbers};
 ghost use Rattle.sheet.specs.Parts.{pcf8532};
 ghost use Rattle.sheet.specs.Checks.{faultIn};
-ghost use Rattle.sheet.specs.Plain.{plainCall};
-ghost use Rattle.plain.specs.Asking.{yes, taken, firstYes};
-ghost use Rattle.plain.specs.Turns.{turnAfter, followed, Ready};
+ghost use Rattle.sheet.specs.Plain.{lower, smallest, once, lastOf, lastAfter, plainCall};
+ghost use Rattle.plain.specs.Asking.{yes, answers, taken, firstYes};
+ghost use Rattle.plain.specs.Turns.{turnAfter, followed, tallyOf, Ready};
 ghost use Rattle.plain.specs.Starts.{checkOf, turnAt, startOf, answerOf};
 ghost use Rattle.plain.specs.Benches.{firstTransferred, benchTransferred};
 
@@ -33,15 +34,6 @@ struct BusByte {
 enum Question {
     Misfit,
     Hears(u8),
-    Acknowledges(BusByte),
-}
-
-// Whether a chip hears a byte and acknowledges it.
-fn acknowledges(chip: Chip, heard: BusByte) -> bool
-    ensures { λ r. ⌜ r ≡ yes (Question.Acknowledges heard) chip ⌝ }
-{
-    let expect = heard.expect;
-    chip::hears(chip, heard.address) & chip::acknowledges(chip, expect, heard.byte)
 }
 
 fn says_yes(chip: Chip, question: Question) -> bool
@@ -50,7 +42,38 @@ fn says_yes(chip: Chip, question: Question) -> bool
     match question {
         Question::Misfit => !chip::fits(chip),
         Question::Hears(address) => chip::hears(chip, address),
-        Question::Acknowledges(heard) => acknowledges(chip, heard),
+    }
+}
+
+// Whether a chip hears a byte and acknowledges it.
+fn acknowledges(chip: Chip, heard: BusByte) -> bool
+    ensures { λ r. ⌜ r ≡ answers heard chip ⌝ }
+{
+    let expect = heard.expect;
+    chip::hears(chip, heard.address) & chip::acknowledges(chip, expect, heard.byte)
+}
+
+// A subaddress and the smallest of the others.
+fn lower(subaddress: usize, others: Acknowledger) -> Acknowledger
+    ensures { λ r. ⌜ r ≡ lower subaddress others ⌝ }
+{
+    match others {
+        Acknowledger::Subaddress(other) => {
+            Acknowledger::Subaddress(arithmetic::least(subaddress, other))
+        }
+        Acknowledger::None => Acknowledger::Subaddress(subaddress),
+    }
+}
+
+// Who acknowledges a byte of this chip and the others.
+fn with_chip(chip: Chip, heard: BusByte, others: Acknowledger) -> Acknowledger
+    ensures { λ r. ⌜ r ≡ cond (answers heard chip) (lower (chip .subaddress) others) others ⌝ }
+{
+    let subaddress = chip.subaddress as usize;
+    if acknowledges(chip, heard) {
+        lower(subaddress, others)
+    } else {
+        others
     }
 }
 
@@ -82,6 +105,19 @@ fn first(chips: &[Chip], question: Question) -> usize
     i
 }
 
+// Who acknowledges a byte: the smallest subaddress.
+fn smallest(chips: &[Chip], heard: BusByte) -> Acknowledger
+    ensures { λ r. ⌜ r ≡ smallest (answers heard) (now (chips .entry)) ⌝ }
+{
+    let mut who = Acknowledger::None;
+    let mut i = chips.len();
+    while 0 < i {
+        i -= 1;
+        who = with_chip(chips[i], heard, who);
+    }
+    who
+}
+
 // Every chip takes the byte.
 fn take_all(chips: &mut [Chip], heard: BusByte)
     ensures { λ _. ⌜ now (chips .exit) ≡ map (taken heard) (now (chips .entry)) ⌝ }
@@ -95,36 +131,66 @@ fn take_all(chips: &mut [Chip], heard: BusByte)
 
 // ---- a transfer, byte by byte
 
-// The byte that comes next, its place, and the bytes acknowledged so far.
+// The bytes acknowledged so far, and who acknowledged the last data byte.
+struct Tally {
+    acknowledged: usize,
+    last: Acknowledger,
+}
+
+// The byte that comes next, its place, and what is acknowledged so far.
 struct Turn {
     at: usize,
-    acknowledged: usize,
+    tally: Tally,
     heard: BusByte,
 }
 
-// A byte counts once however many chips acknowledge it: `found` is the place of the first, or the count.
-fn counted(acknowledged: usize, found: usize, count: usize) -> usize
+// A byte counts once however many chips acknowledge it.
+fn counted(acknowledged: usize, who: Acknowledger) -> usize
     requires { ⌜ acknowledged < 2 ^ 63 ⌝ }
-    ensures { λ r. ⌜ r ≡ acknowledged + cond (ltb found count) 1 0 ⌝ }
+    ensures { λ r. ⌜ r ≡ acknowledged + once who ⌝ }
 {
-    if found < count {
-        acknowledged + 1
-    } else {
-        acknowledged
+    match who {
+        Acknowledger::Subaddress(_) => acknowledged + 1,
+        Acknowledger::None => acknowledged,
     }
 }
 
-// The turn after this one.
-fn next(bytes: &[u8], turn: Turn, found: usize, count: usize) -> Turn
-    requires { ⌜ (turn .at < length (now bytes)) × (turn .acknowledged ≤ turn .at) ⌝ }
-    ensures { λ r. ⌜ r ≡ turnAfter (now (bytes .entry)) turn found count ⌝ }
+// Who acknowledged the last data byte, after a byte of a kind.
+fn last_of(kind: Kind, who: Acknowledger, last: Acknowledger) -> Acknowledger
+    ensures { λ r. ⌜ r ≡ lastOf kind who last ⌝ }
+{
+    match kind {
+        Kind::Command => last,
+        Kind::Data => who,
+    }
+}
+
+fn last_after(expect: Expect, who: Acknowledger, last: Acknowledger) -> Acknowledger
+    ensures { λ r. ⌜ r ≡ lastAfter expect who last ⌝ }
+{
+    match expect {
+        Expect::Control => last,
+        Expect::One(kind) => last_of(kind, who, last),
+        Expect::All(kind) => last_of(kind, who, last),
+    }
+}
+
+// The turn after this one, whose byte `who` acknowledges.
+fn next(bytes: &[u8], turn: Turn, who: Acknowledger) -> Turn
+    requires { ⌜ (turn .at < length (now bytes)) × (turn .tally .acknowledged ≤ turn .at) ⌝ }
+    ensures { λ r. ⌜ r ≡ turnAfter (now (bytes .entry)) turn who ⌝ }
 {
     let heard = turn.heard;
     let expect = heard.expect;
+    let tally = turn.tally;
+    let last = tally.last;
     let at = turn.at + 1;
     Turn {
         at,
-        acknowledged: counted(turn.acknowledged, found, count),
+        tally: Tally {
+            acknowledged: counted(tally.acknowledged, who),
+            last: last_after(expect, who, last),
+        },
         heard: BusByte {
             address: heard.address,
             expect: protocol::follow(expect, heard.byte),
@@ -133,19 +199,19 @@ fn next(bytes: &[u8], turn: Turn, found: usize, count: usize) -> Turn
     }
 }
 
-// The chips follow the bytes from a turn on. How many are acknowledged in all.
-fn follow(chips: &mut [Chip], bytes: &[u8], start: Turn) -> usize
+// The chips follow the bytes from a turn on. What is acknowledged in all.
+fn follow(chips: &mut [Chip], bytes: &[u8], start: Turn) -> Tally
     requires { ⌜ Ready (now chips) (now bytes) start ⌝ }
-    ensures { λ r. ⌜ r ≡ followed (now (chips .entry)) (now (bytes .entry)) start .acknowledged ⌝ }
+    ensures { λ r. ⌜ r ≡ tallyOf (followed (now (chips .entry)) (now (bytes .entry)) start) ⌝ }
     ensures { λ _. ⌜ now (chips .exit) ≡ followed (now (chips .entry)) (now (bytes .entry)) start .chips ⌝ }
 {
     let mut turn = start;
     while turn.at < bytes.len() {
-        let found = first(chips, Question::Acknowledges(turn.heard));
+        let who = smallest(chips, turn.heard);
         take_all(chips, turn.heard);
-        turn = next(bytes, turn, found, chips.len());
+        turn = next(bytes, turn, who);
     }
-    turn.acknowledged
+    turn.tally
 }
 
 // ---- how a transfer begins, and what is answered
@@ -186,7 +252,10 @@ fn turn_at(bytes: &[u8], at: usize, acknowledged: usize) -> Turn
 {
     Turn {
         at,
-        acknowledged,
+        tally: Tally {
+            acknowledged,
+            last: Acknowledger::None,
+        },
         heard: BusByte {
             address: checks::byte_at(bytes, 0),
             expect: Expect::Control,
@@ -219,11 +288,13 @@ fn begin(bytes: &[u8], count: usize, misfit: usize, hearer: usize) -> Start
     }
 }
 
-fn answer(check: Check, acknowledged: usize) -> PlainAnswer
-    ensures { λ r. ⌜ r ≡ answerOf check acknowledged ⌝ }
+fn answer(check: Check, tally: Tally) -> PlainAnswer
+    ensures { λ r. ⌜ r ≡ answerOf check tally ⌝ }
 {
+    let bytes = tally.acknowledged;
+    let last = tally.last;
     match check {
-        Check::Passed => PlainAnswer::Acknowledged(acknowledged),
+        Check::Passed => PlainAnswer::Acknowledged { bytes, last },
         Check::Refused(refusal) => PlainAnswer::Refused(refusal),
     }
 }
@@ -237,8 +308,8 @@ fn transfer_few(chips: &mut [Chip], bytes: &[u8]) -> PlainAnswer
     let misfit = first(chips, Question::Misfit);
     let hearer = first(chips, hail(bytes));
     let start = begin(bytes, chips.len(), misfit, hearer);
-    let acknowledged = follow(chips, bytes, start.turn);
-    answer(start.check, acknowledged)
+    let tally = follow(chips, bytes, start.turn);
+    answer(start.check, tally)
 }
 
 fn many_chips() -> PlainAnswer
@@ -249,7 +320,7 @@ fn many_chips() -> PlainAnswer
 
 // A transfer, START to STOP, taken or refused by 10, 11, 1, 2, then 7 and 17. Of more than eight chips none is looked at.
 pub fn transfer(chips: &mut [Chip], bytes: &[u8]) -> PlainAnswer
-    ensures { λ r. ⌜ (r ≡ plainCall pcf8532 (now (chips .entry)) (now (bytes .entry)) .answer) × (plainNumbers r ≡ plainNumbers (plainCall pcf8532 (now (chips .entry)) (now (bytes .entry)) .answer)) ⌝ }
+    ensures { λ r. ⌜ (r ≡ plainCall pcf8532 (now (chips .entry)) (now (bytes .entry)) .answer) × (plainNumbers pcf8532 r ≡ plainNumbers pcf8532 (plainCall pcf8532 (now (chips .entry)) (now (bytes .entry)) .answer)) ⌝ }
     ensures { λ _. ⌜ now (chips .exit) ≡ plainCall pcf8532 (now (chips .entry)) (now (bytes .entry)) .chips ⌝ }
 {
     if 8 < chips.len() {
@@ -287,7 +358,7 @@ fn transfer_first(bytes: &[u8], bench: Bench) -> BenchTransferred
 // The same, taken or refused by 10, 11, 1, 2, then 7 and 17; a count over eight is refused by 10.
 pub fn transfer_bench(bench: Bench, bytes: &[u8]) -> BenchTransferred
     ensures { λ r. ⌜ r ≡ benchTransferred bench (now (bytes .entry)) ⌝ }
-    ensures { λ r. ⌜ plainNumbers (r .answer) ≡ plainNumbers (benchTransferred bench (now (bytes .entry)) .answer) ⌝ }
+    ensures { λ r. ⌜ plainNumbers pcf8532 (r .answer) ≡ plainNumbers pcf8532 (benchTransferred bench (now (bytes .entry)) .answer) ⌝ }
 {
     if bench.count <= 8 {
         transfer_first(bytes, bench)

@@ -13,14 +13,14 @@ use Rattle.sheet.specs.Registers.{inRange}
 use Rattle.sheet.specs.Commands.{obeyed}
 use Rattle.sheet.specs.Protocol.{next}
 use Rattle.sheet.specs.Long.{Group, oneAcknowledged}
-use Rattle.sheet.specs.Runs.{countedBy, movedBy}
+use Rattle.sheet.specs.Runs.{countedBy, lastBy, movedBy}
 use Rattle.protocol.specs.declared.Listener.{Listener}
 
 abbrev pub groupOf : Listener → List ℕ → Group
-groupOf l ram = record { registers = l .registers; ram = ram; counts = l .counts }
+groupOf l ram = record { registers = l .registers; ram = ram; counts = l .counts; last = l .last }
 
 abbrev pub listenerOf : Expect → Group → Listener
-listenerOf e g = record { expect = e; registers = g .registers; counts = g .counts }
+listenerOf e g = record { expect = e; registers = g .registers; counts = g .counts; last = g .last }
 
 -- ---- a byte that is no data
 
@@ -30,7 +30,7 @@ obeyedBy (One k) x r = obeyed r (pcf8532 .command x)
 obeyedBy (All k) x r = obeyed r (pcf8532 .command x)
 
 abbrev pub stepped : Listener → ℕ → Listener
-stepped l x = record { expect = next (l .expect) x; registers = obeyedBy (l .expect) x (l .registers); counts = oneAcknowledged (l .counts) }
+stepped l x = record { expect = next (l .expect) x; registers = obeyedBy (l .expect) x (l .registers); counts = oneAcknowledged (l .counts); last = l .last }
 
 -- ---- data
 
@@ -51,7 +51,12 @@ onlyData (All Kind.Data) = true
 
 -- a run of n data bytes, where size columns are there; what follows data does not depend on it
 abbrev pub ran : Listener → ℕ → ℕ → Listener
-ran l n size = record { expect = next (l .expect) 0; registers = movedBy pcf8532 n (l .registers); counts = countedBy pcf8532 (l .registers) n size (l .counts) }
+ran l n size = record {
+  expect = next (l .expect) 0;
+  registers = movedBy pcf8532 n (l .registers);
+  counts = countedBy pcf8532 (l .registers) n size (l .counts);
+  last = lastBy pcf8532 (l .registers) n size (l .last);
+}
 
 -- counts that have room for n data bytes more
 pub record Countable (t : Counts) (m n : ℕ) : Type 0 where
@@ -61,6 +66,12 @@ pub record Countable (t : Counts) (m n : ℕ) : Type 0 where
   pub acknowledged : t .acknowledged < 2 ^ 32
   pub stored : t .stored < 2 ^ 32
   pub discarded : t .discarded < 2 ^ 32
+
+-- a run of n data bytes from a position on
+pub record Placed (v m n : ℕ) : Type 0 where
+  pub some : 0 < m
+  pub position : v < 65536
+  pub short : n < 65536
 
 pub record Runs (l : Listener) (n : ℕ) : Type 0 where
   pub range : inRange pcf8532 (l .registers) ≡ true

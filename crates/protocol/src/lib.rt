@@ -1,4 +1,5 @@
-// The bytes of a transfer after its address, as one group follows them: position, registers and counts, by value and without the RAM.
+// The bytes of a transfer after its address, as one group follows them: position, registers, counts and who acknowledged last, by value and without the RAM.
+use sheet::Acknowledger;
 use sheet::Check;
 use sheet::Counts;
 use sheet::Expect;
@@ -12,9 +13,10 @@ ghost use lib.ListN.{drop};
 ghost use Rattle.sheet.specs.Parts.{pcf8532};
 ghost use Rattle.sheet.specs.Protocol.{kindOf, controlOf, next};
 ghost use Rattle.sheet.specs.Checks.{faultOf, fault, faultIn};
+ghost use Rattle.sheet.specs.Data.{acknowledger};
 ghost use Rattle.sheet.specs.Long.{oneAcknowledged, begun};
-ghost use Rattle.sheet.specs.Runs.{countedRun};
-ghost use Rattle.protocol.specs.Listeners.{listenerOf, obeyedBy, dataEnd, onlyData, stepped, ran, Countable, Runs};
+ghost use Rattle.sheet.specs.Runs.{countedRun, lastRun};
+ghost use Rattle.protocol.specs.Listeners.{listenerOf, obeyedBy, dataEnd, onlyData, stepped, ran, Countable, Placed, Runs};
 
 // ---- what a byte is
 
@@ -110,11 +112,12 @@ pub fn first_fault(bytes: &[u8]) -> Check
 
 // ---- a group that listens
 
-// The protocol position, with the registers and the counts.
+// The protocol position, with the registers, the counts, and who acknowledged the last data byte.
 pub struct Listener {
     pub expect: Expect,
     pub registers: Registers,
     pub counts: Counts,
+    pub last: Acknowledger,
 }
 
 // After the address byte.
@@ -129,6 +132,7 @@ pub fn begun(registers: Registers) -> Listener
             stored: 0,
             discarded: 0,
         },
+        last: Acknowledger::None,
     }
 }
 
@@ -194,6 +198,32 @@ fn counted(counts: Counts, v: usize, size: usize, m: usize, n: usize) -> Counts
     }
 }
 
+// Who acknowledges a data byte from column v on: the chip that has its last column.
+fn acknowledger(v: usize, size: usize, m: usize) -> Acknowledger
+    requires { ⌜ (0 < m) × (v < 2 ^ 32) ⌝ }
+    ensures { λ r. ⌜ r ≡ acknowledger pcf8532 m v size ⌝ }
+{
+    let column = v + 7 / m;
+    if column < size {
+        Acknowledger::Subaddress(column / 160)
+    } else {
+        Acknowledger::None
+    }
+}
+
+// Who acknowledges the last of n data bytes from column v on; of none, who did before.
+fn last_of(earlier: Acknowledger, v: usize, size: usize, m: usize, n: usize) -> Acknowledger
+    requires { ⌜ Placed v m n ⌝ }
+    ensures { λ r. ⌜ r ≡ lastRun pcf8532 n m v size earlier ⌝ }
+{
+    if n == 0 {
+        earlier
+    } else {
+        let begins = v + arithmetic::width(m) * (n - 1);
+        acknowledger(begins, size, m)
+    }
+}
+
 impl Listener {
     // After a byte that is no data: a control byte, or a command.
     pub fn step(self, byte: u8) -> Listener
@@ -203,10 +233,12 @@ impl Listener {
         let expect = self.expect;
         let registers = self.registers;
         let counts = self.counts;
+        let last = self.last;
         Listener {
             expect: follow(expect, byte),
             registers: obeyed_by(expect, byte, registers),
             counts: acknowledged(counts),
+            last,
         }
     }
 
@@ -218,6 +250,7 @@ impl Listener {
         let expect = self.expect;
         let registers = self.registers;
         let counts = self.counts;
+        let last = self.last;
         let m = arithmetic::backplanes(registers);
         let v = arithmetic::position(registers);
         let after = v + arithmetic::width(m) * n;
@@ -225,6 +258,7 @@ impl Listener {
             expect: follow(expect, 0),
             registers: arithmetic::at_position(registers, after),
             counts: counted(counts, v, size, m, n),
+            last: last_of(last, v, size, m, n),
         }
     }
 }

@@ -42,9 +42,9 @@ chipsOf K n s = groupOf K 0 n s ++ groupOf K 1 n s
 
 -- ---- what the two accounts make of one transfer
 
--- the plain account reports acknowledged only
+-- the plain account reports acknowledged only, and by whom the last data byte
 abbrev pub plainly : Answer → PlainAnswer
-plainly (Answer.Taken t) = PlainAnswer.Acknowledged (t .acknowledged)
+plainly (Answer.Taken t last) = PlainAnswer.Acknowledged (t .acknowledged) last
 plainly (Answer.Refused r) = PlainAnswer.Refused r
 
 abbrev pub answerTo : Part → Chips → State → List ℕ → PlainAnswer

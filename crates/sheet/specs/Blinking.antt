@@ -32,7 +32,7 @@ registersOf b = record { e = b .e; b = 0; m = b .m; p = 0; a = 0; i = 0; o = 0; 
 
 -- every column shows the value, and the lit elements are theirs
 abbrev pub is : Seen → ℕ → Bool
-is s value = same (s .out) (replicate 160 value) && same (pictureNumbers (s .result)) (0 ∷ 0 ∷ 160 * ones value ∷ 0 ∷ 0 ∷ [])
+is s value = same (s .out) (replicate 160 value) && same (pictureNumbers (s .result)) (0 ∷ 0 ∷ 160 * ones value ∷ 0 ∷ 0 ∷ 0 ∷ [])
 
 abbrev pub holds : Blink → Bool
 holds b =

@@ -10,7 +10,7 @@ use Rattle.sheet.specs.Registers.{powerOn, backplanes, bankRow}
 use Rattle.sheet.specs.Parts.{within, commandIn, commandOf, pcf8532}
 use Rattle.sheet.specs.Protocol.{addressOf, controlOf}
 use Rattle.sheet.specs.Long.{begun, dataByte, heard}
-use Rattle.sheet.specs.Plain.{putRows, afterColumn, afterColumns, chipData, acknowledgesData, plainHeard}
+use Rattle.sheet.specs.Plain.{begunBy, putRows, afterColumn, afterColumns, chipData, acknowledgesData, plainHeard}
 use Rattle.sheet.specs.Places.{advanced, position, atPosition}
 use Rattle.sheet.specs.Data.{rowOf, withRow, changed, putBits, storedBits, counted}
 use Rattle.sheet.specs.Lands.{bitsOn, heardOn, rowsOn, columnsOn, chipHeardOn}
@@ -24,7 +24,7 @@ abbrev pub chipOf : ℕ → ℕ → Chip
 chipOf i fill = record { columns = replicate 160 fill; sa0 = 0; subaddress = i; registers = powerOn }
 
 abbrev pub chipOver : List ℕ → ℕ → ℕ → List ℕ
-chipOver bytes i fill = chipColumns (plainHeard pcf8532 (addressOf 0) Control bytes (record { acknowledged = 0; chips = chipOf i fill ∷ [] }) .chips)
+chipOver bytes i fill = chipColumns (plainHeard pcf8532 (addressOf 0) Control bytes (begunBy 0 (chipOf i fill ∷ [])) .chips)
 
 -- row q of column c is the same in both just if a bit lands on it
 abbrev pub just : List ℕ → List ℕ → ℕ → ℕ → Bool → Bool

@@ -18,6 +18,7 @@ pub mod Pointing
 pub mod Starred
 pub mod Blinking
 pub mod Stray
+pub mod Last
 pub mod Landing
 pub mod Orders
 pub mod Worked

@@ -70,9 +70,9 @@ groupLetter = 71
 abbrev pub refusalLetter : ℕ
 refusalLetter = 88
 
--- `T index answer place acknowledged stored discarded`
+-- `T index answer place acknowledged stored discarded last`: who acknowledged the last data byte, 4 for none
 abbrev pub transferLine : ℕ → Answer → List ℕ
-transferLine i answer = line transferLetter (i ∷ numbers answer)
+transferLine i answer = line transferLetter (i ∷ numbers pcf8532 answer)
 
 -- a record a line
 unfoldable pub transferLines : Chips → ℕ → State → List (List ℕ) → List ℕ

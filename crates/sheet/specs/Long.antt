@@ -8,6 +8,7 @@ use Rattle.sheet.specs.declared.Registers.{Registers}
 use Rattle.sheet.specs.declared.Both.{Both}
 use Rattle.sheet.specs.declared.Chips.{Chips}
 use Rattle.sheet.specs.declared.Counts.{Counts}
+use Rattle.sheet.specs.declared.Acknowledger.{Acknowledger}
 use Rattle.sheet.specs.declared.Addressed.{Addressed}
 use Rattle.sheet.specs.declared.Addressed.the-variants.{To, Nobody}
 use Rattle.sheet.specs.declared.Expect.{Expect}
@@ -24,15 +25,16 @@ use Rattle.sheet.specs.Protocol.{heardBy, next, chipsIn}
 use Rattle.sheet.specs.Checks.{checkPowerOn, checkTransfer, checkPicture}
 use Rattle.sheet.specs.Pictures.{pictureOf, Seen, seen}
 use Rattle.sheet.specs.Places.{position, atPosition}
-use Rattle.sheet.specs.Data.{putBits, widthOf, counted}
+use Rattle.sheet.specs.Data.{putBits, widthOf, counted, acknowledger}
 
 -- ---- one group hears the bytes after the address
 
--- a group: its registers, its part of the RAM and what it has counted
+-- a group: its registers, its part of the RAM, what it has counted, and who acknowledged its last data byte
 pub record Group : Type 0 where
   pub registers : Registers
   pub ram : List ℕ
   pub counts : Counts
+  pub last : Acknowledger
 
 abbrev pub oneAcknowledged : Counts → Counts
 oneAcknowledged t = record { acknowledged = t .acknowledged + 1; stored = t .stored; discarded = t .discarded }
@@ -40,16 +42,16 @@ oneAcknowledged t = record { acknowledged = t .acknowledged + 1; stored = t .sto
 abbrev pub noCounts : Counts
 noCounts = record { acknowledged = 0; stored = 0; discarded = 0 }
 
--- after the address, which is acknowledged
+-- after the address, which is acknowledged and no data
 abbrev pub begun : Registers → List ℕ → Group
-begun r ram = record { registers = r; ram = ram; counts = oneAcknowledged noCounts }
+begun r ram = record { registers = r; ram = ram; counts = oneAcknowledged noCounts; last = Acknowledger.None }
 
 -- a control byte, a command, a data byte
 abbrev pub control : Group → Group
-control g = record { registers = g .registers; ram = g .ram; counts = oneAcknowledged (g .counts) }
+control g = record { registers = g .registers; ram = g .ram; counts = oneAcknowledged (g .counts); last = g .last }
 
 abbrev pub command : Part → ℕ → Group → Group
-command K x g = record { registers = obeyed (g .registers) (K .command x); ram = g .ram; counts = oneAcknowledged (g .counts) }
+command K x g = record { registers = obeyed (g .registers) (K .command x); ram = g .ram; counts = oneAcknowledged (g .counts); last = g .last }
 
 unfoldable pub dataByte : Part → ℕ → Group → Group
 dataByte K x g =
@@ -60,6 +62,7 @@ dataByte K x g =
       registers = atPosition K r (v + widthOf m);
       ram = putBits 8 m (bankRow m (r .i)) v x (g .ram);
       counts = counted m v (length (g .ram)) (g .counts);
+      last = acknowledger K m v (length (g .ram));
     }
 
 -- a byte, by what it is
@@ -115,14 +118,14 @@ pub record After : Type 0 where
 -- a group hears the bytes after the address, which is acknowledged; the rest of the RAM and the other registers stay
 abbrev pub heardIn : Part → Chips → ℕ → Both → List ℕ → Group → After
 heardIn K n g r ram h = record {
-  result = record { answer = Answer.Taken (h .counts); registers = replaced g (h .registers) r };
+  result = record { answer = Answer.Taken (h .counts) (h .last); registers = replaced g (h .registers) r };
   ram = withColumns K n g (h .ram) ram;
 }
 
 abbrev pub taken : Part → Chips → Both → List ℕ → List ℕ → Addressed → After
 taken K n r ram bytes (To g) =
     heardIn K n g r ram (heard K Control (drop 1 bytes) (begun (registersOf g r) (columnsOf K n g ram)))
-taken K n r ram bytes Nobody = record { result = record { answer = Answer.Taken noCounts; registers = r }; ram = ram }
+taken K n r ram bytes Nobody = record { result = record { answer = Answer.Taken noCounts Acknowledger.None; registers = r }; ram = ram }
 
 abbrev pub answered : Check → Both → List ℕ → After → After
 answered Check.Passed r ram a = a

@@ -14,9 +14,9 @@ use Rattle.sheet.specs.Protocol.{heardBy, controlOf}
 use Rattle.sheet.specs.Checks.{checkChips, checkRegisters, overIn, checkRam, checkLength, faultIn, checkState, checkPowerOn, checkTransfer, checkPicture}
 use Rattle.sheet.specs.Pictures.{shown, pictureOf, litIn}
 use Rattle.sheet.specs.Long.{heard, dataByte, powerOnCall, transferCall, pictureCall}
-use Rattle.sheet.specs.Plain.{putRows, afterColumn, afterColumns, chipData, acknowledgesData, plainHeard, chipFits, chipPowerOn, checkChipPicture, chipPictureCall, misfitIn, checkPlain, plainCall}
+use Rattle.sheet.specs.Plain.{putRows, afterColumn, afterColumns, chipData, acknowledgesData, smallest, plainHeard, chipFits, chipPowerOn, checkChipPicture, chipPictureCall, misfitIn, checkPlain, plainCall}
 use Rattle.sheet.specs.Places.{advanced, position, atPosition}
-use Rattle.sheet.specs.Data.{putBits, changed, withRow, storedBits, counted}
+use Rattle.sheet.specs.Data.{putBits, changed, withRow, storedBits, counted, acknowledger}
 use Rattle.sheet.specs.Records.{readIn, recordsFrom}
 use Rattle.sheet.specs.Logs.{checkLog}
 use Rattle.sheet.specs.Starred.{same}
@@ -84,7 +84,7 @@ abbrev state : List Fault
 state = refusal 3 0 ∷ refusal 6 0 ∷ refusal 4 0 ∷ refusal 5 2 ∷ []
 
 abbrev sent : (Bool → List ℕ → List ℕ) → List Bool → List ℕ
-sent length f = numbers (transferCall pcf8532 (chips (is f 0)) (both (is f 1)) (ram (is f 0) (is f 2) (is f 3)) (length (is f 4) (commands (is f 5) (is f 6))) .result .answer)
+sent length f = numbers pcf8532 (transferCall pcf8532 (chips (is f 0)) (both (is f 1)) (ram (is f 0) (is f 2) (is f 3)) (length (is f 4) (commands (is f 5) (is f 6))) .result .answer)
 
 abbrev shownTo : (Bool → ℕ) → (Bool → ℕ) → List Bool → List ℕ
 shownTo group phase f =
@@ -106,7 +106,7 @@ abbrev list : Bool → Bool → List Chip
 list many misfit = chip 0 ∷ chip (cond misfit 4 1) ∷ cond many (replicate 7 (chip 2)) []
 
 abbrev called : (Bool → List ℕ → List ℕ) → List Bool → List ℕ
-called length f = plainNumbers (plainCall pcf8532 (list (is f 0) (is f 1)) (length (is f 2) (commands (is f 3) (is f 4))) .answer)
+called length f = plainNumbers pcf8532 (plainCall pcf8532 (list (is f 0) (is f 1)) (length (is f 2) (commands (is f 3) (is f 4))) .answer)
 
 abbrev pub plain : Bool
 plain =
@@ -125,5 +125,5 @@ abbrev pub logs : Bool
 logs = inOrder (refusal 14 0 ∷ refusal 12 0 ∷ refusal 3 0 ∷ refusal 13 3 ∷ []) (λ f. checkNumbers (checkLog (log f)))
 
 pub orders : T (long && (plain && logs))
-unfolding checkLog recordsFrom readIn powerOnCall checkPowerOn pictureCall checkPicture chipPowerOn chipPictureCall checkChipPicture litIn ones onesIn plainCall checkPlain misfitIn chipFits plainHeard chipData afterColumn afterColumns putRows advanced acknowledgesData transferCall checkTransfer checkState checkChips checkRegisters checkRam checkLength overIn faultIn heardBy heard dataByte controlOf commandOf commandIn within inRange backplanes bankRow position atPosition putBits changed withRow storedBits counted shown pictureOf
+unfolding checkLog recordsFrom readIn powerOnCall checkPowerOn pictureCall checkPicture chipPowerOn chipPictureCall checkChipPicture litIn ones onesIn plainCall checkPlain misfitIn chipFits plainHeard chipData afterColumn afterColumns putRows advanced acknowledgesData smallest transferCall checkTransfer checkState checkChips checkRegisters checkRam checkLength overIn faultIn heardBy heard dataByte controlOf commandOf commandIn within inRange backplanes bankRow position atPosition putBits changed withRow storedBits counted acknowledger shown pictureOf
 orders = tt

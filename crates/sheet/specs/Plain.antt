@@ -1,12 +1,13 @@
 -- The plain account (paper 01, "Chips on the bus" and "Where a data byte goes"): each chip follows every byte by itself, over its own registers and columns.
 -- It shares with the long account only what the paper says once: bits and rows, commands, control bytes, backplanes and banks.
-use Prim.Native.Nat.{ℕ, zero, suc, _+_, _*_, _/_}
+use Prim.Native.Nat.{ℕ, zero, suc, _+_, _*_, _/_, min}
 use mathlib.Core.Bool.{Bool, cond, _&&_, _||_}
 use mathlib.Core.List.{List, [], _∷_, map}
 use lib.Dec.{eqb, ltb, leb}
 use lib.ListN.{getD, length, drop}
 use Rattle.sheet.specs.declared.Registers.{Registers}
 use Rattle.sheet.specs.declared.Chip.{Chip}
+use Rattle.sheet.specs.declared.Acknowledger.{Acknowledger}
 use Rattle.sheet.specs.declared.Expect.{Expect}
 use Rattle.sheet.specs.declared.Kind.{Kind}
 use Rattle.sheet.specs.declared.Expect.the-variants.{Control, One, All}
@@ -99,20 +100,47 @@ any f (c ∷ cs) = f c || any f cs
 abbrev pub takes : Part → ℕ → Expect → ℕ → Chip → Chip
 takes K address e x c = cond (hears address c) (chipByte K e x c) c
 
+-- a subaddress and the smallest of the others
+abbrev pub lower : ℕ → Acknowledger → Acknowledger
+lower a Acknowledger.None = Acknowledger.Subaddress a
+lower a (Acknowledger.Subaddress b) = Acknowledger.Subaddress (min a b)
+
+-- the smallest subaddress among the chips of which f holds (paper 02, request 4)
+unfoldable pub smallest : (Chip → Bool) → List Chip → Acknowledger
+smallest f [] = Acknowledger.None
+smallest f (c ∷ cs) = cond (f c) (lower (c .subaddress) (smallest f cs)) (smallest f cs)
+
+-- who acknowledges a byte
+abbrev pub acknowledgedBy : Part → ℕ → Expect → ℕ → List Chip → Acknowledger
+acknowledgedBy K address e x cs = smallest (λ c. hears address c && acknowledgesByte K e x c) cs
+
 -- a byte counts once however many chips acknowledge it
-abbrev pub acknowledgedOnce : Part → ℕ → Expect → ℕ → List Chip → ℕ
-acknowledgedOnce K address e x cs = cond (any (λ c. hears address c && acknowledgesByte K e x c) cs) 1 0
+abbrev pub once : Acknowledger → ℕ
+once (Acknowledger.Subaddress a) = 1
+once Acknowledger.None = 0
+
+-- who acknowledged the last data byte, after one more byte: it changes where that is data
+abbrev pub lastOf : Kind → Acknowledger → Acknowledger → Acknowledger
+lastOf Kind.Command who last = last
+lastOf Kind.Data who last = who
+
+abbrev pub lastAfter : Expect → Acknowledger → Acknowledger → Acknowledger
+lastAfter Control who last = last
+lastAfter (One k) who last = lastOf k who last
+lastAfter (All k) who last = lastOf k who last
 
 pub record Plain : Type 0 where
   pub acknowledged : ℕ
+  pub last : Acknowledger
   pub chips : List Chip
 
 -- the bytes of a transfer that are left
 unfoldable pub plainHeard : Part → ℕ → Expect → List ℕ → Plain → Plain
 plainHeard K address e [] s = s
 plainHeard K address e (x ∷ xs) s =
+    let who = acknowledgedBy K address e x (s .chips) in
     plainHeard K address (next e x) xs
-    (record { acknowledged = s .acknowledged + acknowledgedOnce K address e x (s .chips); chips = map (takes K address e x) (s .chips) })
+    (record { acknowledged = s .acknowledged + once who; last = lastAfter e who (s .last); chips = map (takes K address e x) (s .chips) })
 
 -- ---- which chips fit
 
@@ -158,14 +186,18 @@ pub record PlainAfter : Type 0 where
   pub chips : List Chip
 
 abbrev pub plainSaid : Plain → PlainAfter
-plainSaid s = record { answer = PlainAnswer.Acknowledged (s .acknowledged); chips = s .chips }
+plainSaid s = record { answer = PlainAnswer.Acknowledged (s .acknowledged) (s .last); chips = s .chips }
+
+-- so many bytes are acknowledged, and no data
+abbrev pub begunBy : ℕ → List Chip → Plain
+begunBy n cs = record { acknowledged = n; last = Acknowledger.None; chips = cs }
 
 -- byte 0 that no chip hears: nothing changes, 0. Else it is acknowledged, and the chips that hear follow the rest
 abbrev pub plainTaken : Part → List Chip → List ℕ → Plain
 plainTaken K cs bytes =
     cond (any (hears (getD bytes 0 0)) cs)
-    (plainHeard K (getD bytes 0 0) Control (drop 1 bytes) (record { acknowledged = 1; chips = cs }))
-    (record { acknowledged = 0; chips = cs })
+    (plainHeard K (getD bytes 0 0) Control (drop 1 bytes) (begunBy 1 cs))
+    (begunBy 0 cs)
 
 abbrev pub plainAnswered : Check → List Chip → PlainAfter → PlainAfter
 plainAnswered Passed cs s = s

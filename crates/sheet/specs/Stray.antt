@@ -11,9 +11,9 @@ use Rattle.sheet.specs.Parts.{within, commandIn, commandOf, pcf8532}
 use Rattle.sheet.specs.Protocol.{addressOf, heardBy, controlOf}
 use Rattle.sheet.specs.Checks.{checkChips, checkRegisters, overIn, checkRam, checkLength, faultIn, checkState, checkTransfer}
 use Rattle.sheet.specs.Long.{heard, dataByte, transferCall}
-use Rattle.sheet.specs.Plain.{putRows, afterColumn, afterColumns, chipData, acknowledgesData, plainHeard, chipFits, misfitIn, checkPlain, plainCall}
+use Rattle.sheet.specs.Plain.{putRows, afterColumn, afterColumns, chipData, acknowledgesData, smallest, plainHeard, chipFits, misfitIn, checkPlain, plainCall}
 use Rattle.sheet.specs.Places.{advanced, position, atPosition}
-use Rattle.sheet.specs.Data.{putBits, changed, withRow, storedBits, counted}
+use Rattle.sheet.specs.Data.{putBits, changed, withRow, storedBits, counted, acknowledger}
 use Rattle.sheet.specs.Starred.{same}
 
 -- the bytes after the address, and the refusal's number and place: 0 and 0 where they are taken
@@ -32,8 +32,8 @@ only g = cond (eqb g 0) (record { zero = 1; one = 0 }) (record { zero = 0; one =
 -- both accounts answer so to bytes for group `to`
 abbrev pub answers : ℕ → ℕ → List ℕ → List ℕ → Bool
 answers g to bytes wanted =
-    same (take 2 (numbers (transferCall pcf8532 (only g) (record { zero = powerOn; one = powerOn }) (replicate 160 0) (addressOf to ∷ bytes) .result .answer))) wanted
-    && same (take 2 (plainNumbers (plainCall pcf8532 (record { columns = replicate 160 0; sa0 = g; subaddress = 0; registers = powerOn } ∷ []) (addressOf to ∷ bytes) .answer))) wanted
+    same (take 2 (numbers pcf8532 (transferCall pcf8532 (only g) (record { zero = powerOn; one = powerOn }) (replicate 160 0) (addressOf to ∷ bytes) .result .answer))) wanted
+    && same (take 2 (plainNumbers pcf8532 (plainCall pcf8532 (record { columns = replicate 160 0; sa0 = g; subaddress = 0; registers = powerOn } ∷ []) (addressOf to ∷ bytes) .answer))) wanted
 
 abbrev pub holds : ℕ → Sent → Bool
 holds g s = answers g g (s .bytes) (s .number ∷ s .place ∷ []) && answers g (1 - g) (s .bytes) (0 ∷ 0 ∷ [])
@@ -70,5 +70,5 @@ table =
     ∷ []
 
 pub stray : T (eachBit (0x00 ∷ 0x40 ∷ 0x80 ∷ 0xC0 ∷ []) && every table)
-unfolding plainCall checkPlain misfitIn chipFits plainHeard chipData afterColumn afterColumns putRows advanced acknowledgesData transferCall checkTransfer checkState checkChips checkRegisters checkRam checkLength overIn faultIn heardBy heard dataByte controlOf commandOf commandIn within inRange backplanes bankRow position atPosition putBits changed withRow storedBits counted
+unfolding plainCall checkPlain misfitIn chipFits plainHeard chipData afterColumn afterColumns putRows advanced acknowledgesData smallest transferCall checkTransfer checkState checkChips checkRegisters checkRam checkLength overIn faultIn heardBy heard dataByte controlOf commandOf commandIn within inRange backplanes bankRow position atPosition putBits changed withRow storedBits counted acknowledger
 stray = tt

@@ -1,4 +1,4 @@
--- The worked log of paper 01, "Bus logs", and its text, computed of the definitions.
+-- The worked log of paper 01, "Bus logs", and its text with the last number of paper 02, request 4, computed of the definitions.
 use Prim.Native.Nat.{ℕ}
 use mathlib.Core.Path.{_≡_, refl}
 use mathlib.Core.List.{List, [], _∷_}
@@ -11,7 +11,7 @@ use Rattle.sheet.specs.Checks.{checkChips, checkRegisters, overIn, check
 use Rattle.sheet.specs.Pictures.{shown, pictureOf, litIn}
 use Rattle.sheet.specs.Long.{heard, dataByte, transferCall, stateAfterAll}
 use Rattle.sheet.specs.Places.{position, atPosition}
-use Rattle.sheet.specs.Data.{putBits, changed, withRow, storedBits, counted}
+use Rattle.sheet.specs.Data.{putBits, changed, withRow, storedBits, counted, acknowledger}
 use Rattle.sheet.specs.Records.{tornAt, withBody, readIn, recordsFrom}
 use Rattle.sheet.specs.Logs.{logRecords, checkLog, digitsIn, decimal, spaced, transferLines, columnLines, textOf}
 use Rattle.sheet.specs.Starred.{same}
@@ -27,12 +27,12 @@ workedLog =
 -- a digit's character, a space, an end of line
 abbrev pub workedText : List ℕ
 workedText =
-    -- T 0 0 0 9 8 0
-    84 ∷ 32 ∷ 48 ∷ 32 ∷ 48 ∷ 32 ∷ 48 ∷ 32 ∷ 57 ∷ 32 ∷ 56 ∷ 32 ∷ 48 ∷ 10
-    -- T 1 7 2 0 0 0
-    ∷ 84 ∷ 32 ∷ 49 ∷ 32 ∷ 55 ∷ 32 ∷ 50 ∷ 32 ∷ 48 ∷ 32 ∷ 48 ∷ 32 ∷ 48 ∷ 10
-    -- T 2 0 0 0 0 0
-    ∷ 84 ∷ 32 ∷ 50 ∷ 32 ∷ 48 ∷ 32 ∷ 48 ∷ 32 ∷ 48 ∷ 32 ∷ 48 ∷ 32 ∷ 48 ∷ 10
+    -- T 0 0 0 9 8 0 1
+    84 ∷ 32 ∷ 48 ∷ 32 ∷ 48 ∷ 32 ∷ 48 ∷ 32 ∷ 57 ∷ 32 ∷ 56 ∷ 32 ∷ 48 ∷ 32 ∷ 49 ∷ 10
+    -- T 1 7 2 0 0 0 4
+    ∷ 84 ∷ 32 ∷ 49 ∷ 32 ∷ 55 ∷ 32 ∷ 50 ∷ 32 ∷ 48 ∷ 32 ∷ 48 ∷ 32 ∷ 48 ∷ 32 ∷ 52 ∷ 10
+    -- T 2 0 0 0 0 0 4
+    ∷ 84 ∷ 32 ∷ 50 ∷ 32 ∷ 48 ∷ 32 ∷ 48 ∷ 32 ∷ 48 ∷ 32 ∷ 48 ∷ 32 ∷ 48 ∷ 32 ∷ 52 ∷ 10
     -- S 0 159 5
     ∷ 83 ∷ 32 ∷ 48 ∷ 32 ∷ 49 ∷ 53 ∷ 57 ∷ 32 ∷ 53 ∷ 10
     -- S 0 160 10
@@ -43,7 +43,7 @@ workedText =
     ∷ 71 ∷ 32 ∷ 49 ∷ 32 ∷ 48 ∷ 10 ∷ []
 
 pub worked : T (same (textOf workedLog) workedText)
-unfolding textOf recordsFrom readIn checkLog digitsIn decimal spaced transferLines columnLines stateAfterAll transferCall checkTransfer checkState checkChips checkRegisters checkRam checkLength overIn faultIn heardBy heard dataByte controlOf commandOf commandIn within inRange backplanes bankRow position atPosition putBits changed withRow storedBits counted shown pictureOf litIn ones onesIn
+unfolding textOf recordsFrom readIn checkLog digitsIn decimal spaced transferLines columnLines stateAfterAll transferCall checkTransfer checkState checkChips checkRegisters checkRam checkLength overIn faultIn heardBy heard dataByte controlOf commandOf commandIn within inRange backplanes bankRow position atPosition putBits changed withRow storedBits counted acknowledger shown pictureOf litIn ones onesIn
 worked = tt
 
 -- without its last byte the log is torn at offset 19, where that record's length field stands; the bodies before it are there

@@ -92,8 +92,15 @@ pub struct Counts {
     pub discarded: usize,
 }
 
+// Who acknowledged a data byte: the chip of a subaddress, or none.
+pub enum Acknowledger {
+    Subaddress(usize),
+    None,
+}
+
+// What is taken holds its counts and who acknowledged its last data byte.
 pub enum Answer {
-    Taken(Counts),
+    Taken { counts: Counts, last: Acknowledger },
     Refused(Refusal),
 }
 
@@ -131,7 +138,8 @@ pub struct ChipPowerOn {
     pub chip: Chip,
 }
 
+// The plain account reports the bytes acknowledged, and who acknowledged the last data byte.
 pub enum PlainAnswer {
-    Acknowledged(usize),
+    Acknowledged { bytes: usize, last: Acknowledger },
     Refused(Refusal),
 }

@@ -1,5 +1,5 @@
 // Registers, chips and answers in the buffers that C lends. Registers are nine bytes a group, in the order E B M P A I O AB BF;
-// a chip is 171 bytes: its 160 columns, SA0, subaddress and nine registers; an answer is five numbers.
+// a chip is 171 bytes: its 160 columns, SA0, subaddress and nine registers; an answer is six numbers.
 use plain::Bench;
 use sheet::Both;
 use sheet::Chip;
@@ -139,9 +139,9 @@ pub fn put_bench(bench: Bench, out: &mut [u8])
 
 // ---- answers
 
-// Five numbers; the first is returned too.
-pub fn put_numbers(numbers: [usize; 5], out: &mut [usize]) -> u8
-    requires { ⌜ (length (now out) ≡ 5) × (getD numbers 0 0 < 256) ⌝ }
+// Six numbers; the first is returned too.
+pub fn put_numbers(numbers: [usize; 6], out: &mut [usize]) -> u8
+    requires { ⌜ (length (now out) ≡ 6) × (getD numbers 0 0 < 256) ⌝ }
     ensures { λ r. ⌜ r ≡ getD numbers 0 0 ⌝ }
     ensures { λ _. ⌜ now (out .exit) ≡ numbers ⌝ }
 {
@@ -150,5 +150,6 @@ pub fn put_numbers(numbers: [usize; 5], out: &mut [usize]) -> u8
     out[2] = numbers[2];
     out[3] = numbers[3];
     out[4] = numbers[4];
+    out[5] = numbers[5];
     numbers[0] as u8
 }

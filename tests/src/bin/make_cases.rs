@@ -56,7 +56,7 @@ fn paper_cases() -> Vec<Vec<u8>> {
     let commands = [0x09, 0x0A, 0xE3, 0xE4, 0xFB, 0xFC];
     logs.extend(commands.map(|command| single(&[0x70, 0x00, command])));
     logs.extend([other_bank(0), other_bank(1)]);
-    logs.extend([every_stray_bit(), stray_bits_among_others()]);
+    logs.extend([every_stray_bit(), stray_bits_among_others(), last_chips()]);
     logs.push(generate::WORKED_LOG.to_vec());
     logs
 }
@@ -82,6 +82,22 @@ fn stray_bits_among_others() -> Vec<u8> {
         vec![0x70, 0x80, 0xC8, 0xC0, 0x3F, 0x40, 0x7F, 0xBF],
     ];
     log_of(2, 0, &transfers)
+}
+
+/// Last data bytes that chip 1, chip 0 and no chip acknowledge, one with a command behind it, and transfers without one.
+fn last_chips() -> Vec<u8> {
+    let transfers = [
+        commands_then_data(0x70, &[0xE0, 0x09, 0x4E], &[0xA5; 2]),
+        vec![0x72, 0x40, 0xA5],
+        commands_then_data(0x70, &[0xE1, 0x09, 0x4E], &[0xA5; 2]),
+        vec![
+            0x70, 0x80, 0xE3, 0xC0, 0xA5, 0x80, 0xE1, 0xC0, 0xA5, 0x00, 0xE0,
+        ],
+        vec![0x70, 0x80, 0xE1, 0x40],
+        vec![0x70, 0xC0, 0xA5, 0x00, 0xFC],
+        vec![0x71, 0x40, 0xA5],
+    ];
+    log_of(2, 1, &transfers)
 }
 
 /// Empty, short, longest and too long logs, and one cut inside a length field.

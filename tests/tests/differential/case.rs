@@ -1,7 +1,7 @@
 //! Everything that a call of the long account takes, and the same call by library and by model.
 
 use crate::library;
-use humtrellis_tests::model::{self, Answer, View, COLUMNS, REGISTERS};
+use humtrellis_tests::model::{self, Answer, View, ANSWER, COLUMNS, REGISTERS};
 
 #[derive(Clone, Copy, Debug)]
 pub enum Call {
@@ -32,7 +32,7 @@ impl Case {
             bytes: vec![0x70],
             shown: [0, 0],
             out: vec![0xEE; COLUMNS * chips[0] as usize],
-            answer: vec![77; 5],
+            answer: vec![77; ANSWER],
         }
     }
 
@@ -54,7 +54,7 @@ impl Case {
         let Ok(mut registers) = <[u8; REGISTERS]>::try_from(&self.registers[..]) else {
             return library::SIZE;
         };
-        if self.answer.len() != 5 {
+        if self.answer.len() != ANSWER {
             return library::SIZE;
         }
         let answer = self.answer_of_model(call, &mut registers);

@@ -3,7 +3,7 @@
 use crate::library::{self, SIZE};
 use crate::plain::{bytes_of, chip_of, chips, CHIP};
 use crate::{every_setting, fault, for_seeds, plain};
-use humtrellis_tests::model::{self, COLUMNS};
+use humtrellis_tests::model::{self, ANSWER, COLUMNS};
 use humtrellis_tests::random::Random;
 
 /// A call, with the bytes of its chip first.
@@ -21,12 +21,12 @@ impl Call {
             chip: chip.to_vec(),
             phase: 0,
             out: vec![0xEE; COLUMNS],
-            answer: vec![77; 5],
+            answer: vec![77; ANSWER],
         }
     }
 
     fn sizes_fit(&self) -> bool {
-        self.chip.len() == CHIP && self.answer.len() == 5
+        self.chip.len() == CHIP && self.answer.len() == ANSWER
     }
 
     fn power_on_by_model(&mut self) -> u8 {
@@ -103,7 +103,7 @@ fn chip_sequences() {
         let mut call = Call::new(&chips(random, 1));
         assert_eq!(call.power_on(), 0);
         for _ in 0..30 {
-            plain::compare(&mut call.chip, &fault::transfer(random), 5);
+            plain::compare(&mut call.chip, &fault::transfer(random));
             for phase in 0..2 {
                 call.phase = phase;
                 assert_eq!(call.picture(), 0);
@@ -126,7 +126,7 @@ fn chip_damaged() {
         let out = about(random, COLUMNS);
         call.out = random.bytes(out);
         call.chip.resize(about(random, CHIP), 1);
-        call.answer.resize(about(random, 5), 3);
+        call.answer.resize(about(random, ANSWER), 3);
         call.both();
     });
 }
@@ -167,7 +167,7 @@ fn chip_power_on_registers() {
         assert_eq!(call.power_on(), number);
         assert_eq!(call.chip[..COLUMNS + 2], chip[..COLUMNS + 2]);
         assert_eq!(call.chip[COLUMNS + 2..], [0; 9]);
-        assert_eq!(call.answer, [number as usize, 0, 0, 0, 0]);
+        assert_eq!(call.answer, [number as usize, 0, 0, 0, 0, 0]);
     }
 }
 
@@ -214,12 +214,12 @@ fn chip_orders() {
 #[test]
 fn chip_sizes() {
     for chip in 0..=2 * CHIP + 1 {
-        for answer in [0, 4, 5, 6, 10] {
+        for answer in [0, ANSWER - 1, ANSWER, ANSWER + 1, 2 * ANSWER] {
             for (value, phase, out) in [(0, 0, COLUMNS), (255, 2, 0)] {
                 let mut call = Call::new(&vec![value; chip]);
                 (call.phase, call.out) = (phase, vec![0xEE; out]);
                 call.answer = vec![77; answer];
-                if (chip, answer) != (CHIP, 5) {
+                if (chip, answer) != (CHIP, ANSWER) {
                     assert_eq!(call.both(), [SIZE; 2]);
                 }
             }

@@ -4,7 +4,7 @@ use crate::case::{Call, Case};
 use crate::plain::{self, CHIP};
 use crate::{fault, for_seeds};
 use humtrellis_tests::generate;
-use humtrellis_tests::model::COLUMNS;
+use humtrellis_tests::model::{ANSWER, COLUMNS, NONE};
 
 /// A bus, and a list of plain chips that gets the same transfers.
 struct Both {
@@ -35,23 +35,23 @@ impl Both {
         let mut case = self.case.clone();
         case.bytes = bytes.to_vec();
         let mut after = case.clone();
-        after.answer = vec![number.into(), place, 0, 0, 0];
+        after.answer = vec![number.into(), place, 0, 0, 0, NONE];
         assert_eq!(case.compare(Call::Transfer), number);
         assert_eq!(case, after);
     }
 
     fn expect_same_chips(&self, bytes: &[u8], (number, place): (u8, usize)) {
-        let (mut chips, mut answer) = (self.chips.clone(), [77; 5]);
+        let (mut chips, mut answer) = (self.chips.clone(), [77; ANSWER]);
         assert_eq!(plain::compare_into(&mut chips, bytes, &mut answer), number);
         assert_eq!(chips, self.chips);
-        assert_eq!(answer, [number.into(), place, 0, 0, 0]);
+        assert_eq!(answer, [number.into(), place, 0, 0, 0, NONE]);
     }
 
     fn expect_taken(&self, bytes: &[u8]) {
         let mut case = self.case.clone();
         case.bytes = bytes.to_vec();
         assert_eq!(case.compare(Call::Transfer), 0);
-        assert_eq!(plain::compare(&mut self.chips.clone(), bytes, 5), 0);
+        assert_eq!(plain::compare(&mut self.chips.clone(), bytes), 0);
     }
 }
 

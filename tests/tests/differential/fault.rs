@@ -1,7 +1,7 @@
 //! Random cases, with faults put in one by one.
 
 use crate::case::{ram_length, Case};
-use humtrellis_tests::model::COLUMNS;
+use humtrellis_tests::model::{ANSWER, COLUMNS};
 use humtrellis_tests::{generate, random::Random};
 
 /// Registers in range, edge values more often than others.
@@ -42,7 +42,7 @@ pub fn good_case(random: &mut Random) -> Case {
         bytes: transfer(random),
         shown,
         out: random.bytes(out),
-        answer: (0..5).map(|_| random.number() as usize).collect(),
+        answer: (0..ANSWER).map(|_| random.number() as usize).collect(),
     }
 }
 
@@ -130,6 +130,7 @@ fn wrong_out(random: &mut Random, case: &mut Case) {
 
 fn wrong_answer_length(random: &mut Random, case: &mut Case) {
     if random.one_in(4) {
-        case.answer.resize(random.pick(&[0, 1, 4, 6, 10]), 3);
+        let others = [0, 1, ANSWER - 1, ANSWER + 1, 2 * ANSWER];
+        case.answer.resize(random.pick(&others), 3);
     }
 }

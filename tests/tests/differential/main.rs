@@ -8,6 +8,7 @@ mod case;
 mod chip;
 mod control;
 mod fault;
+mod last_chip;
 mod library;
 mod orders;
 mod plain;

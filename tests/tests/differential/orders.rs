@@ -1,6 +1,7 @@
 //! Every set of faults at once: which refusal comes first.
 
 use crate::case::{Call, Case};
+use humtrellis_tests::model::ANSWER;
 
 const BAD_COUNT: usize = 1;
 const BAD_REGISTER: usize = 2;
@@ -98,8 +99,17 @@ fn picture() {
 /// Buffers of a wrong size come before every refusal, and nothing is written.
 #[test]
 fn sizes() {
+    let wrong = [
+        (17, ANSWER),
+        (19, ANSWER),
+        (0, ANSWER),
+        (18, ANSWER - 1),
+        (18, ANSWER + 1),
+        (18, 0),
+        (0, 0),
+    ];
     for faults in 0..16 {
-        for (registers, answer) in [(17, 5), (19, 5), (0, 5), (18, 4), (18, 6), (18, 0), (0, 0)] {
+        for (registers, answer) in wrong {
             let mut case = bus_with(faults);
             case.registers.resize(registers, 200);
             case.answer.resize(answer, 77);

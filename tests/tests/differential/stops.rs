@@ -2,13 +2,12 @@
 //! Safety of every call: the refusal comes before a byte behind the false length is read or written; the other lengths are true.
 
 use crate::library::*;
+use crate::plain::CHIP;
 use humtrellis_tests::header::text_room;
+use humtrellis_tests::model::{ANSWER, COLUMNS, NONE};
 
 /// More than is mapped behind any buffer here.
 const FALSE: usize = 1 << 44;
-
-const COLUMNS: usize = 160;
-const CHIP: usize = 171;
 
 /// One chip, and the lengths that are told of its buffers.
 struct Bus {
@@ -17,7 +16,7 @@ struct Bus {
     ram_length: usize,
     bytes_length: usize,
     out_length: usize,
-    answer: [usize; 5],
+    answer: [usize; ANSWER],
 }
 
 impl Bus {
@@ -28,14 +27,14 @@ impl Bus {
             ram_length: COLUMNS,
             bytes_length: 2,
             out_length: COLUMNS,
-            answer: [77; 5],
+            answer: [77; ANSWER],
         }
     }
 
-    /// A call that is refused by this number, with place 0.
-    fn refused(&self, number: u8, expected: u8) {
+    /// A call that is refused by this number, with place 0; only a transfer has a chip, and that is none.
+    fn refused(&self, number: u8, expected: u8, chip: usize) {
         assert_eq!(number, expected);
-        assert_eq!(self.answer, [expected.into(), 0, 0, 0, 0]);
+        assert_eq!(self.answer, [expected.into(), 0, 0, 0, 0, chip]);
     }
 
     fn power_on(&mut self, expected: u8) {
@@ -49,10 +48,10 @@ impl Bus {
                 r.as_mut_ptr(),
                 18,
                 a.as_mut_ptr(),
-                5,
+                ANSWER,
             )
         };
-        self.refused(number, expected);
+        self.refused(number, expected, 0);
     }
 
     fn transfer(&mut self, expected: u8) {
@@ -69,10 +68,10 @@ impl Bus {
                 bytes.as_ptr(),
                 self.bytes_length,
                 a.as_mut_ptr(),
-                5,
+                ANSWER,
             )
         };
-        self.refused(number, expected);
+        self.refused(number, expected, NONE);
     }
 
     fn picture(&mut self, expected: u8) {
@@ -91,10 +90,10 @@ impl Bus {
                 out.as_mut_ptr(),
                 self.out_length,
                 a.as_mut_ptr(),
-                5,
+                ANSWER,
             )
         };
-        self.refused(number, expected);
+        self.refused(number, expected, 0);
         assert_eq!(out, [0xEE; COLUMNS]);
     }
 }
@@ -138,14 +137,15 @@ fn stops_at_list_transfer_and_picture_of_chips() {
     for (chips, length, expected) in [(FALSE / CHIP * CHIP, 2, 10), (CHIP, FALSE, 2)] {
         let a = bus.answer.as_mut_ptr();
         let number = unsafe {
-            humtrellis_plain_transfer(chip.as_mut_ptr(), chips, bytes.as_ptr(), length, a, 5)
+            humtrellis_plain_transfer(chip.as_mut_ptr(), chips, bytes.as_ptr(), length, a, ANSWER)
         };
-        bus.refused(number, expected);
+        bus.refused(number, expected, NONE);
     }
     let a = bus.answer.as_mut_ptr();
-    let number =
-        unsafe { humtrellis_chip_picture(chip.as_ptr(), CHIP, 0, out.as_mut_ptr(), FALSE, a, 5) };
-    bus.refused(number, 9);
+    let number = unsafe {
+        humtrellis_chip_picture(chip.as_ptr(), CHIP, 0, out.as_mut_ptr(), FALSE, a, ANSWER)
+    };
+    bus.refused(number, 9, 0);
     assert_eq!(out, [0xEE; COLUMNS]);
 }
 

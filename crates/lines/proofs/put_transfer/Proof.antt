@@ -5,6 +5,7 @@ use mathlib.Core.List.{List, [], _∷_}
 use Prim.Native.Nat.{ℕ, _+_, _≤_}
 use lib.ListN.{length, getD}
 use Rattle.sheet.specs.declared.Answer.{Answer}
+use Rattle.sheet.specs.Parts.{pcf8532}
 use Rattle.sheet.specs.Refusals.{numbers}
 use Rattle.sheet.specs.Logs.{transferLetter, line}
 use Rattle.text.specs.Texts.{Puts}
@@ -12,13 +13,16 @@ use borrow.Author.Needs.{needs}
 use Rattle.lines.proofs.put_transfer.Statement.{statement}
 use Rattle.lines.proofs.put_transfer.Tie as tie
 
--- an answer has five numbers
-five : (answer : Answer) (ns : List ℕ) → ns ≡ numbers answer → (getD ns 0 0 ∷ getD ns 1 0 ∷ getD ns 2 0 ∷ getD ns 3 0 ∷ getD ns 4 0 ∷ []) ≡ numbers answer
-five (Answer.Taken t) ns e = rw e
-five (Answer.Refused r) ns e = rw e
+-- an answer has six numbers
+abbrev firstSix : List ℕ → List ℕ
+firstSix ns = getD ns 0 0 ∷ getD ns 1 0 ∷ getD ns 2 0 ∷ getD ns 3 0 ∷ getD ns 4 0 ∷ getD ns 5 0 ∷ []
 
-told : (c : tie.After-numbers) → let ns = c .numbers .result in (getD ns 0 0 ∷ getD ns 1 0 ∷ getD ns 2 0 ∷ getD ns 3 0 ∷ getD ns 4 0 ∷ []) ≡ numbers (c .before .before .args .answer)
-told c = five (c .before .before .args .answer) (c .numbers .result) (c .numbers .ensures)
+six : (answer : Answer) (ns : List ℕ) → ns ≡ numbers pcf8532 answer → firstSix ns ≡ numbers pcf8532 answer
+six (Answer.Taken t last) ns e = rw e
+six (Answer.Refused r) ns e = rw e
+
+told : (c : tie.After-numbers) → firstSix (c .numbers .result) ≡ numbers pcf8532 (c .before .before .args .answer)
+told c = six (c .before .before .args .answer) (c .numbers .result) (c .numbers .ensures)
 
 put-line-requires : tie.Need-put-line-requires
 put-line-requires c κs = let n = c .before .before in
@@ -34,5 +38,5 @@ pub put-transfer-spec : {M : Type 1} → statement M
 put-transfer-spec =
     tie.close
     (tie.spec
-    (λ c κs. search needs) (λ c. search needs) (λ c. search needs) (λ c. search needs) (λ c. search needs) (λ c. search needs) (λ c. search needs)
+    (λ c κs. search needs) (λ c. search needs) (λ c. search needs) (λ c. search needs) (λ c. search needs) (λ c. search needs) (λ c. search needs) (λ c. search needs)
     put-line-requires (λ c. search needs) returns)

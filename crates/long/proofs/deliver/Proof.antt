@@ -6,6 +6,7 @@ use native.Mathlib.Omega.{arith}
 use lib.ListN.{length, take, drop}
 use denote.Ref.{now}
 use Rattle.sheet.specs.declared.Registers.{Registers}
+use Rattle.sheet.specs.declared.Acknowledger.{Acknowledger}
 use Rattle.sheet.specs.declared.Answer.{Answer}
 use Rattle.sheet.specs.declared.Expect.the-variants.{Control}
 use Rattle.sheet.specs.Parts.{pcf8532}
@@ -50,10 +51,10 @@ returns : tie.Need-returns
 returns c = let h = c .before .before .before .before .before in
     let e = h .before .before .before in
     let a = e .before .before .before .before .args in
-    let told = h .hear .ensures ∙ ap (λ (g : Group). heard pcf8532 Control (drop 1 (now (a .bytes))) g) (λ j. record { registers = h .before .before .registers-of .ensures j; ram = part e j; counts = oneAcknowledged noCounts }) in
+    let told = h .hear .ensures ∙ ap (λ (g : Group). heard pcf8532 Control (drop 1 (now (a .bytes))) g) (λ j. record { registers = h .before .before .registers-of .ensures j; ram = part e j; counts = oneAcknowledged noCounts; last = Acknowledger.None }) in
     let after = c .replaced .ensures ∙ ap (λ (r : Registers). replaced (a .group) r (a .registers)) (λ j. told j .registers) in
     let back = put-back (a .chips) (now (a .ram)) (a .group) (e .before .start-of .result) (e .end-of .result) (e .before .start-of .ensures) (e .end-of .ensures) (h .hear .last .0) _ (λ j. told j .ram) in
-    λ j. record { result = record { answer = Answer.Taken (told j .counts); registers = after j }; ram = back j }
+    λ j. record { result = record { answer = Answer.Taken (told j .counts) (told j .last); registers = after j }; ram = back j }
 
 pub deliver-spec : {M : Type 1} → statement M
 deliver-spec =

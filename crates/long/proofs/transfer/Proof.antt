@@ -15,8 +15,8 @@ use Rattle.long.proofs.transfer.Statement.{statement}
 use Rattle.long.proofs.transfer.Tie as tie
 
 -- the result with the RAM, and so its numbers
-numbered : {a b : After} → a ≡ b → (a ≡ b) × (numbers (a .result .answer) ≡ numbers (b .result .answer))
-numbered e = (e, ap (λ (k : After). numbers (k .result .answer)) e)
+numbered : {a b : After} → a ≡ b → (a ≡ b) × (numbers pcf8532 (a .result .answer) ≡ numbers pcf8532 (b .result .answer))
+numbered e = (e, ap (λ (k : After). numbers pcf8532 (k .result .answer)) e)
 
 -- what is taken once the checks have passed, by who hears
 takes : (c : tie.After-heard-by) → (to : Addressed) → c .heard-by .result ≡ to → let a = c .before .before .before .before .before .before .before .before .args in

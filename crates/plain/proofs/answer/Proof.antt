@@ -7,14 +7,11 @@ use borrow.Author.Needs.{needs}
 use Rattle.plain.proofs.answer.Statement.{statement}
 use Rattle.plain.proofs.answer.Tie as tie
 
-enum-told : tie.Need-enum-told
-enum-told c = search needs
-
 returns : tie.Need-returns
-returns c = sym (ap (λ (k : Check). answerOf k (c .before .before .args .acknowledged)) (c .enum-told .given .1))
+returns c = sym (ap (λ (k : Check). answerOf k (c .before .before .args .tally)) (c .enum-told .given .1))
 
 returns-2 : tie.Need-returns-2
-returns-2 c = sym (ap (λ (k : Check). answerOf k (c .before .before .before .args .acknowledged)) (c .before .check .given .1))
+returns-2 c = sym (ap (λ (k : Check). answerOf k (c .before .before .before .args .tally)) (c .before .check .given .1))
 
 pub answer-spec : {M : Type 1} → statement M
-answer-spec = tie.close (tie.spec enum-told (λ c. search needs) returns returns-2)
+answer-spec = tie.close (tie.spec (λ c. search needs) (λ c. search needs) returns returns-2)

@@ -28,7 +28,7 @@ use Rattle.plain.proofs.transfer.Code as code
 abbrev Says : (κs : Lfts 2) → Args own.signature κs → List Chip → PlainAnswer → Type 0
 Says κs a zs r =
     let p = plainCall pcf8532 (a .0 .now) (a .1 .0 .now) in
-    ((r ≡ p .answer) × (plainNumbers r ≡ plainNumbers (p .answer))) × (zs ≡ p .chips)
+    ((r ≡ p .answer) × (plainNumbers pcf8532 r ≡ plainNumbers pcf8532 (p .answer))) × (zs ≡ p .chips)
 
 module _ {M : Type 1} (𝓤 : URA M) (H : Heap 𝓤) (A : Atoms 𝓤) (W : Given 𝓤 H A) (mem : Memory → SProp 𝓤) (run : Routine → Fun 𝓤) (𝓣 : Tables 𝓤 H)
     (many-met : Meets 𝓤 H A many.signature (𝓣 .C #plain·many-chips) (many.spec 𝓤 H A mem run)) (few-met : Meets 𝓤 H A few.signature (𝓣 .C #plain·transfer-few) (few.spec 𝓤 H A mem run)) where
@@ -42,7 +42,7 @@ module _ {M : Type 1} (𝓤 : URA M) (H : Heap 𝓤) (A : Atoms 𝓤) (W : Given
       let refused = sym (too-many xs bytes (ltb→lt 8 (length xs) said)) in
       calls-plain ! 0 𝓣 AnswerType.the-row answer tt refl (PlainAnswer.Refused ManyChips) (then _) [] (λ _. tt) (λ _. tt) (λ _. tt) (many.clauses 𝓤 H A mem run) many-met tt (id⊢ 𝓤 (emp 𝓤)) (λ Δ. no-more !) (λ r ws. id⊢ 𝓤 _) (λ is-answer.
       move ! (1 ∷ 3 ∷ []) $ shuts ChipType.the-row ! tt xs xs b o space refl $ move ! (1 ∷ []) $ leaves ! post refl refl tt $
-      ends _ xs refl is-answer ((ap (λ (p : PlainAfter). p .answer) refused, ap (λ (p : PlainAfter). plainNumbers (p .answer)) refused), ap (λ (p : PlainAfter). p .chips) refused)))
+      ends _ xs refl is-answer ((ap (λ (p : PlainAfter). p .answer) refused, ap (λ (p : PlainAfter). plainNumbers pcf8532 (p .answer)) refused), ap (λ (p : PlainAfter). p .chips) refused)))
       (λ denied.
       reslices ! refl refl tt (tt, tt) refl refl tt (tt, (tt, (record { fits = space .0 }, tt))) $
       calls-lending-passing ! 0 𝓣 AnswerType.the-row answer tt refl (plainCall pcf8532 xs bytes .answer) [] (λ _. tt) (λ _. tt) (λ _. tt) ChipType.the-row xs b o space u8 bytes b₂ o₂ γ₂ κ₂ s₂ (length xs) refl

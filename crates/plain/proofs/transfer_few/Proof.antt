@@ -10,15 +10,16 @@ use Rattle.sheet.specs.Parts.{pcf8532}
 use Rattle.sheet.specs.Plain.{PlainAfter, plainCall}
 use Rattle.plain.specs.declared.Start.{Start}
 use Rattle.plain.specs.declared.Question.the-variants.{Misfit, Hears}
-use Rattle.plain.specs.Turns.{followed, Ready}
+use Rattle.plain.specs.Turns.{tallyOf, followed, Ready}
 use Rattle.plain.specs.Starts.{answerOf}
 use Rattle.plain.proofs.Starting.{misfit-at, hearer-at, begun, ready, concluded}
-use Rattle.plain.proofs.Shapes.{question, turn, check, start, answer}
+use Rattle.plain.proofs.Shapes.{question, tally, turn, check, start, answer}
 use Rattle.sheet.proofs.Chip as ChipType
 use Rattle.sheet.proofs.Check as CheckType
 use Rattle.sheet.proofs.PlainAnswer as AnswerType
 use Rattle.plain.proofs.Question as QuestionType
 use Rattle.plain.proofs.Question.Laws as QuestionLaws
+use Rattle.plain.proofs.Tally as TallyType
 use Rattle.plain.proofs.Turn as TurnType
 use Rattle.plain.proofs.Start as StartType
 use Rattle.plain.proofs.Start.Laws as StartLaws
@@ -76,12 +77,12 @@ module _ {M : Type 1} (𝓤 : URA M) (H : Heap 𝓤) (A : Atoms 𝓤) (W : Given
       let is-st = owed StartType.the-type StartLaws.the-laws st _ is-start in
       -- the chips follow
       reslices ! refl refl tt (tt, tt) refl refl tt (tt, (tt, (record { fits = space .0 }, tt))) $
-      calls-lending-passing ! 6 𝓣 usize (number w64) tt refl (followed xs bytes (st .turn) .acknowledged) (plain (λ _. TurnType.the-row) ∷ []) (λ _. (turn, tt)) (λ _. (st .turn, tt)) (λ _. (is-st .1 .0, tt)) ChipType.the-row xs b o space u8 bytes b₂ o₂ γ₂ κ₂ s₂ (length xs) refl
-      (λ r zs. (r ≡ followed xs bytes (st .turn) .acknowledged) × (zs ≡ followed xs bytes (st .turn) .chips)) (λ r zs e. e .0) (follow.clauses 𝓤 H A mem run) follow-met (λ κ γ. tt) (λ κ γ. factI 𝓤 (Ready xs bytes (st .turn)) (emp 𝓤) (ready xs bytes few))
-      (λ κ Δ. and-then ! (get ! refl) (and-then ! (get ! refl) (and-then ! (field ! refl refl refl) (no-more !)))) (λ κ γ r ws. both-said 𝓤 _ _) (λ zs len e is-acknowledged.
+      calls-lending-passing ! 6 𝓣 TallyType.the-row tally tt refl (tallyOf (followed xs bytes (st .turn))) (plain (λ _. TurnType.the-row) ∷ []) (λ _. (turn, tt)) (λ _. (st .turn, tt)) (λ _. (is-st .1 .0, tt)) ChipType.the-row xs b o space u8 bytes b₂ o₂ γ₂ κ₂ s₂ (length xs) refl
+      (λ r zs. (r ≡ tallyOf (followed xs bytes (st .turn))) × (zs ≡ followed xs bytes (st .turn) .chips)) (λ r zs e. e .0) (follow.clauses 𝓤 H A mem run) follow-met (λ κ γ. tt) (λ κ γ. factI 𝓤 (Ready xs bytes (st .turn)) (emp 𝓤) (ready xs bytes few))
+      (λ κ Δ. and-then ! (get ! refl) (and-then ! (get ! refl) (and-then ! (field ! refl refl refl) (no-more !)))) (λ κ γ r ws. both-said 𝓤 _ _) (λ zs len e is-tally.
       -- the answer
-      calls-plain ! 0 𝓣 AnswerType.the-row answer tt refl (answerOf (st .check) (followed xs bytes (st .turn) .acknowledged)) (then _) (plain (λ _. CheckType.the-row) ∷ plain (λ _. usize) ∷ []) (λ _. (check, (number w64, tt)))
-      (λ _. (st .check, (followed xs bytes (st .turn) .acknowledged, tt))) (λ _. (is-st .0, (is-acknowledged, tt))) (answers.clauses 𝓤 H A mem run) answer-met tt (id⊢ 𝓤 (emp 𝓤))
+      calls-plain ! 0 𝓣 AnswerType.the-row answer tt refl (answerOf (st .check) (tallyOf (followed xs bytes (st .turn)))) (then _) (plain (λ _. CheckType.the-row) ∷ plain (λ _. TallyType.the-row) ∷ []) (λ _. (check, (tally, tt)))
+      (λ _. (st .check, (tallyOf (followed xs bytes (st .turn)), tt))) (λ _. (is-st .0, (is-tally, tt))) (answers.clauses 𝓤 H A mem run) answer-met tt (id⊢ 𝓤 (emp 𝓤))
       (λ Δ. and-then ! (field ! refl refl refl) (and-then ! (get ! refl) (no-more !))) (λ r ws. id⊢ 𝓤 _) (λ is-answer.
       move ! (1 ∷ 3 ∷ []) $ shuts ChipType.the-row ! tt xs zs b o space len $ move ! (1 ∷ []) $ leaves ! post refl refl tt $
       ends _ zs len is-answer (ap (λ (p : PlainAfter). p .answer) (concluded xs bytes few), e .1 ∙ ap (λ (p : PlainAfter). p .chips) (concluded xs bytes few))))))))

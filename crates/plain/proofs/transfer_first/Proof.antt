@@ -60,7 +60,7 @@ module _ {M : Type 1} (𝓤 : URA M) (H : Heap 𝓤) (A : Atoms 𝓤) (W : Given
       use1 W (‵ (row ChipType.the-row fullShare cs (l 4) 0) ⊛ ‵ (row ChipType.the-row fullShare rest (l 4) (place 200 0 (length cs)))) (cuts 𝓤 H A W ChipType.the-row fullShare cs rest (l 4) 0) $ split ! $ move ! (2 ∷ 0 ∷ 3 ∷ []) $
       -- [the frame, without the array; the first chips' row; the bytes; the others' row]
       calls-lending-passing ! 5 𝓣 AnswerType.the-row answer tt refl (plainCall pcf8532 cs bytes .answer) [] (λ _. tt) (λ _. tt) (λ _. tt) ChipType.the-row cs (l 4) 0 room u8 bytes b o γ κ s (d .count) (sym len)
-      (λ r zs. ((r ≡ plainCall pcf8532 cs bytes .answer) × (plainNumbers r ≡ plainNumbers (plainCall pcf8532 cs bytes .answer))) × (zs ≡ plainCall pcf8532 cs bytes .chips)) (λ r zs e. e .0 .0) (transfer.clauses 𝓤 H A mem run) transfer-met (λ κ γ. tt) (λ κ γ. id⊢ 𝓤 (emp 𝓤))
+      (λ r zs. ((r ≡ plainCall pcf8532 cs bytes .answer) × (plainNumbers pcf8532 r ≡ plainNumbers pcf8532 (plainCall pcf8532 cs bytes .answer))) × (zs ≡ plainCall pcf8532 cs bytes .chips)) (λ r zs e. e .0 .0) (transfer.clauses 𝓤 H A mem run) transfer-met (λ κ γ. tt) (λ κ γ. id⊢ 𝓤 (emp 𝓤))
       (λ κ Δ. and-then ! (get ! refl) (and-then ! (get ! refl) (no-more !))) (λ κ γ r ws. both-said 𝓤 _ _) (λ zs len-z e is-a.
       let all : length (zs ++ rest) ≡ 8 = length-append zs rest ∙ omega (arith, length-drop (d .count) (d .chips)) in
       -- the array is put together
