@@ -25,7 +25,7 @@ fn compare(name: &str, log: &[u8]) {
 
 #[test]
 fn examples() {
-    for name in ["minus", "minus-lost"] {
+    for name in ["minus", "minus-lost", "seen"] {
         let text = lines(&format!("examples/{name}.txt"));
         let expected = Ended::new(0, &text, "");
         assert_eq!(run(&format!("bin/replay examples/{name}.log")), expected);
