@@ -22,7 +22,7 @@
 #include <stddef.h>
 #include <stdint.h>
 
-#define HUMTRELLIS_VERSION 2    /* of these sizes and calls; docs/C.md says what changed */
+#define HUMTRELLIS_VERSION 2   /* of these sizes and calls; docs/C.md says what changed */
 #define HUMTRELLIS_COLUMNS 160 /* of a chip: its bytes in the RAM and in a picture */
 #define HUMTRELLIS_SET 9       /* registers of a group or a chip; group 1's begin at this index */
 #define HUMTRELLIS_REGISTERS 18
