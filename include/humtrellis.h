@@ -22,7 +22,7 @@
 #include <stddef.h>
 #include <stdint.h>
 
-#define HUMTRELLIS_VERSION 2    /* of these sizes and calls; docs/C.md says what changed */
+#define HUMTRELLIS_VERSION 2   /* of these sizes and calls; docs/C.md says what changed */
 #define HUMTRELLIS_COLUMNS 160 /* of a chip: its bytes in the RAM and in a picture */
 #define HUMTRELLIS_SET 9       /* registers of a group or a chip; group 1's begin at this index */
 #define HUMTRELLIS_REGISTERS 18
@@ -74,10 +74,11 @@ enum humtrellis_refusal {
     HUMTRELLIS_REFUSED_OUT_LENGTH = 9,    /* not 160 bytes for each chip shown */
     HUMTRELLIS_REFUSED_CHIP_LIST = 10,    /* more than 8 plain chips */
     HUMTRELLIS_REFUSED_CHIP = 11,         /* a field or column of a plain chip out of range; place: the first such chip */
-    HUMTRELLIS_REFUSED_LOG = 12,          /* under 3 bytes or version not 1; this and the next two stand in a log's text */
+    HUMTRELLIS_REFUSED_LOG = 12,          /* under 3 bytes or version not 1 or 2; this, the next two and 20 stand in a log's text */
     HUMTRELLIS_REFUSED_RECORD = 13,       /* cut short; place: the offset of its length field */
     HUMTRELLIS_REFUSED_LOG_LENGTH = 14,   /* over 65,536 bytes */
-    HUMTRELLIS_REFUSED_CONTROL = 17       /* stray bits 5 to 0 of a control byte, in a transfer that a chip hears; place: the first; 7 or 17, whichever byte comes first */
+    HUMTRELLIS_REFUSED_CONTROL = 17,      /* stray bits 5 to 0 of a control byte, in a transfer that a chip hears; place: the first; 7 or 17, whichever byte comes first */
+    HUMTRELLIS_REFUSED_BODY = 20          /* a version 2 record's body under two bytes; place: the offset of its length field */
 };
 
 #ifdef __cplusplus

@@ -166,9 +166,11 @@ static int refused_log(const uint8_t *log, size_t length, int number, int place)
 
 static void logs(void) {
     const uint8_t cut[] = {1, 1, 0, 0, 1, 0x70, 0, 2, 0x70}, crowded[] = {1, 0, 5};
+    const uint8_t short_body[] = {2, 1, 0, 0, 1, 0};
     EXPECT(refused_log(cut, 2, HUMTRELLIS_REFUSED_LOG, 0));
     EXPECT(refused_log(crowded, sizeof crowded, HUMTRELLIS_REFUSED_CHIP_COUNT, 0));
     EXPECT(refused_log(cut, sizeof cut, HUMTRELLIS_REFUSED_RECORD, 6));
+    EXPECT(refused_log(short_body, sizeof short_body, HUMTRELLIS_REFUSED_BODY, 3));
     EXPECT(refused_log(many, sizeof many, HUMTRELLIS_REFUSED_LOG_LENGTH, 0));
     EXPECT(humtrellis_replay(cut, sizeof cut, text, HUMTRELLIS_TEXT - 1) == 0);
 }

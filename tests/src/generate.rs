@@ -1,12 +1,18 @@
 //! Generators of transfers and logs, well-formed and damaged.
 
-use crate::model::{defined, LOG_LIMIT, TRANSFER_LIMIT};
+use crate::model::{defined, LogBus, LOG_LIMIT, TRANSFER_LIMIT};
 use crate::random::Random;
 
 /// The log that the paper works out.
 pub const WORKED_LOG: [u8; 22] = [
     0x01, 0x02, 0x00, 0x00, 0x09, 0x70, 0x80, 0xC8, 0x80, 0x09, 0x80, 0x4F, 0x40, 0xA5, 0x00, 0x03,
     0x70, 0x00, 0xFC, 0x00, 0x01, 0x50,
+];
+
+/// The same in version 2: an analyser saw 9, 3 and 0 acknowledged bytes.
+pub const WORKED_SEEN_LOG: [u8; 28] = [
+    0x02, 0x02, 0x00, 0x00, 0x0B, 0x00, 0x09, 0x70, 0x80, 0xC8, 0x80, 0x09, 0x80, 0x4F, 0x40, 0xA5,
+    0x00, 0x05, 0x00, 0x03, 0x70, 0x00, 0xFC, 0x00, 0x03, 0x00, 0x00, 0x50,
 ];
 
 // ---- Transfers -------------------------------------------------------------
@@ -242,77 +248,165 @@ pub fn long_transfer(random: &mut Random) -> Vec<u8> {
 
 // ---- Logs ------------------------------------------------------------------
 
-/// A log of given chips and transfers.
-pub fn log_of(chips0: u8, chips1: u8, transfers: &[Vec<u8>]) -> Vec<u8> {
-    let mut log = vec![1, chips0, chips1];
-    for bytes in transfers {
-        push_record(&mut log, bytes);
+/// A log of given version, chips and record bodies.
+fn log_of_bodies(version: u8, [chips0, chips1]: [u8; 2], bodies: &[Vec<u8>]) -> Vec<u8> {
+    let mut log = vec![version, chips0, chips1];
+    for body in bodies {
+        log.extend((body.len() as u16).to_be_bytes());
+        log.extend(body);
     }
     log
 }
 
-fn push_record(log: &mut Vec<u8>, bytes: &[u8]) {
-    log.extend((bytes.len() as u16).to_be_bytes());
-    log.extend(bytes);
+/// A log of version 1, of given chips and transfers.
+pub fn log_of(chips0: u8, chips1: u8, transfers: &[Vec<u8>]) -> Vec<u8> {
+    log_of_bodies(1, [chips0, chips1], transfers)
 }
 
-/// A log of transfers that `make` makes.
-fn log_made_by(make: fn(&mut Random) -> Vec<u8>, random: &mut Random) -> Vec<u8> {
-    let chips0 = random.below(5) as u8;
-    let chips1 = random.below(5) as u8;
+/// A log of version 2, of given chips and transfers, each with the acknowledged bytes seen.
+pub fn seen_log_of(chips0: u8, chips1: u8, records: &[(u16, Vec<u8>)]) -> Vec<u8> {
+    let bodies = records.iter().map(|(seen, bytes)| seen_body(*seen, bytes));
+    log_of_bodies(2, [chips0, chips1], &bodies.collect::<Vec<_>>())
+}
+
+fn seen_body(seen: u16, bytes: &[u8]) -> Vec<u8> {
+    [&seen.to_be_bytes(), bytes].concat()
+}
+
+/// Chips and transfers, for a log of either version.
+struct Traffic {
+    chips: [u8; 2],
+    transfers: Vec<Vec<u8>>,
+}
+
+impl Traffic {
+    fn log(&self) -> Vec<u8> {
+        log_of_bodies(1, self.chips, &self.transfers)
+    }
+
+    fn seen_log(&self, random: &mut Random) -> Vec<u8> {
+        log_of_bodies(2, self.chips, &self.seen_bodies(random))
+    }
+
+    fn seen_bodies(&self, random: &mut Random) -> Vec<Vec<u8>> {
+        let [chips0, chips1] = self.chips;
+        let mut bus = LogBus::new(chips0, chips1);
+        let body = |bytes: &Vec<u8>| seen_body(seen(random, bus.send(bytes).counts[0]), bytes);
+        self.transfers.iter().map(body).collect()
+    }
+}
+
+/// What an analyser says of a transfer: mostly the model's count, else one less (of 0, the greatest), one more, or any.
+fn seen(random: &mut Random, modelled: usize) -> u16 {
+    let modelled = modelled as u16;
+    match random.below(12) {
+        0 => modelled.wrapping_sub(1),
+        1 => modelled + 1,
+        2 => random.number() as u16,
+        _ => modelled,
+    }
+}
+
+/// Transfers that `make` makes.
+fn traffic(make: fn(&mut Random) -> Vec<u8>, random: &mut Random) -> Traffic {
+    let chips = [random.below(5) as u8, random.below(5) as u8];
     let count = match random.below(10) {
         0 => random.below(2),
         1 => random.between(80, 140),
         _ => random.between(3, 40),
     };
-    let transfers: Vec<_> = (0..count).map(|_| make(random)).collect();
-    log_of(chips0, chips1, &transfers)
+    let transfers = (0..count).map(|_| make(random)).collect();
+    Traffic { chips, transfers }
 }
 
-pub fn good_log(random: &mut Random) -> Vec<u8> {
-    log_made_by(clean_transfer, random)
+/// Transfers of which one is near the limit of length.
+fn traffic_with_long_transfer(random: &mut Random) -> Traffic {
+    let mut traffic = traffic(clean_transfer, random);
+    traffic.transfers.push(long_transfer(random));
+    traffic.transfers.push(good_transfer(random));
+    traffic
 }
 
-/// A log with one fault: cut, a wrong length field, a wrong head, or a chip count over 4.
-pub fn damaged_log(random: &mut Random) -> Vec<u8> {
-    let mut log = good_log(random);
-    match random.below(6) {
-        0 => log[0] = random.pick(&[0, 2, 255]),
-        1 => log[random.between(1, 2)] = random.pick(&[5, 6, 255]),
-        2 => log.truncate(random.between(0, log.len())),
-        3 => log.push(random.byte()),
-        4 => log.extend([0, 5, 0x70]),
-        _ => log[..3].copy_from_slice(&random.pick(&[[2, 5, 0], [1, 5, 5], [0, 0, 0]])),
-    }
-    log
-}
-
-/// A log with a transfer near the limit of length.
-pub fn log_with_long_transfer(random: &mut Random) -> Vec<u8> {
-    let mut log = good_log(random);
-    push_record(&mut log, &long_transfer(random));
-    push_record(&mut log, &good_transfer(random));
-    log
-}
-
-/// A good log of just the given length, from 512 bytes up.
-pub fn log_of_length(random: &mut Random, length: usize) -> Vec<u8> {
-    let mut log = vec![1, 2, 2];
-    while log.len() + 1024 < length {
+/// Transfers for a log of just the given length, from 512 bytes up, with so many bytes before each.
+fn traffic_of_length(random: &mut Random, length: usize, before: usize) -> Traffic {
+    let (mut transfers, mut left) = (Vec::new(), length - 3);
+    while left > 1024 {
         let bytes = if random.one_in(8) {
             let length = random.between(100, 900);
             transfer_of_length(random, length)
         } else {
             clean_transfer(random)
         };
-        push_record(&mut log, &bytes);
+        left -= before + bytes.len();
+        transfers.push(bytes);
     }
-    let rest = length - log.len() - 2;
-    push_record(&mut log, &transfer_of_length(random, rest));
+    transfers.push(transfer_of_length(random, left - before));
+    let chips = [2, 2];
+    Traffic { chips, transfers }
+}
+
+pub fn good_log(random: &mut Random) -> Vec<u8> {
+    traffic(clean_transfer, random).log()
+}
+
+/// A log with one fault.
+pub fn damaged_log(random: &mut Random) -> Vec<u8> {
+    let mut log = good_log(random);
+    damage(random, &mut log);
     log
 }
 
-/// A log with clean control bytes, of any kind, of at most some thousand bytes.
+/// One fault: cut, a wrong length field, a wrong head, the other version, or a chip count over 4.
+fn damage(random: &mut Random, log: &mut Vec<u8>) {
+    let heads = [[2, 5, 0], [1, 5, 5], [0, 0, 0], [3, 5, 0]];
+    match random.below(6) {
+        0 => log[0] = random.pick(&[0, 3 - log[0], 3, 255]),
+        1 => log[random.between(1, 2)] = random.pick(&[5, 6, 255]),
+        2 => log.truncate(random.between(0, log.len())),
+        3 => log.push(random.byte()),
+        4 => log.extend([0, 5, 0x70]),
+        _ => log[..3].copy_from_slice(&random.pick(&heads)),
+    }
+}
+
+/// A log of version 2 that may have a body without room for the bytes seen, a bit turned, or a fault of any log.
+fn damaged_seen_log(random: &mut Random) -> Vec<u8> {
+    let traffic = traffic(clean_transfer, random);
+    let mut bodies = traffic.seen_bodies(random);
+    if random.one_in(2) {
+        let length = random.below(2);
+        bodies.insert(random.below(bodies.len() + 1), random.bytes(length));
+    }
+    let mut log = log_of_bodies(2, traffic.chips, &bodies);
+    match random.below(3) {
+        0 => {}
+        1 => turn_bit(random, &mut log),
+        _ => damage(random, &mut log),
+    }
+    log
+}
+
+fn turn_bit(random: &mut Random, log: &mut [u8]) {
+    let place = random.below(log.len());
+    log[place] ^= 1 << random.below(8);
+}
+
+/// A log with a transfer near the limit of length.
+pub fn log_with_long_transfer(random: &mut Random) -> Vec<u8> {
+    traffic_with_long_transfer(random).log()
+}
+
+/// A good log of just the given length, from 512 bytes up.
+pub fn log_of_length(random: &mut Random, length: usize) -> Vec<u8> {
+    traffic_of_length(random, length, 2).log()
+}
+
+/// The same of version 2.
+pub fn seen_log_of_length(random: &mut Random, length: usize) -> Vec<u8> {
+    traffic_of_length(random, length, 4).seen_log(random)
+}
+
+/// A log of version 1 with clean control bytes, of any kind, of at most some thousand bytes.
 pub fn clean_log(random: &mut Random) -> Vec<u8> {
     match random.below(20) {
         0 => log_with_long_transfer(random),
@@ -321,10 +415,22 @@ pub fn clean_log(random: &mut Random) -> Vec<u8> {
     }
 }
 
-/// A log of any kind; one in five has transfers with stray bits.
+/// A log of version 2, of any kind, of at most some thousand bytes.
+pub fn seen_log(random: &mut Random) -> Vec<u8> {
+    match random.below(20) {
+        0 => traffic_with_long_transfer(random).seen_log(random),
+        1..=6 => damaged_seen_log(random),
+        7..=9 => traffic(transfer, random).seen_log(random),
+        _ => traffic(clean_transfer, random).seen_log(random),
+    }
+}
+
+/// A log of any kind: one in four is of version 2, and one in five of the others has transfers with stray bits.
 pub fn log(random: &mut Random) -> Vec<u8> {
-    if random.one_in(5) {
-        log_made_by(transfer, random)
+    if random.one_in(4) {
+        seen_log(random)
+    } else if random.one_in(5) {
+        traffic(transfer, random).log()
     } else {
         clean_log(random)
     }
@@ -337,8 +443,22 @@ pub fn too_long_log(random: &mut Random) -> Vec<u8> {
 
 /// A log of about the longest text: every column lit by two transfers, then empty records.
 pub fn log_of_long_text() -> Vec<u8> {
-    let lit = [0x70, 0x72].map(|address| commands_then_data(address, &[0xC9], &[0xFF; 80]));
-    let mut log = log_of(4, 4, &lit);
-    log.resize(LOG_LIMIT - (LOG_LIMIT - log.len()) % 2, 0);
+    long_text(1, &[])
+}
+
+/// The same of version 2, where the greatest count stands before every transfer.
+pub fn seen_log_of_long_text() -> Vec<u8> {
+    long_text(2, &[0xFF; 2])
+}
+
+/// Such a log, with the same bytes at the start of each body.
+fn long_text(version: u8, start: &[u8]) -> Vec<u8> {
+    let lit = |address| commands_then_data(address, &[0xC9], &[0xFF; 80]);
+    let bodies = [0x70, 0x72].map(|address| [start, &lit(address)].concat());
+    let mut log = log_of_bodies(version, [4, 4], &bodies);
+    let smallest = [&[0, start.len() as u8], start].concat();
+    while log.len() + smallest.len() <= LOG_LIMIT {
+        log.extend(&smallest);
+    }
     log
 }

@@ -1,4 +1,4 @@
-//! The model, bit by bit as paper 01 tells it, amended by requests 3, 4 and 7 of paper 02: the long account, the plain account and bus logs.
+//! The model, bit by bit as paper 01 tells it, amended by requests 3, 4, 7 and 10 of paper 02: the long account, the plain account and bus logs.
 
 /// Numbers of an answer.
 pub const ANSWER: usize = 6;
@@ -614,26 +614,50 @@ pub fn plain_picture(chip: &Chip, phase: u8, out: &mut [u8]) -> Answer {
 
 // ---- Bus logs --------------------------------------------------------------
 
-/// The transfers of a log, or the refusal of the whole log.
-fn records(log: &[u8]) -> Result<Vec<&[u8]>, (usize, usize)> {
+/// A record of a log: the acknowledged bytes that the analyser saw, in version 2, and the transfer.
+struct Record<'a> {
+    seen: Option<usize>,
+    bytes: &'a [u8],
+}
+
+/// The records of a log, or the refusal of the whole log.
+fn records(log: &[u8]) -> Result<Vec<Record<'_>>, (usize, usize)> {
     refuse_if(log.len() > LOG_LIMIT, 14)?;
-    refuse_if(log.len() < 3 || log[0] != 1, 12)?;
+    refuse_if(log.len() < 3 || !matches!(log[0], 1 | 2), 12)?;
     check_counts(log[1], log[2])?;
     let mut records = Vec::new();
     let mut at = 3;
     while at < log.len() {
-        let record = record(&log[at..]).ok_or((13, at))?;
-        records.push(record);
-        at += 2 + record.len();
+        let body = body(&log[at..]).ok_or((13, at))?;
+        records.push(record(log[0], body).ok_or((20, at))?);
+        at += 2 + body.len();
     }
     Ok(records)
 }
 
-/// The record that stands first, unless it is cut short.
-fn record(rest: &[u8]) -> Option<&[u8]> {
-    let length = rest.get(..2)?;
-    let length = 256 * length[0] as usize + length[1] as usize;
+/// The body of the record that stands first, unless it is cut short.
+fn body(rest: &[u8]) -> Option<&[u8]> {
+    let length = big_endian(rest)?;
     rest.get(2..2 + length)
+}
+
+/// A body taken apart, unless it has no room for what version 2 puts before the transfer.
+fn record(version: u8, body: &[u8]) -> Option<Record<'_>> {
+    if version == 1 {
+        return Some(Record {
+            seen: None,
+            bytes: body,
+        });
+    }
+    let seen = Some(big_endian(body)?);
+    let bytes = &body[2..];
+    Some(Record { seen, bytes })
+}
+
+/// The number in the first two bytes, if there are two.
+fn big_endian(bytes: &[u8]) -> Option<usize> {
+    let &[high, low] = bytes.first_chunk()?;
+    Some(256 * high as usize + low as usize)
 }
 
 /// The lines that the program writes for a log.
@@ -645,32 +669,68 @@ pub fn log_text(log: &[u8]) -> Vec<u8> {
     text.into_bytes()
 }
 
-fn replay(chips0: u8, chips1: u8, records: &[&[u8]]) -> String {
-    let mut ram = vec![0; COLUMNS * (chips0 + chips1) as usize];
-    let mut registers = [0; REGISTERS];
-    power_on(chips0, chips1, &ram, &mut registers);
+/// The bus of a log: from power-on, with RAM all 0.
+pub struct LogBus {
+    chips0: u8,
+    chips1: u8,
+    registers: [u8; REGISTERS],
+    ram: Vec<u8>,
+}
+
+impl LogBus {
+    pub fn new(chips0: u8, chips1: u8) -> Self {
+        let ram = vec![0; COLUMNS * (chips0 + chips1) as usize];
+        let mut registers = [0; REGISTERS];
+        power_on(chips0, chips1, &ram, &mut registers);
+        LogBus {
+            chips0,
+            chips1,
+            registers,
+            ram,
+        }
+    }
+
+    pub fn send(&mut self, bytes: &[u8]) -> Answer {
+        let (registers, ram) = (&mut self.registers, &mut self.ram);
+        transfer(self.chips0, self.chips1, registers, ram, bytes)
+    }
+
+    fn view(&self, group: u8) -> View<'_> {
+        View {
+            chips0: self.chips0,
+            chips1: self.chips1,
+            registers: &self.registers,
+            ram: &self.ram,
+            group,
+            phase: 0,
+        }
+    }
+}
+
+fn replay(chips0: u8, chips1: u8, records: &[Record]) -> String {
+    let mut bus = LogBus::new(chips0, chips1);
     let mut text = String::new();
-    for (index, bytes) in records.iter().enumerate() {
-        let answer = transfer(chips0, chips1, &mut registers, &mut ram, bytes);
-        let [number, place, acknowledged, stored, discarded, chip] = answer.numbers();
-        let counts = format!("{acknowledged} {stored} {discarded}");
-        text += &format!("T {index} {number} {place} {counts} {chip}\n");
+    for (index, record) in records.iter().enumerate() {
+        text += &record_lines(index, bus.send(record.bytes), record.seen);
     }
     let mut totals = String::new();
     for group in 0..2 {
-        let view = View {
-            chips0,
-            chips1,
-            registers: &registers,
-            ram: &ram,
-            group,
-            phase: 0,
-        };
-        let (lines, lit) = shown_lines(view);
+        let (lines, lit) = shown_lines(bus.view(group));
         text += &lines;
         totals += &format!("G {group} {lit}\n");
     }
     text + &totals
+}
+
+/// The T line of a record, and its A line where the analyser saw another count than the answer has.
+fn record_lines(index: usize, answer: Answer, seen: Option<usize>) -> String {
+    let [number, place, acknowledged, stored, discarded, chip] = answer.numbers();
+    let counts = format!("{acknowledged} {stored} {discarded}");
+    let line = format!("T {index} {number} {place} {counts} {chip}\n");
+    match seen {
+        Some(seen) if seen != acknowledged => line + &format!("A {index} {seen} {acknowledged}\n"),
+        _ => line,
+    }
 }
 
 /// The S lines of a group, and its lit elements.

@@ -4,6 +4,8 @@
 mod control;
 #[path = "last_chip_tests.rs"]
 mod last_chip;
+#[path = "seen_tests.rs"]
+mod seen;
 
 use super::*;
 use crate::{generate, random::Random};
@@ -273,7 +275,7 @@ fn text(log: &[u8]) -> String {
 fn refused_logs() {
     assert_eq!(text(&[]), "X 12 0\n");
     assert_eq!(text(&[1, 0]), "X 12 0\n");
-    assert_eq!(text(&[2, 9, 9]), "X 12 0\n");
+    assert_eq!(text(&[3, 9, 9]), "X 12 0\n");
     assert_eq!(text(&[1, 0, 5, 0]), "X 3 0\n");
     assert_eq!(text(&[1, 1, 0, 0]), "X 13 3\n");
     assert_eq!(text(&[1, 1, 0, 0, 1, 0x70, 0, 2, 0x70]), "X 13 6\n");

@@ -1,4 +1,4 @@
--- The first of an answer's numbers fits a byte: a refusal's is at most 17.
+-- The first of an answer's numbers fits a byte: a refusal's is at most 20.
 -- Assumes nothing.
 use mathlib.Core.Path.{_≡_}
 use mathlib.Core.List.{List}
@@ -10,7 +10,7 @@ use Rattle.sheet.specs.declared.PlainAnswer.{PlainAnswer}
 use Rattle.sheet.specs.declared.Pictured.{Pictured}
 use Rattle.sheet.specs.declared.Check.{Check}
 use Rattle.sheet.specs.declared.Refusal.{Refusal}
-use Rattle.sheet.specs.declared.Refusal.the-variants.{EmptyTransfer, LongTransfer, ChipCount, RamLength, RamByte, Register, UndefinedCommand, GroupOrPhase, PictureLength, ManyChips, ChipField, LogHead, CutRecord, LongLog, StrayBits}
+use Rattle.sheet.specs.declared.Refusal.the-variants.{EmptyTransfer, LongTransfer, ChipCount, RamLength, RamByte, Register, UndefinedCommand, GroupOrPhase, PictureLength, ManyChips, ChipField, LogHead, CutRecord, LongLog, StrayBits, ShortBody}
 use Rattle.sheet.specs.Parts.{pcf8532}
 use Rattle.sheet.specs.Refusals.{numberOf, numbers, plainNumbers, pictureNumbers, checkNumbers}
 
@@ -30,6 +30,7 @@ small LogHead = omega arith
 small (CutRecord at) = omega arith
 small LongLog = omega arith
 small (StrayBits at) = omega arith
+small (ShortBody at) = omega arith
 
 module _ {l : List ℕ} where
   pub answer-small : (a : Answer) → l ≡ numbers pcf8532 a → getD l 0 0 < 256

@@ -7,6 +7,7 @@ use sheet::PlainAnswer;
 use sheet::Refusal;
 ghost use mathlib.Core.Path.{_≡_};
 ghost use Rattle.sheet.specs.Parts.{pcf8532};
+ghost use Rattle.sheet.specs.Logs.{modelled};
 ghost use Rattle.sheet.specs.Refusals.{numberOf, placeOf, lastNumber, refusalNumbers, numbers, plainNumbers, pictureNumbers, checkNumbers};
 
 // The paper's number of a refusal.
@@ -29,6 +30,7 @@ pub fn number_of(refusal: Refusal) -> usize
         Refusal::CutRecord(_) => 13,
         Refusal::LongLog => 14,
         Refusal::StrayBits(_) => 17,
+        Refusal::ShortBody(_) => 20,
     }
 }
 
@@ -42,6 +44,7 @@ pub fn place_of(refusal: Refusal) -> usize
         Refusal::ChipField(at) => at,
         Refusal::CutRecord(at) => at,
         Refusal::StrayBits(at) => at,
+        Refusal::ShortBody(at) => at,
         Refusal::EmptyTransfer => 0,
         Refusal::LongTransfer => 0,
         Refusal::ChipCount => 0,
@@ -52,6 +55,16 @@ pub fn place_of(refusal: Refusal) -> usize
         Refusal::ManyChips => 0,
         Refusal::LogHead => 0,
         Refusal::LongLog => 0,
+    }
+}
+
+// The acknowledged bytes of a transfer; none, if it is refused.
+pub fn modelled(answer: Answer) -> usize
+    ensures { λ r. ⌜ r ≡ modelled answer ⌝ }
+{
+    match answer {
+        Answer::Taken { counts, last: _ } => counts.acknowledged,
+        Answer::Refused(_) => 0,
     }
 }
 

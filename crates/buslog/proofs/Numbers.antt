@@ -2,7 +2,7 @@
 -- Assumes nothing.
 use mathlib.Core.Path.{_≡_, refl}
 use mathlib.Core.Logic.{⊎-elim}
-use mathlib.Core.Bool.{Bool, true, false, _&&_}
+use mathlib.Core.Bool.{Bool, true, false, _&&_, _||_}
 use mathlib.Core.List.{List, [], _∷_}
 use Prim.Native.Nat.{ℕ, zero, suc, _+_, _-_, _%_, _≤_, _<_}
 use native.Mathlib.Omega.{arith}
@@ -26,7 +26,7 @@ use Rattle.sheet.specs.Protocol.{heardBy, chipsIn, next}
 use Rattle.sheet.specs.Checks.{unless, orElse, checkChips, checkLength, faultOf, fault, faultIn, checkBytes, checkTransfer}
 use Rattle.sheet.specs.Long.{begun, State, Group, heard, taken, answered, transferCall, registersOf, columnsOf}
 use Rattle.sheet.specs.Records.{Records, lengthOf, readIn, recordsFrom}
-use Rattle.sheet.specs.Logs.{logRecords, checkLog}
+use Rattle.sheet.specs.Logs.{seenBytes, logRecords, checkLog}
 use Rattle.sheet.specs.Agree.{Valid}
 use Rattle.laws.proofs.Fits.{fits-of, transfer-passed}
 use Rattle.laws.proofs.Kept.{pcf8532-keeps}
@@ -77,46 +77,57 @@ abbrev pub weight : List (List ℕ) → ℕ
 weight [] = 0
 weight (t ∷ ts) = length t + 2 + weight ts
 
--- records of so many bytes: they have no more, and a tear's place is small
-pub record Bounded (size : ℕ) (r : Records) : Type 0 where
+-- each body has the bytes of what was seen
+abbrev pub Begun : ℕ → List (List ℕ) → Type 0
+Begun seen [] = Unit {0}
+Begun seen (body ∷ bodies) = (seen ≤ length body) × Begun seen bodies
+
+-- records of so many bytes: they have no more, and what was seen, and a tear's place is small
+pub record Bounded (seen size : ℕ) (r : Records) : Type 0 where
   pub weigh : weight (r .bodies) ≤ size
+  pub begun : Begun seen (r .bodies)
   pub torn : Few (r .tear)
 
-bounded : (k at : ℕ) (rest : List ℕ) → at + length rest ≤ 99999 → Bounded (length rest) (readIn k at rest)
+bounded : (k seen at : ℕ) (rest : List ℕ) → at + length rest ≤ 99999 → Bounded seen (length rest) (readIn k seen at rest)
 unfolding readIn
-bounded zero at rest m = record { weigh = omega arith; torn = tt }
-bounded (suc k) at [] m = record { weigh = omega arith; torn = tt }
-bounded (suc k) at (h ∷ []) m = record { weigh = omega arith; torn = omega arith }
-bounded (suc k) at (h ∷ l ∷ rest) m =
+bounded zero seen at rest m = record { weigh = omega arith; begun = tt; torn = tt }
+bounded (suc k) seen at [] m = record { weigh = omega arith; begun = tt; torn = tt }
+bounded (suc k) seen at (h ∷ []) m = record { weigh = omega arith; begun = tt; torn = omega arith }
+bounded (suc k) seen at (h ∷ l ∷ rest) m =
     let size = lengthOf h l in
     let left = length-drop size rest in
     ⊎-elim
-    (λ (e : length rest < size). rw (lt-leb size (length rest) e) (record { weigh = omega arith; torn = omega arith }))
+    (λ (e : length rest < size). rw (lt-leb size (length rest) e) (record { weigh = omega arith; begun = tt; torn = omega arith }))
     (λ (e : size ≤ length rest).
-    let after = bounded k (at + 2 + size) (drop size rest) (omega arith) in
-    rw (le-leb size (length rest) e) (record { weigh = omega (arith, length-take size rest); torn = after .torn }))
+    ⊎-elim
+    (λ (f : size < seen). rw (le-leb size (length rest) e, lt-leb seen size f) (record { weigh = omega arith; begun = tt; torn = omega arith }))
+    (λ (f : seen ≤ size).
+    let after = bounded k seen (at + 2 + size) (drop size rest) (omega arith) in
+    rw (le-leb size (length rest) e, le-leb seen size f)
+    (record { weigh = omega (arith, length-take size rest, after .weigh); begun = (omega (arith, length-take size rest), after .begun); torn = after .torn }))
+    (lt-or-le size seen))
     (lt-or-le (length rest) size)
 
-pub log-bounded : (log : List ℕ) → length log ≤ 65536 → Bounded 65536 (logRecords log)
+pub log-bounded : (log : List ℕ) → length log ≤ 65536 → Bounded (seenBytes log) 65536 (logRecords log)
 unfolding recordsFrom
 log-bounded log h =
     let left = length-drop 3 log in
-    let b = bounded (length (drop 3 log)) 3 (drop 3 log) (omega arith) in
-    record { weigh = omega arith; torn = b .torn }
+    let b = bounded (length (drop 3 log)) (seenBytes log) 3 (drop 3 log) (omega arith) in
+    record { weigh = omega (arith, b .weigh); begun = b .begun; torn = b .torn }
 
 -- a log's refusal
 pub log-few : (log : List ℕ) → Few (checkLog log)
 unfolding checkLog checkChips
 log-few log =
     first (leb (length log) 65536) LongLog _ (omega arith)
-    (λ e. first (leb 3 (length log) && eqb (getD log 0 0) 1) LogHead _ (omega arith)
+    (λ e. first (leb 3 (length log) && (eqb (getD log 0 0) 1 || eqb (getD log 0 0) 2)) LogHead _ (omega arith)
     (λ _. first (leb (getD log 1 0) 4 && leb (getD log 2 0) 4) ChipCount _ (omega arith)
     (λ _. log-bounded log (leb-true (length log) 65536 e) .torn)))
 
 -- ---- transfers
 
 -- an answer's six numbers: five small ones and one of one digit
-abbrev Told : Answer → Type 0
+abbrev pub Told : Answer → Type 0
 Told a = Small (take 5 (numbers pcf8532 a)) × (getD (numbers pcf8532 a) 5 0 < 10)
 
 -- a group that hears a transfer of 4,096 bytes at most

@@ -1,4 +1,4 @@
--- There is room for the text of any log: ten bytes of transfer lines at most for each byte of a log, 1,280 column lines of 20 and two group lines of 14; or a refusal's line.
+-- There is room for the text of any log: ten bytes of records' lines at most for each byte of a log, 1,280 column lines of 20 and two group lines of 14; or a refusal's line.
 -- Assumes nothing.
 use mathlib.Core.Path.{_≡_, refl}
 use mathlib.Core.Logic.{⊎-elim}
@@ -9,8 +9,7 @@ use native.Mathlib.Nat.{div-le-self, mod-le}
 use native.Mathlib.Omega.{arith}
 use lib.Count.{ones-le}
 use lib.Dec.{eqb}
-use lib.ListN.{length, getD, take, drop, length-append, length-map, length-take}
-use borrow.Author.Tests.{lt-ltb, le-ltb}
+use lib.ListN.{length, getD, take, drop, length-append, length-map, length-take, length-drop}
 use Rattle.lemmas.proofs.Order.{lt-or-le}
 use Rattle.sheet.specs.declared.Answer.{Answer}
 use Rattle.sheet.specs.declared.Chips.{Chips}
@@ -24,16 +23,16 @@ use Rattle.sheet.specs.Registers.{backplanes}
 use Rattle.sheet.specs.Protocol.{chipsIn}
 use Rattle.sheet.specs.Pictures.{shown, lit, pictureOf, litIn}
 use Rattle.sheet.specs.Long.{State, stateAfter, transferCall, registersOf, columnsOf, startOf, stateAfterAll}
-use Rattle.sheet.specs.Logs.{logChips, logRecords, checkLog, line, transferLetter, columnLetter, groupLetter, refusalLetter, transferLine, transferLines, columnLine, columnLines, groupLine, shownAt, endLines, logStart, logLines, textBy, textOf}
+use Rattle.sheet.specs.Logs.{logChips, seenBytes, logRecords, logTransfers, checkLog, line, transferLetter, seenLetter, columnLetter, groupLetter, refusalLetter, transferLine, modelled, seenIn, seenLine, recordLines, transferLines, columnLine, columnLines, groupLine, shownAt, endLines, logStart, logLines, textBy, textOf}
 use Rattle.sheet.specs.Agree.{Valid}
 use Rattle.laws.proofs.Nibbles.{Nibbles, take-nibbles, drop-nibbles}
 use Rattle.laws.proofs.Fits.{fits-of}
 use Rattle.agreement.proofs.Demand.{pcf8532-agrees}
 use Rattle.laws.proofs.Lens.{few-chips-in, length-columns}
-use Rattle.buslog.specs.declared.Replayed.the-variants.{Written}
-use Rattle.buslog.specs.Replays.{room, replayCall}
+use Rattle.records.specs.Found.{AllCounted}
+use Rattle.buslog.specs.Replays.{room}
 use Rattle.buslog.proofs.Widths.{line-few, line-last, line-short}
-use Rattle.buslog.proofs.Numbers.{weight, Few, log-bounded, log-few, transfer-few, transfer-short}
+use Rattle.buslog.proofs.Numbers.{weight, Begun, Few, Told, log-bounded, log-few, transfer-few, transfer-short}
 use Rattle.buslog.proofs.Checked.{checked}
 use Rattle.buslog.proofs.States.{start-valid}
 
@@ -59,14 +58,48 @@ transfer-line n i s t v short h =
     rw (and-last a) (omega (arith, line-last transferLetter (i ∷ take 5 (numbers pcf8532 a)) (getD (numbers pcf8532 a) 5 0) (h, told .0) (told .1), length-take 5 (numbers pcf8532 a))))
     (lt-or-le (length t) 2)
 
+modelled-few : (a : Answer) → Told a → modelled a < 100000
+modelled-few (Answer.Taken t last) h = h .0 .1 .1 .0
+modelled-few (Answer.Refused r) h = omega arith
+
+seen-few : (i s m : ℕ) → i < 100000 → s < 100000 → m < 100000 → length (seenLine i s m) ≤ 20
+seen-few i s m hi hs hm = one (eqb s m)
+  where
+    one : (t : Bool) → length (cond t [] (line seenLetter (i ∷ s ∷ m ∷ []))) ≤ 20
+    one true = omega arith
+    one false = omega (arith, line-few seenLetter (i ∷ s ∷ m ∷ []) (omega arith))
+
+-- by the version
+abbrev seenBy : Bool → ℕ
+seenBy two = cond two 2 0
+
+-- the bytes seen are two of the record's, and make room for their line
+record-lines : (two : Bool) (n : Chips) (i : ℕ) (s : State) (body : List ℕ) → Valid pcf8532 n s → length body ≤ 65536 → i < 100000 → seenIn body < 65536
+    → let seen = seenBy two in seen ≤ length body → length (recordLines seen i (seenIn body) (transferCall pcf8532 n (s .registers) (s .ram) (drop seen body) .result .answer)) ≤ 10 * (length body + 2)
+record-lines true n i s body v short h c two =
+    let a = transferCall pcf8532 n (s .registers) (s .ram) (drop 2 body) .result .answer in
+    let less = length-drop 2 body in
+    let told = transfer-few n s (drop 2 body) v (omega arith) in
+    omega (arith, length-append (transferLine i a) (seenLine i (seenIn body) (modelled a)), transfer-line n i s (drop 2 body) v (omega arith) h, seen-few i (seenIn body) (modelled a) h (omega arith) (modelled-few a told))
+record-lines false n i s body v short h c two =
+    let a = transferCall pcf8532 n (s .registers) (s .ram) body .result .answer in
+    omega (arith, length-append (transferLine i a) [], transfer-line n i s body v short h)
+
 -- i records before these had two bytes at least
-transfers-few : (n : Chips) (i : ℕ) (s : State) (ts : List (List ℕ)) → Valid pcf8532 n s → 2 * i + weight ts ≤ 65536 → length (transferLines n i s ts) ≤ 10 * weight ts
+transfers-few : (two : Bool) (n : Chips) (i : ℕ) (s : State) (bodies : List (List ℕ)) → Valid pcf8532 n s → 2 * i + weight bodies ≤ 65536 → Begun (seenBy two) bodies → AllCounted bodies
+    → length (transferLines (seenBy two) n i s bodies) ≤ 10 * weight bodies
 unfolding transferLines
-transfers-few n i s [] v h = omega arith
-transfers-few n i s (t ∷ ts) v h =
-    let after = stateAfter pcf8532 n s t in
-    let line = transferLine i (transferCall pcf8532 n (s .registers) (s .ram) t .result .answer) in
-    omega (arith, length-append line (transferLines n (suc i) after ts), transfer-line n i s t v (omega arith) (omega arith), transfers-few n (suc i) after ts (pcf8532-agrees .transfer n s t v .valid) (omega arith))
+transfers-few two n i s [] v h b c = omega arith
+transfers-few two n i s (body ∷ bodies) v h b c =
+    let seen = seenBy two in
+    let after = stateAfter pcf8532 n s (drop seen body) in
+    let lines = recordLines seen i (seenIn body) (transferCall pcf8532 n (s .registers) (s .ram) (drop seen body) .result .answer) in
+    omega (
+      arith,
+      length-append lines (transferLines seen n (suc i) after bodies),
+      record-lines two n i s body v (omega arith) (omega arith) (c .0) (b .0),
+      transfers-few two n (suc i) after bodies (pcf8532-agrees .transfer n s (drop seen body) v .valid) (omega arith) (b .1) (c .1),
+    )
 
 -- ---- pictures
 
@@ -130,36 +163,28 @@ module _ (n : Chips) (s : State) (v : Valid pcf8532 n s) where
 
 -- ---- a log's text
 
-lines-few : (log : List ℕ) → checkLog log ≡ Passed → length (logLines (logChips log) (logRecords log .bodies)) ≤ room
-lines-few log e =
+lines-few : (log : List ℕ) → checkLog log ≡ Passed → AllCounted (logRecords log .bodies) → length (logLines (seenBytes log) (logChips log) (logRecords log .bodies)) ≤ room
+lines-few log e counted =
     let c = checked log e in
     let n = logChips log in
-    let ts = logRecords log .bodies in
+    let seen = seenBytes log in
+    let bodies = logRecords log .bodies in
     let v = start-valid n (c .chips) in
-    let end = stateAfterAll pcf8532 n (logStart n) ts in
-    let few = log-bounded log (c .short) .weigh in
-    omega (arith, length-append (transferLines n 0 (logStart n) ts) (endLines n end), transfers-few n 0 (logStart n) ts v (omega arith), end-few n end (pcf8532-agrees .sequence n (logStart n) ts v .valid))
+    let end = stateAfterAll pcf8532 n (logStart n) (logTransfers log) in
+    let b = log-bounded log (c .short) in
+    omega (
+      arith,
+      length-append (transferLines seen n 0 (logStart n) bodies) (endLines n end),
+      transfers-few (eqb (getD log 0 0) 2) n 0 (logStart n) bodies v (omega (arith, b .weigh)) (b .begun) counted,
+      end-few n end (pcf8532-agrees .sequence n (logStart n) (logTransfers log) v .valid),
+      b .weigh,
+    )
 
--- the law
-pub text-few : (log : List ℕ) → length (textOf log) ≤ room
+-- the law, of a log of which what was seen is counted
+pub text-few : (log : List ℕ) → (checkLog log ≡ Passed → AllCounted (logRecords log .bodies)) → length (textOf log) ≤ room
 unfolding textOf
-text-few log = by-check (checkLog log) refl (log-few log)
+text-few log counted = by-check (checkLog log) refl (log-few log)
   where
-    by-check : (k : Check) → checkLog log ≡ k → Few k → length (textBy k (logChips log) (logRecords log .bodies)) ≤ room
-    by-check Passed e f = lines-few log e
+    by-check : (k : Check) → checkLog log ≡ k → Few k → length (textBy k (seenBytes log) (logChips log) (logRecords log .bodies)) ≤ room
+    by-check Passed e f = lines-few log e (counted e)
     by-check (Refused r) e f = omega (arith, line-few refusalLetter (numberOf r ∷ placeOf r ∷ []) f)
-
--- a replay's count is of bytes of its buffer
-pub count-few : (log out : List ℕ) (count : ℕ) → replayCall log out .result ≡ Written count → count ≤ length out
-unfolding replayCall
-count-few log out count e =
-    ⊎-elim
-    (λ (l : length out < room).
-    let small = rw (lt-ltb (length out) room l) at e in
-    let never : _≡_ {A = ℕ} 0 1 = cc in
-    absurd (omega arith))
-    (λ (l : room ≤ length out).
-    let written = rw (le-ltb (length out) room l) at e in
-    let same : length (textOf log) ≡ count = cc in
-    omega (arith, text-few log))
-    (lt-or-le (length out) room)

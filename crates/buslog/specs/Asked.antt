@@ -10,7 +10,7 @@ use Rattle.sheet.specs.Parts.{pcf8532}
 use Rattle.sheet.specs.Protocol.{chipsIn}
 use Rattle.sheet.specs.Checks.{checkChips}
 use Rattle.sheet.specs.Long.{State}
-use Rattle.sheet.specs.Logs.{logRecords, columnLines, shownAt, logStart, logLines}
+use Rattle.sheet.specs.Logs.{seenBytes, logRecords, columnLines, shownAt, logStart, logLines}
 use Rattle.sheet.specs.Agree.{Valid}
 
 -- a group's columns can be listed: no call refuses the state, and there is room
@@ -25,4 +25,4 @@ pub record Playable (log : List ℕ) (n : Chips) (ram out : List ℕ) : Type 0 w
   pub chips : checkChips pcf8532 n ≡ Passed
   pub whole : logRecords log .tear ≡ Passed
   pub blank : ram ≡ logStart n .ram
-  pub room : length (logLines n (logRecords log .bodies)) ≤ length out
+  pub room : length (logLines (seenBytes log) n (logRecords log .bodies)) ≤ length out

@@ -2,7 +2,7 @@
 -- Assumes nothing.
 use mathlib.Core.Bool.{cond}
 use mathlib.Core.List.{List, _++_}
-use Prim.Native.Nat.{ℕ}
+use Prim.Native.Nat.{ℕ, _≤_}
 use lib.Dec.{ltb}
 use lib.ListN.{length, drop}
 use Rattle.sheet.specs.Logs.{textOf}
@@ -22,3 +22,8 @@ unfoldable pub replayCall : List ℕ → List ℕ → ReplayedAfter
 replayCall log out =
     cond (ltb (length out) room) (record { result = SmallBuffer; out = out })
     (record { result = Written (length (textOf log)); out = textOf log ++ drop (length (textOf log)) out })
+
+-- what is written lies inside the buffer
+abbrev pub Inside : Replayed → ℕ → Type 0
+Inside (Written n) size = n ≤ size
+Inside SmallBuffer size = Unit {0}

@@ -12,11 +12,12 @@ ghost use lib.ListN.{length, replicate};
 ghost use Rattle.sheet.specs.Parts.{pcf8532};
 ghost use Rattle.sheet.specs.Pictures.{litIn};
 ghost use Rattle.sheet.specs.Long.{stateOf, stateAfterAll};
-ghost use Rattle.sheet.specs.Logs.{logChips, logRecords, checkLog, transferLines, columnLines, shownAt, endLines, logLines, textOf};
+ghost use Rattle.sheet.specs.Logs.{logChips, seenBytes, logRecords, logTransfers, checkLog, transferLines, columnLines, shownAt, endLines, logLines, textOf};
 ghost use Rattle.sheet.specs.Agree.{Valid};
 ghost use Rattle.text.specs.Texts.{Puts};
+ghost use Rattle.records.specs.Found.{AllCounted};
 ghost use Rattle.buslog.specs.Asked.{Listable, Playable};
-ghost use Rattle.buslog.specs.Replays.{replayCall};
+ghost use Rattle.buslog.specs.Replays.{replayCall, Inside};
 
 // ---- the log
 
@@ -30,14 +31,16 @@ fn chips_of(log: &[u8]) -> Chips
     }
 }
 
-// A log is checked whole before its first line is written: 14, 12, 3, 13.
+// A log is checked whole before its first line is written: 14, 12, 3, then 13 and 20.
 fn check_log(log: &[u8]) -> Check
     ensures { λ r. ⌜ r ≡ checkLog (now (log .entry)) ⌝ }
+    ensures { λ r. ⌜ (r ≡ Check.Passed → AllCounted (logRecords (now (log .entry)) .bodies)) ⌝ }
 {
     if 65536 < log.len() {
         return Check::Refused(Refusal::LongLog);
     }
-    if (3 <= log.len()) & (checks::byte_at(log, 0) == 1) {
+    let version = checks::byte_at(log, 0);
+    if (3 <= log.len()) & ((version == 1) | (version == 2)) {
         match checks::check_chips(chips_of(log)) {
             Check::Refused(refusal) => Check::Refused(refusal),
             Check::Passed => records::check_records(log),
@@ -55,25 +58,27 @@ struct Played {
     registers: Both,
 }
 
-// Carries out a log's transfers and writes a line for each.
+// Carries out a log's transfers and writes each record's lines.
 fn put_transfers(log: &[u8], chips: Chips, initial: Both, ram: &mut [u8], out: &mut [u8]) -> Played
     requires { ⌜ logRecords (now log) .tear ≡ Check.Passed ⌝ }
-    requires { ⌜ length (transferLines chips 0 (stateOf initial (now ram)) (logRecords (now log) .bodies)) ≤ length (now out) ⌝ }
-    ensures { λ r. ⌜ stateOf (r .registers) (now (ram .exit)) ≡ stateAfterAll pcf8532 chips (stateOf initial (now (ram .entry))) (logRecords (now (log .entry)) .bodies) ⌝ }
-    ensures { λ r. ⌜ Puts 0 (transferLines chips 0 (stateOf initial (now (ram .entry))) (logRecords (now (log .entry)) .bodies)) (now (out .entry)) (now (out .exit)) (r .at) ⌝ }
+    requires { ⌜ length (transferLines (seenBytes (now log)) chips 0 (stateOf initial (now ram)) (logRecords (now log) .bodies)) ≤ length (now out) ⌝ }
+    ensures { λ r. ⌜ stateOf (r .registers) (now (ram .exit)) ≡ stateAfterAll pcf8532 chips (stateOf initial (now (ram .entry))) (logTransfers (now (log .entry))) ⌝ }
+    ensures { λ r. ⌜ Puts 0 (transferLines (seenBytes (now (log .entry))) chips 0 (stateOf initial (now (ram .entry))) (logRecords (now (log .entry)) .bodies)) (now (out .entry)) (now (out .exit)) (r .at) ⌝ }
 {
+    let seen = records::seen_bytes(log);
     let mut registers = initial;
     let mut index = 0;
     let mut at = 0;
-    let mut cursor = Cursor { at: 3 };
-    while let Record::Body { start, size } = cursor.read(log) {
+    let mut cursor = Cursor { at: 3, seen };
+    while let Record::Body { start, size, count } = cursor.read(log) {
         let end = start + size;
-        let done = long::transfer(chips, registers, ram, &log[start..end]);
+        let from = start + seen;
+        let done = long::transfer(chips, registers, ram, &log[from..end]);
         registers = done.registers;
         let answer = done.answer;
-        at = lines::put_transfer(out, at, index, answer);
+        at = lines::put_record(out, at, seen, index, count, answer);
         index += 1;
-        cursor = Cursor { at: end };
+        cursor = Cursor { at: end, seen };
     }
     Played { at, registers }
 }
@@ -132,7 +137,7 @@ fn put_end(chips: Chips, registers: Both, ram: &[u8], out: &mut [u8], at: usize)
 // A log that passed its checks, into the RAM of its chips.
 fn play(log: &[u8], chips: Chips, ram: &mut [u8], out: &mut [u8]) -> usize
     requires { ⌜ Playable (now log) chips (now ram) (now out) ⌝ }
-    ensures { λ r. ⌜ Puts 0 (logLines chips (logRecords (now (log .entry)) .bodies)) (now (out .entry)) (now (out .exit)) r ⌝ }
+    ensures { λ r. ⌜ Puts 0 (logLines (seenBytes (now (log .entry))) chips (logRecords (now (log .entry)) .bodies)) (now (out .entry)) (now (out .exit)) r ⌝ }
 {
     let start = long::power_on(chips, ram);
     let played = put_transfers(log, chips, start.registers, ram, out);
@@ -173,6 +178,7 @@ pub enum Replayed {
 pub fn replay(log: &[u8], out: &mut [u8]) -> Replayed
     ensures { λ _. ⌜ now (out .exit) ≡ replayCall (now (log .entry)) (now (out .entry)) .out ⌝ }
     ensures { λ r. ⌜ r ≡ replayCall (now (log .entry)) (now (out .entry)) .result ⌝ }
+    ensures { λ r. ⌜ Inside r (length (now (out .entry))) ⌝ }
 {
     if out.len() < TEXT {
         return Replayed::SmallBuffer;

@@ -3,16 +3,48 @@ use sheet::Answer;
 use sheet::Refusal;
 ghost use Prim.Native.Nat.{_+_, _≤_};
 ghost use lib.ListN.{length};
-ghost use Rattle.sheet.specs.Logs.{transferLine, columnLine, columnLines, refusalLine};
+ghost use Rattle.sheet.specs.Logs.{transferLine, seenLine, recordLines, columnLine, columnLines, refusalLine};
 ghost use Rattle.text.specs.Texts.{Puts};
 
 // A transfer's line.
-pub fn put_transfer(out: &mut [u8], at: usize, index: usize, answer: Answer) -> usize
+fn put_transfer(out: &mut [u8], at: usize, index: usize, answer: Answer) -> usize
     requires { ⌜ at + length (transferLine index answer) ≤ length (now out) ⌝ }
     ensures { λ r. ⌜ Puts at (transferLine index answer) (now (out .entry)) (now (out .exit)) r ⌝ }
 {
     let n = answers::numbers(answer);
     text::put_line(out, at, b'T', &[index, n[0], n[1], n[2], n[3], n[4], n[5]])
+}
+
+// The line of what the analyser saw, if it differs from what the model has.
+fn put_seen(out: &mut [u8], at: usize, index: usize, seen: usize, modelled: usize) -> usize
+    requires { ⌜ at + length (seenLine index seen modelled) ≤ length (now out) ⌝ }
+    ensures { λ r. ⌜ Puts at (seenLine index seen modelled) (now (out .entry)) (now (out .exit)) r ⌝ }
+{
+    if seen == modelled {
+        at
+    } else {
+        text::put_line(out, at, b'A', &[index, seen, modelled])
+    }
+}
+
+// A record's lines: the transfer's, and what was seen, if bodies have `seen` bytes for that.
+pub fn put_record(
+    out: &mut [u8],
+    at: usize,
+    seen: usize,
+    index: usize,
+    count: usize,
+    answer: Answer,
+) -> usize
+    requires { ⌜ at + length (recordLines seen index count answer) ≤ length (now out) ⌝ }
+    ensures { λ r. ⌜ Puts at (recordLines seen index count answer) (now (out .entry)) (now (out .exit)) r ⌝ }
+{
+    let after = put_transfer(out, at, index, answer);
+    if seen == 0 {
+        after
+    } else {
+        put_seen(out, after, index, count, answers::modelled(answer))
+    }
 }
 
 // A column's line, if it is lit.

@@ -9,40 +9,49 @@ use lib.Dec.{leb}
 use lib.ListN.{length, take, drop, length-drop}
 use lib.Seq.{drop-drop}
 use borrow.Author.Tests.{leb-true, leb-false}
-use Rattle.sheet.specs.Records.{lengthOf, noRecords, tornAt, withBody, nothing-left, one-byte-left, cut-short, whole}
+use Rattle.sheet.specs.Records.{lengthOf, noRecords, tornAt, shortAt, withBody, nothing-left, one-byte-left, cut-short, too-short, whole}
+use Rattle.sheet.specs.Logs.{seenIn}
 use Rattle.records.specs.declared.Record.{Record}
-use Rattle.records.specs.declared.Record.the-variants.{Body, End, Cut}
+use Rattle.records.specs.declared.Record.the-variants.{Body, End, Cut, Short}
 use Rattle.records.specs.Found.{recordIn, recordsAt}
 
--- a whole record: its body lies in the log, and the walk goes on after it
-pub record Next (log : List ℕ) (at start size : ℕ) : Type 0 where
+-- a whole record: its body lies in the log, has what was seen, and the walk goes on after it
+pub record Next (seen : ℕ) (log : List ℕ) (at start size count : ℕ) : Type 0 where
   pub begins : start ≡ at + 2
+  pub enough : seen ≤ size
   pub inside : start + size ≤ length log
-  pub walk : recordsAt log at ≡ withBody (take size (drop start log)) (recordsAt log (start + size))
+  pub says : count ≡ seenIn (take size (drop start log))
+  pub walk : recordsAt seen log at ≡ withBody (take size (drop start log)) (recordsAt seen log (start + size))
 
-abbrev pub Found : List ℕ → ℕ → Record → Type 0
-Found log at (Body start size) = Next log at start size
-Found log at End = recordsAt log at ≡ noRecords
-Found log at Cut = recordsAt log at ≡ tornAt at
+abbrev pub Found : ℕ → List ℕ → ℕ → Record → Type 0
+Found seen log at (Body start size count) = Next seen log at start size count
+Found seen log at End = recordsAt seen log at ≡ noRecords
+Found seen log at Cut = recordsAt seen log at ≡ tornAt at
+Found seen log at Short = recordsAt seen log at ≡ shortAt at
 
-at-head : (log : List ℕ) (at : ℕ) (rest : List ℕ) → drop at log ≡ rest → Found log at (recordIn at rest)
+at-head : (seen : ℕ) (log : List ℕ) (at : ℕ) (rest : List ℕ) → drop at log ≡ rest → Found seen log at (recordIn seen at rest)
 unfolding recordIn
-at-head log at [] e = rw e (nothing-left at)
-at-head log at (h ∷ []) e = rw e (one-byte-left at h)
-at-head log at (h ∷ l ∷ rest) e = by-length (leb (lengthOf h l) (length rest)) refl
+at-head seen log at [] e = rw e (nothing-left seen at)
+at-head seen log at (h ∷ []) e = rw e (one-byte-left seen at h)
+at-head seen log at (h ∷ l ∷ rest) e = by-length (leb (lengthOf h l) (length rest)) refl (leb seen (lengthOf h l)) refl
   where
     body : rest ≡ drop (at + 2) log
     body = sym (ap (drop 2) e) ∙ drop-drop 2 at log
 
-    by-length : (t : Bool) → leb (lengthOf h l) (length rest) ≡ t → Found log at (cond t (Body (at + 2) (lengthOf h l)) Cut)
-    by-length true t =
+    by-length : (t : Bool) → leb (lengthOf h l) (length rest) ≡ t → (u : Bool) → leb seen (lengthOf h l) ≡ u
+        → Found seen log at (cond t (cond u (Body (at + 2) (lengthOf h l) (seenIn (take (lengthOf h l) rest))) Short) Cut)
+    by-length true t true u =
         let m = leb-true (lengthOf h l) (length rest) t in
+        let n = leb-true seen (lengthOf h l) u in
         record {
           begins = refl;
+          enough = n;
           inside = omega (arith, ap length e, length-drop at log);
-          walk = rw (e, whole at h l rest m, body, drop-drop (lengthOf h l) (at + 2) log);
+          says = ap (λ (k : List ℕ). seenIn (take (lengthOf h l) k)) body;
+          walk = rw (e, whole seen at h l rest m n, body, drop-drop (lengthOf h l) (at + 2) log);
         }
-    by-length false t = rw e (cut-short at h l rest (leb-false (lengthOf h l) (length rest) t))
+    by-length true t false u = rw e (too-short seen at h l rest (leb-true (lengthOf h l) (length rest) t) (leb-false seen (lengthOf h l) u))
+    by-length false t u v = rw e (cut-short seen at h l rest (leb-false (lengthOf h l) (length rest) t))
 
-pub found : (log : List ℕ) (at : ℕ) (r : Record) → r ≡ recordIn at (drop at log) → Found log at r
-found log at r e = subst (Found log at) (sym e) (at-head log at (drop at log) refl)
+pub found : (seen : ℕ) (log : List ℕ) (at : ℕ) (r : Record) → r ≡ recordIn seen at (drop at log) → Found seen log at r
+found seen log at r e = subst (Found seen log at) (sym e) (at-head seen log at (drop at log) refl)

@@ -2,34 +2,56 @@
 use sheet::Check;
 use sheet::Refusal;
 ghost use mathlib.Core.Path.{_≡_};
+ghost use Prim.Native.Nat.{_<_};
 ghost use lib.ListN.{drop};
 ghost use Rattle.sheet.specs.Records.{lengthOf};
-ghost use Rattle.sheet.specs.Logs.{logRecords};
-ghost use Rattle.records.specs.Found.{recordIn};
+ghost use Rattle.sheet.specs.Logs.{seenBytes, logRecords, seenIn};
+ghost use Rattle.records.specs.Found.{recordIn, Counted, AllCounted};
 
-// A record's length, big-endian.
+// Two bytes, big-endian.
 fn length_of(high: u8, low: u8) -> usize
-    ensures { λ r. ⌜ r ≡ lengthOf high low ⌝ }
+    ensures { λ r. ⌜ (r ≡ lengthOf high low) × (r < 65536) ⌝ }
 {
     256 * (high as usize) + low as usize
 }
 
-// A place in a log, at a record's length field.
-pub struct Cursor {
-    pub at: usize,
+// The acknowledged bytes that the analyser saw, at the start of a body.
+fn seen_in(body: &[u8]) -> usize
+    ensures { λ r. ⌜ (r ≡ seenIn (now (body .entry))) × (r < 65536) ⌝ }
+{
+    length_of(checks::byte_at(body, 0), checks::byte_at(body, 1))
 }
 
-// What stands there: a whole record, the log's end, or a record that is cut short.
+// How many bytes of a body say what was seen: none in version 1, two in version 2.
+pub fn seen_bytes(log: &[u8]) -> usize
+    ensures { λ r. ⌜ r ≡ seenBytes (now (log .entry)) ⌝ }
+{
+    if checks::byte_at(log, 0) == 2 { 2 } else { 0 }
+}
+
+// A place in a log, at a record's length field; each body has `seen` bytes at least.
+pub struct Cursor {
+    pub at: usize,
+    pub seen: usize,
+}
+
+// What stands there: a whole record, the log's end, a record that is cut short, or one with too short a body.
 pub enum Record {
-    Body { start: usize, size: usize },
+    Body {
+        start: usize,
+        size: usize,
+        count: usize,
+    },
     End,
     Cut,
+    Short,
 }
 
 impl Cursor {
     // What stands at the cursor. Nothing is changed.
     pub fn read(self, log: &[u8]) -> Record
-        ensures { λ r. ⌜ r ≡ recordIn (self .at) (drop (self .at) (now (log .entry))) ⌝ }
+        ensures { λ r. ⌜ r ≡ recordIn (self .seen) (self .at) (drop (self .at) (now (log .entry))) ⌝ }
+        ensures { λ r. ⌜ Counted r ⌝ }
     {
         let at = self.at;
         if log.len() <= at {
@@ -42,26 +64,37 @@ impl Cursor {
         let high = log[at];
         let low = log[at + 1];
         let size = length_of(high, low);
-        let start = at + 2;
-        if size <= left - 2 {
-            Record::Body { start, size }
-        } else {
-            Record::Cut
+        if left - 2 < size {
+            return Record::Cut;
         }
+        if size < self.seen {
+            return Record::Short;
+        }
+        let start = at + 2;
+        let end = start + size;
+        let count = seen_in(&log[start..end]);
+        Record::Body { start, size, count }
     }
 }
 
-// The first record that is cut short, if there is one.
+// The first record that is cut short or has too short a body, if there is one.
 pub fn check_records(log: &[u8]) -> Check
     ensures { λ r. ⌜ r ≡ logRecords (now (log .entry)) .tear ⌝ }
+    ensures { λ _. ⌜ AllCounted (logRecords (now (log .entry)) .bodies) ⌝ }
 {
+    let seen = seen_bytes(log);
     let mut at = 3;
     loop {
-        let cursor = Cursor { at };
+        let cursor = Cursor { at, seen };
         match cursor.read(log) {
-            Record::Body { start, size } => at = start + size,
+            Record::Body {
+                start,
+                size,
+                count: _,
+            } => at = start + size,
             Record::End => return Check::Passed,
             Record::Cut => return Check::Refused(Refusal::CutRecord(at)),
+            Record::Short => return Check::Refused(Refusal::ShortBody(at)),
         }
     }
 }

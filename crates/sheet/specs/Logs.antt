@@ -1,8 +1,8 @@
--- Bus logs and the program's text (paper 01, "Bus logs"): a log's bytes in, the text's bytes out.
+-- Bus logs and the program's text (paper 01, "Bus logs"; paper 02, request 10): a log's bytes in, the text's bytes out.
 -- Assumes nothing.
 use Prim.Native.Nat.{ℕ, zero, suc, _+_, _*_, _/_, _%_}
-use mathlib.Core.Bool.{cond, _&&_}
-use mathlib.Core.List.{List, [], _∷_, _++_}
+use mathlib.Core.Bool.{cond, _&&_, _||_}
+use mathlib.Core.List.{List, [], _∷_, _++_, map}
 use lib.Dec.{eqb, ltb, leb}
 use lib.ListN.{length, getD, drop, replicate}
 use Rattle.sheet.specs.declared.Chips.{Chips}
@@ -13,7 +13,7 @@ use Rattle.sheet.specs.declared.Refusal.the-variants.{LogHead, LongLog}
 use Rattle.sheet.specs.declared.Answer.{Answer}
 use Rattle.sheet.specs.Refusals.{numberOf, placeOf, numbers}
 use Rattle.sheet.specs.Parts.{pcf8532}
-use Rattle.sheet.specs.Records.{Records, recordsFrom}
+use Rattle.sheet.specs.Records.{Records, lengthOf, recordsFrom}
 use Rattle.sheet.specs.Checks.{unless, orElse, checkChips}
 use Rattle.sheet.specs.Pictures.{pictureOf, litIn}
 use Rattle.sheet.specs.Long.{State, stateOf, bothOn, transferCall, stateAfter, stateAfterAll, registersOf, columnsOf}
@@ -24,16 +24,27 @@ use Rattle.sheet.specs.Long.{State, stateOf, bothOn, transferCall, state
 abbrev pub logChips : List ℕ → Chips
 logChips log = record { zero = getD log 1 0; one = getD log 2 0 }
 
+-- the bytes at the start of a record's body that say what the analyser saw: none in version 1, two in version 2
+abbrev pub seenBytes : List ℕ → ℕ
+seenBytes log = cond (eqb (getD log 0 0) 2) 2 0
+
 -- the records after the head
 abbrev pub logRecords : List ℕ → Records
-logRecords log = recordsFrom 3 (drop 3 log)
+logRecords log = recordsFrom (seenBytes log) 3 (drop 3 log)
 
--- 14, 12, 3, 13
+-- 14, 12, 3, then 13 and 20 record by record
 unfoldable pub checkLog : List ℕ → Check
 checkLog log =
     orElse (unless (leb (length log) 65536) LongLog)
-    (orElse (unless (leb 3 (length log) && eqb (getD log 0 0) 1) LogHead)
+    (orElse (unless (leb 3 (length log) && (eqb (getD log 0 0) 1 || eqb (getD log 0 0) 2)) LogHead)
     (orElse (checkChips pcf8532 (logChips log)) (logRecords log .tear)))
+
+-- the transfers in bodies, each after what was seen
+abbrev pub transfersIn : ℕ → List (List ℕ) → List (List ℕ)
+transfersIn seen bodies = map (drop seen) bodies
+
+abbrev pub logTransfers : List ℕ → List (List ℕ)
+logTransfers log = transfersIn (seenBytes log) (logRecords log .bodies)
 
 -- ---- lines
 
@@ -57,9 +68,12 @@ line letter ns = letter ∷ (spaced ns ++ (10 ∷ []))
 
 -- ---- the text
 
--- what a line begins with: T, S, G, X
+-- what a line begins with: T, A, S, G, X
 abbrev pub transferLetter : ℕ
 transferLetter = 84
+
+abbrev pub seenLetter : ℕ
+seenLetter = 65
 
 abbrev pub columnLetter : ℕ
 columnLetter = 83
@@ -74,11 +88,27 @@ refusalLetter = 88
 abbrev pub transferLine : ℕ → Answer → List ℕ
 transferLine i answer = line transferLetter (i ∷ numbers pcf8532 answer)
 
--- a record a line
-unfoldable pub transferLines : Chips → ℕ → State → List (List ℕ) → List ℕ
-transferLines n i s [] = []
-transferLines n i s (t ∷ ts) =
-    transferLine i (transferCall pcf8532 n (s .registers) (s .ram) t .result .answer) ++ transferLines n (suc i) (stateAfter pcf8532 n s t) ts
+-- the acknowledged bytes that the model has: none of a refused transfer
+abbrev pub modelled : Answer → ℕ
+modelled (Answer.Taken t last) = t .acknowledged
+modelled (Answer.Refused r) = 0
+
+-- and those that the analyser saw
+abbrev pub seenIn : List ℕ → ℕ
+seenIn body = lengthOf (getD body 0 0) (getD body 1 0)
+
+-- `A index seen modelled`, where the two differ
+abbrev pub seenLine : ℕ → ℕ → ℕ → List ℕ
+seenLine i s m = cond (eqb s m) [] (line seenLetter (i ∷ s ∷ m ∷ []))
+
+-- a record's lines: the transfer's, and in version 2 the one of what was seen
+abbrev pub recordLines : ℕ → ℕ → ℕ → Answer → List ℕ
+recordLines seen i count answer = transferLine i answer ++ cond (eqb seen 0) [] (seenLine i count (modelled answer))
+
+unfoldable pub transferLines : ℕ → Chips → ℕ → State → List (List ℕ) → List ℕ
+transferLines seen n i s [] = []
+transferLines seen n i s (body ∷ bodies) =
+    recordLines seen i (seenIn body) (transferCall pcf8532 n (s .registers) (s .ram) (drop seen body) .result .answer) ++ transferLines seen n (suc i) (stateAfter pcf8532 n s (drop seen body)) bodies
 
 -- `S group column value`, if the column is lit
 abbrev pub columnLine : ℕ → ℕ → ℕ → List ℕ
@@ -106,17 +136,17 @@ endLines n s =
 abbrev pub logStart : Chips → State
 logStart n = stateOf bothOn (replicate (160 * (n .zero + n .one)) 0)
 
-abbrev pub logLines : Chips → List (List ℕ) → List ℕ
-logLines n ts = transferLines n 0 (logStart n) ts ++ endLines n (stateAfterAll pcf8532 n (logStart n) ts)
+abbrev pub logLines : ℕ → Chips → List (List ℕ) → List ℕ
+logLines seen n bodies = transferLines seen n 0 (logStart n) bodies ++ endLines n (stateAfterAll pcf8532 n (logStart n) (transfersIn seen bodies))
 
 -- `X number place`
 abbrev pub refusalLine : Refusal → List ℕ
 refusalLine r = line refusalLetter (numberOf r ∷ placeOf r ∷ [])
 
 -- a refused log gives that line only
-abbrev pub textBy : Check → Chips → List (List ℕ) → List ℕ
-textBy Passed n ts = logLines n ts
-textBy (Refused r) n ts = refusalLine r
+abbrev pub textBy : Check → ℕ → Chips → List (List ℕ) → List ℕ
+textBy Passed seen n bodies = logLines seen n bodies
+textBy (Refused r) seen n bodies = refusalLine r
 
 unfoldable pub textOf : List ℕ → List ℕ
-textOf log = textBy (checkLog log) (logChips log) (logRecords log .bodies)
+textOf log = textBy (checkLog log) (seenBytes log) (logChips log) (logRecords log .bodies)

@@ -116,14 +116,33 @@ plain =
     && inOrder (refusal 11 0 ∷ refusal 8 0 ∷ refusal 9 0 ∷ [])
     (λ f. pictureNumbers (chipPictureCall pcf8532 (chip (cond (is f 0) 4 1)) (cond (is f 1) 2 0) (replicate (160 + cond (is f 2) 1 0) 0) .result))))
 
--- ---- a log: version 1 or 2, one chip or five, an empty record or one cut short, and too many empty records
+-- ---- a log: version 1 or 3, one chip or five, an empty record or one cut short, and too many empty records
 
 abbrev log : List Bool → List ℕ
-log f = cond (is f 1) 2 1 ∷ cond (is f 2) 5 1 ∷ 0 ∷ 0 ∷ cond (is f 3) 9 0 ∷ cond (is f 0) (replicate 65532 0) []
+log f = cond (is f 1) 3 1 ∷ cond (is f 2) 5 1 ∷ 0 ∷ 0 ∷ cond (is f 3) 9 0 ∷ cond (is f 0) (replicate 65532 0) []
 
 abbrev pub logs : Bool
 logs = inOrder (refusal 14 0 ∷ refusal 12 0 ∷ refusal 3 0 ∷ refusal 13 3 ∷ []) (λ f. checkNumbers (checkLog (log f)))
 
-pub orders : T (long && (plain && logs))
+-- version 2: the records' bytes, and the refusal
+pub record Recorded : Type 0 where
+  pub bytes : List ℕ
+  pub refused : Fault
+
+abbrev recorded : List ℕ → ℕ → ℕ → Recorded
+recorded bytes number place = record { bytes = bytes; refused = refusal number place }
+
+abbrev pub everyLog : List Recorded → Bool
+everyLog [] = true
+everyLog (r ∷ rs) = same (take 2 (checkNumbers (checkLog (2 ∷ 1 ∷ 0 ∷ r .bytes)))) (r .refused .number ∷ r .refused .place ∷ []) && everyLog rs
+
+-- a body of two bytes and of none; of one byte, there and cut off: 13 comes before 20; and a second record, where the first faulty one decides
+abbrev pub bodies : Bool
+bodies =
+    everyLog
+    (recorded [] 0 0 ∷ recorded (0 ∷ 2 ∷ 0 ∷ 0 ∷ []) 0 0 ∷ recorded (0 ∷ 0 ∷ []) 20 3 ∷ recorded (0 ∷ 1 ∷ 0 ∷ []) 20 3 ∷ recorded (0 ∷ 1 ∷ []) 13 3 ∷ recorded (0 ∷ []) 13 3
+    ∷ recorded (0 ∷ 0 ∷ 0 ∷ 9 ∷ []) 20 3 ∷ recorded (0 ∷ 2 ∷ 0 ∷ 0 ∷ 0 ∷ 9 ∷ []) 13 7 ∷ recorded (0 ∷ 2 ∷ 0 ∷ 0 ∷ 0 ∷ 1 ∷ 0 ∷ []) 20 7 ∷ [])
+
+pub orders : T (long && (plain && (logs && bodies)))
 unfolding checkLog recordsFrom readIn powerOnCall checkPowerOn pictureCall checkPicture chipPowerOn chipPictureCall checkChipPicture litIn ones onesIn plainCall checkPlain misfitIn chipFits plainHeard chipData afterColumn afterColumns putRows advanced acknowledgesData smallest transferCall checkTransfer checkState checkChips checkRegisters checkRam checkLength overIn faultIn heardBy heard dataByte controlOf commandOf commandIn within inRange backplanes bankRow position atPosition putBits changed withRow storedBits counted acknowledger shown pictureOf
 orders = tt

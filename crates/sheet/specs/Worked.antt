@@ -1,9 +1,9 @@
 -- The worked log of paper 01, "Bus logs", and its text with the last number of paper 02, request 4, computed of the definitions.
 use Prim.Native.Nat.{ℕ}
 use mathlib.Core.Path.{_≡_, refl}
-use mathlib.Core.List.{List, [], _∷_}
+use mathlib.Core.List.{List, [], _∷_, _++_}
 use lib.Dec.{T}
-use lib.ListN.{take}
+use lib.ListN.{take, drop}
 use Rattle.sheet.specs.Registers.{inRange, backplanes, bankRow}
 use Rattle.sheet.specs.Parts.{within, commandIn, commandOf}
 use Rattle.sheet.specs.Protocol.{heardBy, controlOf}
@@ -45,6 +45,27 @@ workedText =
 pub worked : T (same (textOf workedLog) workedText)
 unfolding textOf recordsFrom readIn checkLog digitsIn decimal spaced transferLines columnLines stateAfterAll transferCall checkTransfer checkState checkChips checkRegisters checkRam checkLength overIn faultIn heardBy heard dataByte controlOf commandOf commandIn within inRange backplanes bankRow position atPosition putBits changed withRow storedBits counted acknowledger shown pictureOf litIn ones onesIn
 worked = tt
+
+-- the same log in version 2: the analyser saw nine acknowledged bytes of the first transfer, as the model has it, 3 of the refused one and 258 of the one that nobody hears
+abbrev pub seenLog : List ℕ
+seenLog =
+    0x02 ∷ 0x02 ∷ 0x00
+    ∷ 0x00 ∷ 0x0B ∷ 0x00 ∷ 0x09 ∷ 0x70 ∷ 0x80 ∷ 0xC8 ∷ 0x80 ∷ 0x09 ∷ 0x80 ∷ 0x4F ∷ 0x40 ∷ 0xA5
+    ∷ 0x00 ∷ 0x05 ∷ 0x00 ∷ 0x03 ∷ 0x70 ∷ 0x00 ∷ 0xFC
+    ∷ 0x00 ∷ 0x03 ∷ 0x01 ∷ 0x02 ∷ 0x50 ∷ []
+
+-- its text: the worked one with two lines more, A 1 3 0 after T 1 and A 2 258 0 after T 2
+abbrev pub seenText : List ℕ
+seenText =
+    take 32 workedText
+    ++ (65 ∷ 32 ∷ 49 ∷ 32 ∷ 51 ∷ 32 ∷ 48 ∷ 10 ∷ [])
+    ++ take 16 (drop 32 workedText)
+    ++ (65 ∷ 32 ∷ 50 ∷ 32 ∷ 50 ∷ 53 ∷ 56 ∷ 32 ∷ 48 ∷ 10 ∷ [])
+    ++ drop 48 workedText
+
+pub seen : T (same (textOf seenLog) seenText)
+unfolding textOf recordsFrom readIn checkLog digitsIn decimal spaced transferLines columnLines stateAfterAll transferCall checkTransfer checkState checkChips checkRegisters checkRam checkLength overIn faultIn heardBy heard dataByte controlOf commandOf commandIn within inRange backplanes bankRow position atPosition putBits changed withRow storedBits counted acknowledger shown pictureOf litIn ones onesIn
+seen = tt
 
 -- without its last byte the log is torn at offset 19, where that record's length field stands; the bodies before it are there
 pub torn : logRecords (take 21 workedLog)

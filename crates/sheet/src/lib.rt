@@ -60,6 +60,7 @@ pub enum Refusal {
     CutRecord(usize),
     LongLog,
     StrayBits(usize),
+    ShortBody(usize),
 }
 
 pub enum Check {

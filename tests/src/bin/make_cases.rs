@@ -1,13 +1,15 @@
 //! Writes crates/cases/stdin and crates/cases/stdout: logs, and what the model says of them.
 //! The repository's root is the first argument, or the folder above this package.
 
-use humtrellis_tests::generate::{self, commands_then_data, log_of};
+use humtrellis_tests::generate::{self, commands_then_data, log_of, seen_log_of};
 use humtrellis_tests::model::{log_text, LOG_LIMIT};
 use humtrellis_tests::random::Random;
 use std::path::PathBuf;
 
 const SEED: u64 = 8532;
 const GENERATED: usize = 400;
+/// Generated logs of version 2.
+const GENERATED_SEEN: usize = 50;
 /// A last transfer that enables the display in 1:4, so that the log shows all four rows.
 const SHOW: [u8; 3] = [0x70, 0x00, 0xC8];
 
@@ -115,11 +117,70 @@ fn size_cases(random: &mut Random) -> Vec<Vec<u8>> {
     ]
 }
 
+/// Request 10: the worked log in version 2, counts that agree and differ, short and long bodies, and other versions.
+fn seen_cases() -> Vec<Vec<u8>> {
+    let mut logs = vec![
+        generate::WORKED_SEEN_LOG.to_vec(),
+        every_kind_seen(),
+        long_transfers_seen(),
+    ];
+    logs.extend([0, 3, 255].map(|version| [&[version], &generate::WORKED_SEEN_LOG[1..]].concat()));
+    logs.extend([vec![2], vec![2, 1], vec![2, 1, 1], vec![2, 5, 0, 0, 0]]);
+    for version in [1, 2] {
+        logs.extend(FEW_RECORDS.map(|records| [&[version, 1, 0], records].concat()));
+    }
+    logs
+}
+
+/// Bodies of 0 to 3 bytes, and short bodies before and behind a record that is cut.
+const FEW_RECORDS: [&[u8]; 9] = [
+    &[0, 0],
+    &[0, 1, 0x70],
+    &[0, 2, 0, 0],
+    &[0, 2, 0x70, 0],
+    &[0, 3, 0, 1, 0x70],
+    &[0, 3, 0, 1, 0x70, 0, 0, 0, 9, 0],
+    &[0, 3, 0, 1, 0x70, 0, 9, 0, 0, 0],
+    &[0, 3, 0, 1, 0x70, 0, 1],
+    &[0, 3, 0, 1, 0x70, 0, 2, 0],
+];
+
+/// Transfers that are taken, not acknowledged to their end, refused and unheard, each seen as modelled and otherwise.
+fn every_kind_seen() -> Vec<u8> {
+    let transfers = [
+        (1, vec![0x70]),
+        (
+            11,
+            commands_then_data(0x70, &[0xCB, 0xE0, 0x09, 0x4C], &[0xFF; 2]),
+        ),
+        (0, vec![]),
+        (0, vec![0x70, 0x00, 0xC8, 0xFC]),
+        (0, vec![0x70, 0x81, 0xC8]),
+        (0, vec![0x71, 0x40, 0xA5]),
+        (0, vec![0x72, 0x40, 0xA5]),
+    ];
+    let mut records = Vec::new();
+    for (modelled, bytes) in transfers {
+        let counts = [modelled, modelled + 1, u16::MAX, modelled << 8];
+        records.extend(counts.map(|seen| (seen, bytes.clone())));
+    }
+    seen_log_of(1, 0, &records)
+}
+
+/// Transfers of 4,096 and 4,097 bytes: the limit counts from after the bytes seen.
+fn long_transfers_seen() -> Vec<u8> {
+    let bytes = |length: usize| [vec![0x70], vec![0x00; length - 1]].concat();
+    seen_log_of(1, 0, &[(4096, bytes(4096)), (4097, bytes(4097))])
+}
+
+/// Every case; those of request 10 stand last, so that the others keep their places.
 fn all_cases() -> Vec<Vec<u8>> {
     let mut random = Random::new(SEED);
     let mut logs = paper_cases();
     logs.extend(size_cases(&mut random));
     logs.extend((0..GENERATED).map(|_| generate::clean_log(&mut random)));
+    logs.extend(seen_cases());
+    logs.extend((0..GENERATED_SEEN).map(|_| generate::seen_log(&mut random)));
     logs
 }
 

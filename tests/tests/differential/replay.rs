@@ -7,7 +7,7 @@ use humtrellis_tests::model::{log_text, LOG_LIMIT};
 use humtrellis_tests::random::Random;
 
 /// Replays a log into a buffer with room enough and holds the text to the model's; the rest of the buffer stays.
-fn compare(log: &[u8]) {
+pub fn compare(log: &[u8]) {
     let mut out = vec![0xEE; text_room() + 1];
     let mut lent = log.to_vec();
     let length = library::replay(&mut lent, &mut out);
@@ -21,36 +21,49 @@ fn compare(log: &[u8]) {
     );
 }
 
-#[test]
-fn replay_paper() {
-    compare(&generate::WORKED_LOG);
-    for length in 0..generate::WORKED_LOG.len() {
-        compare(&generate::WORKED_LOG[..length]);
+/// A log, and what is left of it when it is torn at each offset.
+pub fn compare_torn(log: &[u8]) {
+    for length in 0..=log.len() {
+        compare(&log[..length]);
     }
 }
 
-/// The paper's log with each bit turned: of its head, its lengths, its control bytes, commands and data.
-#[test]
-fn replay_every_bit() {
-    for bit in 0..8 * generate::WORKED_LOG.len() {
-        let mut log = generate::WORKED_LOG;
+/// A log with each bit turned: of its head, its lengths, its control bytes, commands and data.
+pub fn compare_bits(log: &[u8]) {
+    for bit in 0..8 * log.len() {
+        let mut log = log.to_vec();
         log[bit / 8] ^= 1 << (bit % 8);
         compare(&log);
     }
 }
 
-/// One byte less is refused with 0 and nothing is written.
+#[test]
+fn replay_paper() {
+    compare_torn(&generate::WORKED_LOG);
+    compare_bits(&generate::WORKED_LOG);
+}
+
+/// One byte less is refused with 0 and nothing is written; the longest texts have room too.
 #[test]
 fn replay_small_buffer() {
-    for log in [&generate::WORKED_LOG[..], &[], &[1, 0, 0]] {
+    let logs = [
+        generate::WORKED_LOG.to_vec(),
+        generate::WORKED_SEEN_LOG.to_vec(),
+        vec![],
+        vec![1, 0, 0],
+        vec![2, 0, 0, 0, 0],
+        generate::log_of_long_text(),
+        generate::seen_log_of_long_text(),
+    ];
+    for mut log in logs {
         for room in [0, 1, 100, text_room() - 1] {
             let mut out = vec![0xEE; room];
-            assert_eq!(library::replay(&mut log.to_vec(), &mut out), 0);
+            assert_eq!(library::replay(&mut log, &mut out), 0);
             assert!(out.iter().all(|&byte| byte == 0xEE));
         }
         let mut out = vec![0xEE; text_room()];
-        let length = library::replay(&mut log.to_vec(), &mut out);
-        assert_eq!(out[..length], log_text(log));
+        let length = library::replay(&mut log, &mut out);
+        assert_eq!(out[..length], log_text(&log));
     }
 }
 

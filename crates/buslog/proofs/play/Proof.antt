@@ -6,7 +6,7 @@ use Prim.Native.Nat.{ℕ}
 use native.Mathlib.Omega.{arith}
 use Rattle.sheet.specs.Parts.{pcf8532}
 use Rattle.sheet.specs.Long.{stateOf, State, powerOnCall, stateAfterAll}
-use Rattle.sheet.specs.Logs.{logRecords, transferLines, endLines, logStart, logLines}
+use Rattle.sheet.specs.Logs.{seenBytes, logRecords, logTransfers, transferLines, endLines, logStart, logLines}
 use Rattle.sheet.specs.Agree.{Valid}
 use Rattle.text.proofs.Writing.{Writing, begin, rest-is, turn, last, room-for}
 use Rattle.agreement.proofs.Demand.{pcf8532-agrees}
@@ -15,12 +15,15 @@ use borrow.Author.Needs.{needs}
 use Rattle.buslog.proofs.play.Statement.{statement}
 use Rattle.buslog.proofs.play.Tie as tie
 
--- the log's transfers, and its text, all of which is left
+-- the log's bodies and transfers, and its text, all of which is left
+abbrev bodies : tie.Start → List (List ℕ)
+bodies s = logRecords (s .args .log .now) .bodies
+
 abbrev transfers : tie.Start → List (List ℕ)
-transfers s = logRecords (s .args .log .now) .bodies
+transfers s = logTransfers (s .args .log .now)
 
 abbrev text : tie.Start → List ℕ
-text s = logLines (s .args .chips) (transfers s)
+text s = logLines (seenBytes (s .args .log .now)) (s .args .chips) (bodies s)
 
 opened : (s : tie.Start) → Writing 0 (text s) (s .args .out .now) 0 (text s) (s .args .out .now)
 opened s = begin _ _ _ (omega (arith, s .pre .room))
@@ -45,7 +48,7 @@ played c = let s = c .before .before .before .before .before .before .before .be
 
 put-transfers-requires : tie.Need-put-transfers-requires
 put-transfers-requires c κs = let s = c .before .before .before .before .before .before .before in
-    let room = room-for (transferLines (s .args .chips) 0 (logStart (s .args .chips)) (transfers s)) _ (opened s) in
+    let room = room-for (transferLines (seenBytes (s .args .log .now)) (s .args .chips) 0 (logStart (s .args .chips)) (bodies s)) _ (opened s) in
     (s .pre .whole, rw (powered (c .before .before)) (omega arith))
 
 put-end-requires : tie.Need-put-end-requires

@@ -10,7 +10,7 @@ use lib.Seq.{length-take-le}
 use Rattle.sheet.specs.declared.Check.the-variants.{Passed}
 use Rattle.sheet.specs.Parts.{pcf8532}
 use Rattle.sheet.specs.Checks.{checkChips}
-use Rattle.sheet.specs.Logs.{logRecords, logLines, textOf}
+use Rattle.sheet.specs.Logs.{seenBytes, logRecords, logLines, textOf}
 use Rattle.laws.proofs.Fits.{few-chips}
 use Rattle.buslog.proofs.Checked.{checked, text-passed}
 use borrow.Author.Needs.{needs}
@@ -35,7 +35,7 @@ small : (c : tie.After-blank-ram) → let n = c .before .chips-of .result in 160
 small c = omega (arith, few c, ap length (c .blank-ram .ensures), length-replicate {A = ℕ} 1280 0)
 
 -- the text
-lines : (c : tie.After-chips-of) → let log = c .before .before .before .args .log .now in textOf log ≡ logLines (c .chips-of .result) (logRecords log .bodies)
+lines : (c : tie.After-chips-of) → let log = c .before .before .before .args .log .now in textOf log ≡ logLines (seenBytes log) (c .chips-of .result) (logRecords log .bodies)
 lines c = let s = c .before .before .before in rw (c .chips-of .ensures) (text-passed (s .args .log .now) (s .pre .0))
 
 play-requires : tie.Need-play-requires

@@ -25,35 +25,40 @@ at-start text out after end h p =
     (p .out ∙ sets-eq text out 0 (omega arith) ∙ ap (λ (k : ℕ). text ++ drop k out) (zero-add (length text)), p .place ∙ zero-add (length text))
 
 -- is what a replay leaves
-whole : (log out after : List ℕ) (end : ℕ) → room ≤ length out → Puts 0 (textOf log) out after end → (after ≡ replayCall log out .out) × (Written end ≡ replayCall log out .result)
+whole : (log out after : List ℕ) (end : ℕ) → room ≤ length out → length (textOf log) ≤ room → Puts 0 (textOf log) out after end → (after ≡ replayCall log out .out) × ((Written end ≡ replayCall log out .result) × (end ≤ length out))
 unfolding replayCall
-whole log out after end h p =
-    let s = at-start (textOf log) out after end (omega (arith, text-few log)) p in
-    rw (le-ltb (length out) room h) (s .0, ap Written (s .1))
+whole log out after end h few p =
+    let s = at-start (textOf log) out after end (omega arith) p in
+    rw (le-ltb (length out) room h) (s .0, (ap Written (s .1), omega (arith, s .1)))
 
 returns : tie.Need-returns
 unfolding replayCall
-returns c = rw (lt-ltb (length (c .before .before .before .args .out .now)) room (c .if1 .taken)) (refl, refl)
+returns c = rw (lt-ltb (length (c .before .before .before .args .out .now)) room (c .if1 .taken)) (refl, (refl, tt))
+
+-- the text of a log that was checked has room
+fits : (c : tie.After-check-log) → length (textOf (c .before .before .before .before .args .log .now)) ≤ room
+fits c = let log = c .before .before .before .before .args .log .now in
+    text-few log (λ e. c .check-log .ensures .1 (c .check-log .ensures .0 ∙ e))
 
 -- the refused log's text
 refused : (c : tie.After-refusal) → textOf (c .before .before .before .before .before .before .args .log .now) ≡ refusalLine (c .refusal .given .0 .0)
-refused c = text-refused _ _ (sym (c .before .before .check-log .ensures) ∙ c .refusal .given .1)
+refused c = text-refused _ _ (sym (c .before .before .check-log .ensures .0) ∙ c .refusal .given .1)
 
 put-refusal-requires : tie.Need-put-refusal-requires
 put-refusal-requires c κs = let told = c .before .before in
-    omega (arith, ap length (refused told), text-few (told .before .before .before .before .before .before .args .log .now), told .before .before .before .if1 .left)
+    omega (arith, ap length (refused told), fits (told .before .before), told .before .before .before .if1 .left)
 
 put-log-requires : tie.Need-put-log-requires
 put-log-requires c κs = let check = c .before .before .before in
-    let few = text-few (check .before .before .before .before .args .log .now) in
-    (sym (check .check-log .ensures) ∙ c .before .enum-told .given .1, omega (arith, check .before .if1 .left))
+    (sym (check .check-log .ensures .0) ∙ c .before .enum-told .given .1, omega (arith, fits check, check .before .if1 .left))
 
 returns-2 : tie.Need-returns-2
 returns-2 c = let told = c .before .before .before .before .before in
-    whole _ _ _ _ (told .before .before .before .if1 .left) (rw (refused told) (c .before .before .put-refusal .ensures))
+    whole _ _ _ _ (told .before .before .before .if1 .left) (fits (told .before .before)) (rw (refused told) (c .before .before .put-refusal .ensures))
 
 returns-3 : tie.Need-returns-3
-returns-3 c = whole _ _ _ _ (c .before .before .before .before .before .before .before .if1 .left) (c .before .before .put-log .ensures)
+returns-3 c = let check = c .before .before .before .before .before .before in
+    whole _ _ _ _ (check .before .if1 .left) (fits check) (c .before .before .put-log .ensures)
 
 pub replay-spec : {M : Type 1} → statement M
 replay-spec =

@@ -7,11 +7,11 @@ use Rattle.cabi.proofs.humtrellis_replay.Tie as tie
 
 returns : tie.Need-returns
 returns c = let r = c .before .before .before .before .before .replay in
-    (ap replayNumber (sym (c .before .length .given .1) ∙ r .ensures .1), r .ensures .0)
+    (ap replayNumber (sym (c .before .length .given .1) ∙ r .ensures .1 .0), r .ensures .0)
 
 returns-2 : tie.Need-returns-2
 returns-2 c = let r = c .before .before .before .before .replay in
-    (ap replayNumber (sym (c .enum-told .given .1) ∙ r .ensures .1), r .ensures .0)
+    (ap replayNumber (sym (c .enum-told .given .1) ∙ r .ensures .1 .0), r .ensures .0)
 
 pub humtrellis-replay-spec : {M : Type 1} → statement M
 humtrellis-replay-spec =

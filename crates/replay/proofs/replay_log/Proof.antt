@@ -1,17 +1,18 @@
 -- `replay::replay_log` is safe: what was replayed is a count of bytes of the buffer.
 -- Assumes nothing.
-use mathlib.Core.Path.{sym, _∙_}
+use mathlib.Core.Path.{sym, subst}
 use Prim.Native.Nat.{_≤_}
 use native.Mathlib.Omega.{arith}
 use lib.ListN.{length}
 use lib.Seq.{length-take-le}
-use Rattle.buslog.proofs.Room.{count-few}
+use Rattle.buslog.specs.declared.Replayed.{Replayed}
+use Rattle.buslog.specs.Replays.{Inside}
 use borrow.Author.Needs.{needs}
 use Rattle.replay.proofs.replay_log.Statement.{statement}
 use Rattle.replay.proofs.replay_log.Tie as tie
 
 counted : (c : tie.After-count) → c .count .given .0 .0 ≤ length (c .before .before .before .replay .last .1 .0)
-counted c = let d = c .before .before .before in omega (arith, count-few _ _ _ (sym (d .replay .ensures .1) ∙ c .count .given .1), d .replay .kept .1 .0)
+counted c = let d = c .before .before .before in omega (arith, subst (λ (r : Replayed). Inside r (length (d .before .before .text-buffer .result))) (c .count .given .1) (d .replay .ensures .1 .1), d .replay .kept .1 .0)
 
 text-buffer-requires : tie.Need-text-buffer-requires
 text-buffer-requires c κs = search needs
