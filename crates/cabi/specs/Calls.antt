@@ -7,6 +7,7 @@ use lib.ListN.{length, getD}
 use Rattle.sheet.specs.declared.Chips.{Chips}
 use Rattle.sheet.specs.Refusals.{numbers, plainNumbers, pictureNumbers, checkNumbers}
 use Rattle.sheet.specs.Parts.{pcf8532}
+use Rattle.sheet.specs.Pictures.{Seen}
 use Rattle.sheet.specs.Long.{powerOnCall, transferCall, pictureCall}
 use Rattle.sheet.specs.Plain.{chipPowerOn, chipPictureCall}
 use Rattle.buslog.specs.declared.Replayed.{Replayed}
@@ -16,7 +17,7 @@ use Rattle.wire.specs.Bytes.{bothOf, bothBytes, chipIn, chipBytes}
 abbrev pub chipsOf : ℕ → ℕ → Chips
 chipsOf z o = record { zero = z; one = o }
 
--- ---- the long account. Each call gives the number returned and what each lent buffer holds after it
+-- ---- calls that lend registers and the RAM. Each gives the number returned and what each lent buffer holds after it
 
 pub record Called : Type 0 where
   pub number : ℕ
@@ -41,42 +42,44 @@ transferC z o registers ram bytes answer =
     let k = numbers pcf8532 (t .result .answer) in
     sized registers ram answer (record { number = getD k 0 0; registers = bothBytes (t .result .registers); buffer = t .ram; answer = k })
 
-unfoldable pub pictureC : ℕ → ℕ → List ℕ → List ℕ → ℕ → ℕ → List ℕ → List ℕ → Called
-pictureC z o registers ram group phase out answer =
-    let s = pictureCall pcf8532 (chipsOf z o) (bothOf registers) ram group phase out in
-    let k = pictureNumbers (s .result) in
-    sized registers out answer (record { number = getD k 0 0; registers = registers; buffer = s .out; answer = k })
+-- ---- calls that lend one buffer to write, a picture or chips
 
--- ---- the plain account. Each call lends one buffer to write, the chips or the picture
-
-pub record PlainCalled : Type 0 where
+pub record Filled : Type 0 where
   pub number : ℕ
   pub buffer : List ℕ
   pub answer : List ℕ
 
--- 255, and nothing is written, unless chips are whole and an answer has six numbers
-abbrev pub plainSized : Bool → List ℕ → List ℕ → PlainCalled → PlainCalled
-plainSized whole buffer answer c = cond (whole && eqb (length answer) 6) c (record { number = 255; buffer = buffer; answer = answer })
+-- 255, and nothing is written, unless what is read or the chips are whole and an answer has six numbers
+abbrev pub filled : Bool → List ℕ → List ℕ → Filled → Filled
+filled whole buffer answer c = cond (whole && eqb (length answer) 6) c (record { number = 255; buffer = buffer; answer = answer })
+
+-- a picture
+abbrev pub seenC : Bool → Seen → List ℕ → List ℕ → Filled
+seenC whole s out answer =
+    let k = pictureNumbers (s .result) in
+    filled whole out answer (record { number = getD k 0 0; buffer = s .out; answer = k })
+
+-- of a group, and of one chip
+unfoldable pub pictureC : ℕ → ℕ → List ℕ → List ℕ → ℕ → ℕ → List ℕ → List ℕ → Filled
+pictureC z o registers ram group phase out answer =
+    seenC (eqb (length registers) 18) (pictureCall pcf8532 (chipsOf z o) (bothOf registers) ram group phase out) out answer
+
+unfoldable pub chipPictureC : List ℕ → ℕ → List ℕ → List ℕ → Filled
+chipPictureC chip phase out answer = seenC (eqb (length chip) 171) (chipPictureCall pcf8532 (chipIn chip) phase out) out answer
 
 -- one chip, 171 bytes: taken or refused, only the registers are new
-unfoldable pub chipPowerOnC : List ℕ → List ℕ → PlainCalled
+unfoldable pub chipPowerOnC : List ℕ → List ℕ → Filled
 chipPowerOnC chip answer =
     let p = chipPowerOn pcf8532 (chipIn chip) in
     let k = checkNumbers (p .check) in
-    plainSized (eqb (length chip) 171) chip answer (record { number = getD k 0 0; buffer = chipBytes (p .chip); answer = k })
-
-unfoldable pub chipPictureC : List ℕ → ℕ → List ℕ → List ℕ → PlainCalled
-chipPictureC chip phase out answer =
-    let s = chipPictureCall pcf8532 (chipIn chip) phase out in
-    let k = pictureNumbers (s .result) in
-    plainSized (eqb (length chip) 171) out answer (record { number = getD k 0 0; buffer = s .out; answer = k })
+    filled (eqb (length chip) 171) chip answer (record { number = getD k 0 0; buffer = chipBytes (p .chip); answer = k })
 
 -- a list of chips, 171 bytes each
-unfoldable pub plainC : List ℕ → List ℕ → List ℕ → PlainCalled
+unfoldable pub plainC : List ℕ → List ℕ → List ℕ → Filled
 plainC chips bytes answer =
     let s = lentCall chips bytes in
     let k = plainNumbers pcf8532 (s .answer) in
-    plainSized (eqb (length chips % 171) 0) chips answer (record { number = getD k 0 0; buffer = s .chips; answer = k })
+    filled (eqb (length chips % 171) 0) chips answer (record { number = getD k 0 0; buffer = s .chips; answer = k })
 
 -- ---- replay
 

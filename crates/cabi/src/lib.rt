@@ -72,7 +72,7 @@ pub extern "C" fn humtrellis_picture(
     out: &mut [u8],
     answer: &mut [usize],
 ) -> u8
-    ensures { λ r. ⌜ pictureC chips0 chips1 (now (registers .entry)) (now (ram .entry)) group phase (now (out .entry)) (now (answer .entry)) ≡ record { number = r; registers = now (registers .entry); buffer = now (out .exit); answer = now (answer .exit) } ⌝ }
+    ensures { λ r. ⌜ pictureC chips0 chips1 (now (registers .entry)) (now (ram .entry)) group phase (now (out .entry)) (now (answer .entry)) ≡ record { number = r; buffer = now (out .exit); answer = now (answer .exit) } ⌝ }
 {
     if (registers.len() == 18) & (answer.len() == 6) {
         let chips = Chips {

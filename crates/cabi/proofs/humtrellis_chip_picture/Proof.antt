@@ -1,9 +1,14 @@
 -- `cabi::humtrellis_chip_picture` meets its contract: the call of one chip between bytes and chip.
 -- Assumes nothing.
-use mathlib.Core.Path.{refl, ap}
-use Rattle.sheet.specs.Pictures.{Seen}
+use mathlib.Core.Path.{refl, ap, _∙_}
+use lib.Dec.{eqb}
+use lib.ListN.{length}
+use Rattle.sheet.specs.declared.Chip.{Chip}
+use Rattle.sheet.specs.Parts.{pcf8532}
+use Rattle.sheet.specs.Plain.{chipPictureCall}
 use Rattle.answers.proofs.Small.{picture-small}
 use Rattle.cabi.specs.Calls.{chipPictureC}
+use Rattle.cabi.proofs.Seen.{seen-said}
 use Rattle.cabi.proofs.Sizes.{first-sized, second-sized}
 use borrow.Author.Needs.{needs}
 use Rattle.cabi.proofs.humtrellis_chip_picture.Statement.{statement}
@@ -15,7 +20,10 @@ returns c = let put = c .before .before in
     let said = put .before .before in
     let shown = said .before .before .before in
     let read = shown .before .before in
-    rw (read .before .if1 .taken, put .put-numbers .ensures .0, put .put-numbers .ensures .1, said .picture-numbers .ensures, ap (λ (s : Seen). s .result) (shown .picture .ensures .0), ap (λ (s : Seen). s .out) (shown .picture .ensures .0), read .chip-of .ensures)
+    let a = read .before .before .before .before .before .args in
+    seen-said (eqb (length (a .chip .now)) 171) (a .out .now) (a .answer .now) (read .before .if1 .taken)
+    (shown .picture .ensures .0 ∙ ap (λ (c : Chip). chipPictureCall pcf8532 c (a .phase) (a .out .now)) (read .chip-of .ensures))
+    (said .picture-numbers .ensures) (put .put-numbers .ensures)
 
 returns-2 : tie.Need-returns-2
 unfolding chipPictureC

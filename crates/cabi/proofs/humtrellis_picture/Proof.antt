@@ -1,9 +1,14 @@
 -- `cabi::humtrellis_picture` meets its contract: the call of the long account between bytes and registers.
 -- Assumes nothing.
-use mathlib.Core.Path.{refl, ap}
-use Rattle.sheet.specs.Pictures.{Seen}
+use mathlib.Core.Path.{refl, ap, _∙_}
+use lib.Dec.{eqb}
+use lib.ListN.{length}
+use Rattle.sheet.specs.declared.Both.{Both}
+use Rattle.sheet.specs.Parts.{pcf8532}
+use Rattle.sheet.specs.Long.{pictureCall}
 use Rattle.answers.proofs.Small.{picture-small}
-use Rattle.cabi.specs.Calls.{pictureC}
+use Rattle.cabi.specs.Calls.{chipsOf, pictureC}
+use Rattle.cabi.proofs.Seen.{seen-said}
 use Rattle.cabi.proofs.Sizes.{first-sized, second-sized}
 use borrow.Author.Needs.{needs}
 use Rattle.cabi.proofs.humtrellis_picture.Statement.{statement}
@@ -15,7 +20,10 @@ returns c = let put = c .before .before in
     let said = put .before .before in
     let shown = said .before .before .before in
     let read = shown .before .before in
-    rw (read .before .if1 .taken, put .put-numbers .ensures .0, put .put-numbers .ensures .1, said .picture-numbers .ensures, ap (λ (s : Seen). s .result) (shown .picture .ensures .0), ap (λ (s : Seen). s .out) (shown .picture .ensures .0), read .both-of .ensures)
+    let a = read .before .before .before .before .before .before .args in
+    seen-said (eqb (length (a .registers .now)) 18) (a .out .now) (a .answer .now) (read .before .if1 .taken)
+    (shown .picture .ensures .0 ∙ ap (λ (r : Both). pictureCall pcf8532 (chipsOf (a .chips0) (a .chips1)) r (a .ram .now) (a .group) (a .phase) (a .out .now)) (read .both-of .ensures))
+    (said .picture-numbers .ensures) (put .put-numbers .ensures)
 
 returns-2 : tie.Need-returns-2
 unfolding pictureC
