@@ -8,7 +8,7 @@ ghost use Rattle.sheet.specs.declared.Check.the-variants.{Passed};
 ghost use Rattle.sheet.specs.Parts.{pcf8532};
 ghost use Rattle.sheet.specs.Registers.{bankRow};
 ghost use Rattle.sheet.specs.Checks.{overIn};
-ghost use Rattle.sheet.specs.Data.{changed, withRow, putBits, widthOf};
+ghost use Rattle.sheet.specs.Data.{changed, withRow, putBits};
 ghost use Rattle.sheet.specs.Runs.{putRun, writtenBy};
 ghost use Rattle.ram.specs.Writes.{Whole, Cut, Run, Writable};
 

@@ -1,8 +1,5 @@
 -- `lines::put_record` meets its contract: the transfer's line, and the one of what was seen or nothing.
 -- Assumes nothing.
-use mathlib.Core.Path.{ap}
-use mathlib.Core.List.{List, [], _++_}
-use Prim.Native.Nat.{ℕ}
 use borrow.Author.Tests.{eq-eqb, ne-eqb}
 use Rattle.sheet.specs.Logs.{modelled, transferLine, seenLine, recordLines}
 use Rattle.text.proofs.Writing.{Writing, begin, rest-is, turn, last, done, room-for}

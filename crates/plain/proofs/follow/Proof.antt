@@ -1,9 +1,8 @@
 -- `plain::follow` meets its contract: a walk of its MIR, by hand. The list is opened once, before the loop; in each turn its row is shown to `smallest` and lent to `take_all`, and the bytes are passed on to `next`.
 -- Assumes nothing.
-use Rattle.walks.proofs.Walk.{_≡_, refl, sym, subst, List, [], _∷_, map, ℕ, _-_, _<_, _≤_, arith, ltb→lt, nltb→le, length, URA, fullShare, Lfts, Args, w64, SProp, emp, id⊢, Memory, Routine, Heap, Tables, Atoms, Fun, factI, givenOf, tables, tablesOf, Given, ‵, Sq, runs, _$_, !, move, rewrite, lit, of-opd, bin, and-then, no-more, agg, Is, u8, usize, unit, sliceVal, Room, row, plain, Meets, tripleOf, entered, cited}
-use Rattle.walks.proofs.Walk.{Cell, room, holds, rooms, frame, env, get, field, sets, forgets, leaves, number, nothing, opened, opens, shuts, shared, slice, reslices, Loop, Turned, turned, goes-on, next-turn, last, calls-showing, calls-lending, calls-passing, Mut-shared-walk, mut-shared-meets, said-both}
+use Rattle.walks.proofs.Walk.{_≡_, refl, sym, subst, List, [], _∷_, map, _-_, _<_, _≤_, arith, ltb→lt, nltb→le, length, URA, fullShare, Lfts, Args, SProp, emp, id⊢, Memory, Routine, Heap, Tables, Atoms, Fun, factI, givenOf, tables, tablesOf, Given, ‵, Sq, runs, _$_, !, move, rewrite, of-opd, bin, and-then, no-more, Is, u8, unit, sliceVal, Room, row, plain, Meets, tripleOf, entered, cited}
+use Rattle.walks.proofs.Walk.{Cell, room, holds, rooms, frame, env, get, field, sets, forgets, leaves, nothing, opened, opens, shuts, shared, slice, reslices, Loop, Turned, turned, goes-on, next-turn, last, calls-showing, calls-lending, calls-passing, Mut-shared-walk, mut-shared-meets, said-both}
 use denote.Struct.Laws.{owed}
-use denote.Enum.Laws.{owes}
 use Rattle.sheet.specs.declared.Chip.{Chip}
 use Rattle.plain.specs.declared.Turn.{Turn}
 use Rattle.sheet.specs.declared.Acknowledger.{Acknowledger}

@@ -1,6 +1,5 @@
 -- `protocol::acknowledger` meets its contract.
 -- Assumes nothing.
-use Prim.Native.Nat.{_/_}
 use native.Mathlib.Omega.{arith}
 use native.Mathlib.Nat.{div-le-self}
 use borrow.Author.Tests.{lt-ltb, le-ltb}

@@ -7,7 +7,7 @@ use native.Mathlib.Omega.{arith}
 use lib.ListN.{length, drop}
 use Rattle.sheet.specs.Logs.{seenBytes, logRecords}
 use Rattle.records.specs.declared.Record.{Record}
-use Rattle.records.specs.declared.Record.the-variants.{Body, End, Cut, Short}
+use Rattle.records.specs.declared.Record.the-variants.{End, Cut, Short}
 use Rattle.records.specs.Found.{recordIn, recordsAt, Counted, AllCounted}
 use Rattle.records.proofs.Found.{Next, Found, found}
 use borrow.Author.Needs.{needs}

@@ -1,6 +1,5 @@
 -- `records::seen_bytes` meets its contract, by the version.
 -- Assumes nothing.
-use mathlib.Core.Path.{sym, _∙_}
 use borrow.Author.Tests.{eq-eqb, ne-eqb}
 use borrow.Author.Needs.{needs}
 use Rattle.records.proofs.seen_bytes.Statement.{statement}
