@@ -125,3 +125,14 @@ fn ended_by_a_signal() {
     let ended = run_in(&folder, "bin/replay log");
     ended.expect_failure("bin/replay: the program ended with status 139");
 }
+
+/// A program for another processor: the shell says that it cannot run it, and the script why.
+#[test]
+fn other_processor() {
+    let folder = repository("other_processor");
+    write_tool(&format!("{folder}/target/bin/replay"), "\x7fELF\0");
+    let ended = run_in(&folder, "bin/replay log");
+    ended.expect_status(2);
+    let message = "bin/replay: the program is for x86-64 Linux, which this machine does not run\n";
+    assert!(ended.err.ends_with(message), "{ended:?}");
+}
