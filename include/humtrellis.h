@@ -57,6 +57,10 @@ enum humtrellis_answer {
     HUMTRELLIS_LIT = 2,          /* elements; a picture */
     HUMTRELLIS_STORED = 3,       /* bits; a transfer */
     HUMTRELLIS_DISCARDED = 4,    /* bits past the group's last chip; a transfer */
+    HUMTRELLIS_RECORDS_KEPT = 2,   /* a rescue */
+    HUMTRELLIS_BYTES_KEPT = 3,     /* a rescue; the head included */
+    HUMTRELLIS_BYTES_DROPPED = 4,  /* a rescue */
+    HUMTRELLIS_TEAR = 5,           /* a rescue: its offset; the log's length where nothing is torn */
     HUMTRELLIS_ACKNOWLEDGED_BY = 5 /* the subaddress that acknowledged the last data byte of a transfer or plain transfer; HUMTRELLIS_NONE where none did, there is no data, or it is refused */
 };
 
@@ -71,7 +75,7 @@ enum humtrellis_refusal {
     HUMTRELLIS_REFUSED_REGISTER = 6,      /* out of range, in either group */
     HUMTRELLIS_REFUSED_COMMAND = 7,       /* undefined, in a transfer that a chip hears; place: the first, the address is byte 0 */
     HUMTRELLIS_REFUSED_VIEW = 8,          /* group or phase over 1 */
-    HUMTRELLIS_REFUSED_OUT_LENGTH = 9,    /* not 160 bytes for each chip shown */
+    HUMTRELLIS_REFUSED_OUT_LENGTH = 9,    /* not 160 bytes for each chip shown; of a rescue, shorter than the log */
     HUMTRELLIS_REFUSED_CHIP_LIST = 10,    /* more than 8 plain chips */
     HUMTRELLIS_REFUSED_CHIP = 11,         /* a field or column of a plain chip out of range; place: the first such chip */
     HUMTRELLIS_REFUSED_LOG = 12,          /* under 3 bytes or version not 1 or 2; this, the next two and 20 stand in a log's text */
@@ -112,6 +116,11 @@ uint8_t humtrellis_chip_power_on(uint8_t *chip, size_t chip_length, size_t *answ
 /* The lit elements of one plain chip at a blink phase into 160 bytes. Answer: number, place, lit, 0, 0, 0. Refusals: 11 with place 0, 8, 9. */
 uint8_t humtrellis_chip_picture(const uint8_t *chip, size_t chip_length, uint8_t phase,
                                 uint8_t *out, size_t out_length, size_t *answer, size_t answer_length);
+
+/* What is whole of a torn bus log, its head and the records before the first tear, at the front of `out`; the bytes behind it stay.
+ * Answer: number, place, records kept, bytes kept, bytes dropped, offset of the tear. Refusals: 14, 12, 3, then 9 for `out` shorter than `log`. */
+uint8_t humtrellis_rescue(const uint8_t *log, size_t log_length, uint8_t *out, size_t out_length,
+                          size_t *answer, size_t answer_length);
 
 /* The text of a bus log (docs/BENCH.md) at the front of `out`; the bytes behind it stay. Returns the text's length, which is never 0;
  * returns 0, and nothing is written, if `out` has under HUMTRELLIS_TEXT bytes. A refused log has a text too, its X line. */

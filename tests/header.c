@@ -175,6 +175,18 @@ static void logs(void) {
     EXPECT(humtrellis_replay(cut, sizeof cut, text, HUMTRELLIS_TEXT - 1) == 0);
 }
 
+/* A log whose second record is cut: the head and the first are kept, and the bytes behind them stay. */
+static void rescues(void) {
+    const uint8_t torn[] = {1, 1, 0, 0, 1, 0x70, 0, 2, 0x70};
+    memset(text, 9, sizeof torn);
+    EXPECT(humtrellis_rescue(torn, sizeof torn, text, sizeof torn - 1, answer, HUMTRELLIS_ANSWER) == HUMTRELLIS_REFUSED_OUT_LENGTH);
+    EXPECT(humtrellis_rescue(torn, sizeof torn, text, sizeof torn, answer, HUMTRELLIS_ANSWER - 1) == HUMTRELLIS_SIZE && text[0] == 9);
+    EXPECT(humtrellis_rescue(torn, sizeof torn, text, sizeof torn, answer, HUMTRELLIS_ANSWER) == HUMTRELLIS_TAKEN);
+    EXPECT(answer[HUMTRELLIS_RECORDS_KEPT] == 1 && answer[HUMTRELLIS_BYTES_KEPT] == 6 && answer[HUMTRELLIS_BYTES_DROPPED] == 3);
+    EXPECT(answer[HUMTRELLIS_TEAR] == 6 && HUMTRELLIS_BYTES_KEPT == 3 && HUMTRELLIS_TEAR == 5);
+    EXPECT(memcmp(text, torn, 6) == 0 && text[6] == 9 && text[8] == 9);
+}
+
 int main(void) {
     registers_by_name();
     ranges();
@@ -185,5 +197,6 @@ int main(void) {
     plain_chips();
     one_chip();
     logs();
+    rescues();
     return failures != 0;
 }

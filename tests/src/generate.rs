@@ -436,6 +436,24 @@ pub fn log(random: &mut Random) -> Vec<u8> {
     }
 }
 
+/// A log of either version whose logger lost power: cut anywhere behind the head, and perhaps with 00, FF or other bytes behind the cut.
+pub fn torn_log(random: &mut Random) -> Vec<u8> {
+    let traffic = traffic(clean_transfer, random);
+    let mut log = match random.below(2) {
+        0 => traffic.log(),
+        _ => traffic.seen_log(random),
+    };
+    log.truncate(random.between(3, log.len()));
+    let length = random.pick(&[0, 0, 1, 2, 3, 40]);
+    let behind = match random.below(3) {
+        0 => vec![0x00; length],
+        1 => vec![0xFF; length],
+        _ => random.bytes(length),
+    };
+    log.extend(behind);
+    log
+}
+
 /// A log over the limit of length.
 pub fn too_long_log(random: &mut Random) -> Vec<u8> {
     log_of_length(random, LOG_LIMIT + 1)

@@ -1,4 +1,4 @@
-//! The model, bit by bit as paper 01 tells it, amended by requests 3, 4, 7 and 10 of paper 02: the long account, the plain account and bus logs.
+//! The model, bit by bit as paper 01 tells it, amended by requests 3, 4, 7, 10 and 11 of paper 02: the long account, the plain account, bus logs and their rescue.
 
 /// Numbers of an answer.
 pub const ANSWER: usize = 6;
@@ -620,11 +620,16 @@ struct Record<'a> {
     bytes: &'a [u8],
 }
 
-/// The records of a log, or the refusal of the whole log.
-fn records(log: &[u8]) -> Result<Vec<Record<'_>>, (usize, usize)> {
+/// What is refused before a record is looked at: the log's length and its head.
+fn check_head(log: &[u8]) -> Check {
     refuse_if(log.len() > LOG_LIMIT, 14)?;
     refuse_if(log.len() < 3 || !matches!(log[0], 1 | 2), 12)?;
-    check_counts(log[1], log[2])?;
+    check_counts(log[1], log[2])
+}
+
+/// The records of a log, or the refusal of the whole log.
+fn records(log: &[u8]) -> Result<Vec<Record<'_>>, (usize, usize)> {
+    check_head(log)?;
     let mut records = Vec::new();
     let mut at = 3;
     while at < log.len() {
@@ -743,6 +748,34 @@ fn shown_lines(view: View) -> (String, usize) {
         lines += &format!("S {} {column} {value}\n", view.group);
     }
     (lines, answer.counts[0])
+}
+
+// ---- Rescue of a torn log --------------------------------------------------
+
+fn check_rescue(log: &[u8], room: usize) -> Check {
+    check_head(log)?;
+    refuse_if(room < log.len(), 9)
+}
+
+/// Copies the head and the whole records before the first tear: number, place, records kept, bytes kept, bytes dropped, offset of the tear.
+pub fn rescue(log: &[u8], out: &mut [u8]) -> [usize; ANSWER] {
+    if let Err(refusal) = check_rescue(log, out.len()) {
+        return refused(refusal).numbers();
+    }
+    let (mut records, mut at) = (0, 3);
+    while let Some(length) = whole_record(log[0], &log[at..]) {
+        records += 1;
+        at += length;
+    }
+    out[..at].copy_from_slice(&log[..at]);
+    [0, 0, records, at, log.len() - at, at]
+}
+
+/// The bytes of the record that stands first, its length field included, if it is there to its end and has room for what its version asks.
+fn whole_record(version: u8, rest: &[u8]) -> Option<usize> {
+    let body = body(rest)?;
+    record(version, body)?;
+    Some(2 + body.len())
 }
 
 #[cfg(test)]

@@ -4,6 +4,8 @@
 mod control;
 #[path = "last_chip_tests.rs"]
 mod last_chip;
+#[path = "rescue_tests.rs"]
+mod rescue;
 #[path = "seen_tests.rs"]
 mod seen;
 

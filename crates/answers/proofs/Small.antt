@@ -8,11 +8,12 @@ use lib.ListN.{getD}
 use Rattle.sheet.specs.declared.Answer.{Answer}
 use Rattle.sheet.specs.declared.PlainAnswer.{PlainAnswer}
 use Rattle.sheet.specs.declared.Pictured.{Pictured}
+use Rattle.sheet.specs.declared.Rescued.{Rescued}
 use Rattle.sheet.specs.declared.Check.{Check}
 use Rattle.sheet.specs.declared.Refusal.{Refusal}
-use Rattle.sheet.specs.declared.Refusal.the-variants.{EmptyTransfer, LongTransfer, ChipCount, RamLength, RamByte, Register, UndefinedCommand, GroupOrPhase, PictureLength, ManyChips, ChipField, LogHead, CutRecord, LongLog, StrayBits, ShortBody}
+use Rattle.sheet.specs.declared.Refusal.the-variants.{EmptyTransfer, LongTransfer, ChipCount, RamLength, RamByte, Register, UndefinedCommand, GroupOrPhase, OutputLength, ManyChips, ChipField, LogHead, CutRecord, LongLog, StrayBits, ShortBody}
 use Rattle.sheet.specs.Parts.{pcf8532}
-use Rattle.sheet.specs.Refusals.{numberOf, numbers, plainNumbers, pictureNumbers, checkNumbers}
+use Rattle.sheet.specs.Refusals.{numberOf, numbers, plainNumbers, pictureNumbers, rescuedNumbers, checkNumbers}
 
 small : (r : Refusal) → numberOf r < 256
 small EmptyTransfer = omega arith
@@ -23,7 +24,7 @@ small (RamByte at) = omega arith
 small Register = omega arith
 small (UndefinedCommand at) = omega arith
 small GroupOrPhase = omega arith
-small PictureLength = omega arith
+small OutputLength = omega arith
 small ManyChips = omega arith
 small (ChipField at) = omega arith
 small LogHead = omega arith
@@ -48,3 +49,7 @@ module _ {l : List ℕ} where
   pub check-small : (k : Check) → l ≡ checkNumbers k → getD l 0 0 < 256
   check-small Check.Passed e = rw e (omega arith)
   check-small (Check.Refused r) e = rw e (small r)
+
+  pub rescued-small : (p : Rescued) → l ≡ rescuedNumbers p → getD l 0 0 < 256
+  rescued-small (Rescued.Kept records bytes dropped tear) e = rw e (omega arith)
+  rescued-small (Rescued.Refused r) e = rw e (small r)

@@ -5,10 +5,11 @@ use sheet::Check;
 use sheet::Pictured;
 use sheet::PlainAnswer;
 use sheet::Refusal;
+use sheet::Rescued;
 ghost use mathlib.Core.Path.{_≡_};
 ghost use Rattle.sheet.specs.Parts.{pcf8532};
 ghost use Rattle.sheet.specs.Logs.{modelled};
-ghost use Rattle.sheet.specs.Refusals.{numberOf, placeOf, lastNumber, refusalNumbers, numbers, plainNumbers, pictureNumbers, checkNumbers};
+ghost use Rattle.sheet.specs.Refusals.{numberOf, placeOf, lastNumber, refusalNumbers, numbers, plainNumbers, pictureNumbers, rescuedNumbers, checkNumbers};
 
 // The paper's number of a refusal.
 pub fn number_of(refusal: Refusal) -> usize
@@ -23,7 +24,7 @@ pub fn number_of(refusal: Refusal) -> usize
         Refusal::Register => 6,
         Refusal::UndefinedCommand(_) => 7,
         Refusal::GroupOrPhase => 8,
-        Refusal::PictureLength => 9,
+        Refusal::OutputLength => 9,
         Refusal::ManyChips => 10,
         Refusal::ChipField(_) => 11,
         Refusal::LogHead => 12,
@@ -51,7 +52,7 @@ pub fn place_of(refusal: Refusal) -> usize
         Refusal::RamLength => 0,
         Refusal::Register => 0,
         Refusal::GroupOrPhase => 0,
-        Refusal::PictureLength => 0,
+        Refusal::OutputLength => 0,
         Refusal::ManyChips => 0,
         Refusal::LogHead => 0,
         Refusal::LongLog => 0,
@@ -119,6 +120,21 @@ pub fn picture_numbers(pictured: Pictured) -> [usize; 6]
     match pictured {
         Pictured::Lit(lit) => [0, 0, lit, 0, 0, 0],
         Pictured::Refused(refusal) => refusal_numbers(refusal, 0),
+    }
+}
+
+// Of a rescue: records kept, bytes kept, bytes dropped, and the offset of the tear.
+pub fn rescued_numbers(rescued: Rescued) -> [usize; 6]
+    ensures { λ r. ⌜ r ≡ rescuedNumbers rescued ⌝ }
+{
+    match rescued {
+        Rescued::Kept {
+            records,
+            bytes,
+            dropped,
+            tear,
+        } => [0, 0, records, bytes, dropped, tear],
+        Rescued::Refused(refusal) => refusal_numbers(refusal, 0),
     }
 }
 

@@ -25,15 +25,16 @@ use Rattle.sheet.specs.Commands.{defined}
 use Rattle.sheet.specs.Protocol.{heardBy, chipsIn, next}
 use Rattle.sheet.specs.Checks.{unless, orElse, checkChips, checkLength, faultOf, fault, faultIn, checkBytes, checkTransfer}
 use Rattle.sheet.specs.Long.{begun, State, Group, heard, taken, answered, transferCall, registersOf, columnsOf}
-use Rattle.sheet.specs.Records.{Records, lengthOf, readIn, recordsFrom}
-use Rattle.sheet.specs.Logs.{seenBytes, logRecords, checkLog}
+use Rattle.sheet.specs.Records.{Records, lengthOf, sizeOf, readIn, recordsFrom}
+use Rattle.sheet.specs.Logs.{seenBytes, logRecords, checkHead, checkLog}
 use Rattle.sheet.specs.Agree.{Valid}
 use Rattle.laws.proofs.Fits.{fits-of, transfer-passed}
+use Rattle.laws.proofs.Rescued.{headed}
 use Rattle.laws.proofs.Kept.{pcf8532-keeps}
 use Rattle.laws.proofs.Lens.{few-chips-in, group-kept}
 use Rattle.laws.proofs.Acknowledgers.{heard-among, last-few}
 use Rattle.laws.proofs.Sums as sums
-use borrow.Author.Tests.{leb-true, le-leb, lt-leb}
+use borrow.Author.Tests.{le-leb, lt-leb}
 use Rattle.lemmas.proofs.Order.{lt-or-le}
 use Rattle.buslog.proofs.Widths.{Below, Small}
 
@@ -72,11 +73,6 @@ unfolding faultIn
 faults-few e i [] h = tt
 faults-few e i (x ∷ xs) h = either (fault pcf8532 e i x) _ (fault-few e i x (omega arith)) (faults-few (next e x) (suc i) xs (omega arith))
 
--- the bytes of records, with their length fields
-abbrev pub weight : List (List ℕ) → ℕ
-weight [] = 0
-weight (t ∷ ts) = length t + 2 + weight ts
-
 -- each body has the bytes of what was seen
 abbrev pub Begun : ℕ → List (List ℕ) → Type 0
 Begun seen [] = Unit {0}
@@ -84,7 +80,7 @@ Begun seen (body ∷ bodies) = (seen ≤ length body) × Begun seen bodies
 
 -- records of so many bytes: they have no more, and what was seen, and a tear's place is small
 pub record Bounded (seen size : ℕ) (r : Records) : Type 0 where
-  pub weigh : weight (r .bodies) ≤ size
+  pub weigh : sizeOf (r .bodies) ≤ size
   pub begun : Begun seen (r .bodies)
   pub torn : Few (r .tear)
 
@@ -116,13 +112,20 @@ log-bounded log h =
     record { weigh = omega (arith, b .weigh); begun = b .begun; torn = b .torn }
 
 -- a log's refusal
-pub log-few : (log : List ℕ) → Few (checkLog log)
-unfolding checkLog checkChips
-log-few log =
+head-few : (log : List ℕ) → Few (checkHead log)
+unfolding checkHead checkChips
+head-few log =
     first (leb (length log) 65536) LongLog _ (omega arith)
-    (λ e. first (leb 3 (length log) && (eqb (getD log 0 0) 1 || eqb (getD log 0 0) 2)) LogHead _ (omega arith)
-    (λ _. first (leb (getD log 1 0) 4 && leb (getD log 2 0) 4) ChipCount _ (omega arith)
-    (λ _. log-bounded log (leb-true (length log) 65536 e) .torn)))
+    (λ _. first (leb 3 (length log) && (eqb (getD log 0 0) 1 || eqb (getD log 0 0) 2)) LogHead _ (omega arith)
+    (λ _. unless-few (leb (getD log 1 0) 4 && leb (getD log 2 0) 4) ChipCount (omega arith)))
+
+pub log-few : (log : List ℕ) → Few (checkLog log)
+unfolding checkLog
+log-few log = by-head (checkHead log) refl (head-few log)
+  where
+    by-head : (k : Check) → checkHead log ≡ k → Few k → Few (orElse k (logRecords log .tear))
+    by-head Passed e f = log-bounded log (headed log e .short) .torn
+    by-head (Refused r) e f = f
 
 -- ---- transfers
 

@@ -1,12 +1,13 @@
 -- What holds while a log's transfers are carried out: what is left gives the whole text and the state at the end.
 -- Assumes nothing.
-use mathlib.Core.Path.{_≡_, refl, sym, ap, _∙_}
-use mathlib.Core.List.{List, [], _∷_, _++_}
-use Prim.Native.Nat.{ℕ, zero, suc, _+_, _-_, _≤_}
+use mathlib.Core.Path.{_≡_, sym, ap, _∙_}
+use mathlib.Core.List.{List, _++_}
+use Prim.Native.Nat.{ℕ, _+_, _-_, _≤_}
 use native.Mathlib.Numerals.{add-one}
 use native.Mathlib.Omega.{arith}
 use lib.ListN.{length, take, drop}
 use lib.Seq.{drop-drop}
+use Rattle.lemmas.proofs.Lists.{drop-take}
 use Rattle.sheet.specs.declared.Chips.{Chips}
 use Rattle.sheet.specs.declared.Check.the-variants.{Passed}
 use Rattle.sheet.specs.Parts.{pcf8532}
@@ -24,17 +25,6 @@ pub record Playing (log : List ℕ) (n : Chips) (s₀ : State) (out₀ : List �
   pub whole : recordsAt (seenBytes log) log place .tear ≡ Passed
   pub few : i ≤ place
   pub long : length (s .ram) ≡ length (s₀ .ram)
-
-take-none : (n : ℕ) → take {A = ℕ} n [] ≡ []
-take-none zero = refl
-take-none (suc n) = refl
-
--- a part of a list without its first bytes
-drop-take : (k n : ℕ) (l : List ℕ) → k ≤ n → drop k (take n l) ≡ take (n - k) (drop k l)
-drop-take zero n l h = let all : n - 0 ≡ n = omega arith in rw all
-drop-take (suc k) zero l h = absurd (omega arith)
-drop-take (suc k) (suc n) [] h = sym (take-none (suc n - suc k))
-drop-take (suc k) (suc n) (x ∷ l) h = let less : suc n - suc k ≡ n - k = omega arith in rw less (drop-take k n l (omega arith))
 
 -- the transfer in a body is the part of the log after what was seen
 pub transfer-in : (seen start size : ℕ) (log : List ℕ) → seen ≤ size → take (start + size - (start + seen)) (drop (start + seen) log) ≡ drop seen (take size (drop start log))

@@ -21,6 +21,7 @@ use Rattle.sheet.specs.Refusals.{numberOf, placeOf, numbers}
 use Rattle.sheet.specs.Parts.{pcf8532}
 use Rattle.sheet.specs.Registers.{backplanes}
 use Rattle.sheet.specs.Protocol.{chipsIn}
+use Rattle.sheet.specs.Records.{sizeOf}
 use Rattle.sheet.specs.Pictures.{shown, lit, pictureOf, litIn}
 use Rattle.sheet.specs.Long.{State, stateAfter, transferCall, registersOf, columnsOf, startOf, stateAfterAll}
 use Rattle.sheet.specs.Logs.{logChips, seenBytes, logRecords, logTransfers, checkLog, line, transferLetter, seenLetter, columnLetter, groupLetter, refusalLetter, transferLine, modelled, seenIn, seenLine, recordLines, transferLines, columnLine, columnLines, groupLine, shownAt, endLines, logStart, logLines, textBy, textOf}
@@ -32,7 +33,7 @@ use Rattle.laws.proofs.Lens.{few-chips-in, length-columns}
 use Rattle.records.specs.Found.{AllCounted}
 use Rattle.buslog.specs.Replays.{room}
 use Rattle.buslog.proofs.Widths.{line-few, line-last, line-short}
-use Rattle.buslog.proofs.Numbers.{weight, Begun, Few, Told, log-bounded, log-few, transfer-few, transfer-short}
+use Rattle.buslog.proofs.Numbers.{Begun, Few, Told, log-bounded, log-few, transfer-few, transfer-short}
 use Rattle.buslog.proofs.Checked.{checked}
 use Rattle.buslog.proofs.States.{start-valid}
 
@@ -86,8 +87,8 @@ record-lines false n i s body v short h c two =
     omega (arith, length-append (transferLine i a) [], transfer-line n i s body v short h)
 
 -- i records before these had two bytes at least
-transfers-few : (two : Bool) (n : Chips) (i : ℕ) (s : State) (bodies : List (List ℕ)) → Valid pcf8532 n s → 2 * i + weight bodies ≤ 65536 → Begun (seenBy two) bodies → AllCounted bodies
-    → length (transferLines (seenBy two) n i s bodies) ≤ 10 * weight bodies
+transfers-few : (two : Bool) (n : Chips) (i : ℕ) (s : State) (bodies : List (List ℕ)) → Valid pcf8532 n s → 2 * i + sizeOf bodies ≤ 65536 → Begun (seenBy two) bodies → AllCounted bodies
+    → length (transferLines (seenBy two) n i s bodies) ≤ 10 * sizeOf bodies
 unfolding transferLines
 transfers-few two n i s [] v h b c = omega arith
 transfers-few two n i s (body ∷ bodies) v h b c =

@@ -5,14 +5,13 @@ use sheet::Both;
 use sheet::Check;
 use sheet::Chips;
 use sheet::Pictured;
-use sheet::Refusal;
 ghost use mathlib.Core.Path.{_≡_};
 ghost use Prim.Native.Nat.{_+_, _≤_};
 ghost use lib.ListN.{length, replicate};
 ghost use Rattle.sheet.specs.Parts.{pcf8532};
 ghost use Rattle.sheet.specs.Pictures.{litIn};
 ghost use Rattle.sheet.specs.Long.{stateOf, stateAfterAll};
-ghost use Rattle.sheet.specs.Logs.{logChips, seenBytes, logRecords, logTransfers, checkLog, transferLines, columnLines, shownAt, endLines, logLines, textOf};
+ghost use Rattle.sheet.specs.Logs.{seenBytes, logRecords, logTransfers, checkLog, transferLines, columnLines, shownAt, endLines, logLines, textOf};
 ghost use Rattle.sheet.specs.Agree.{Valid};
 ghost use Rattle.text.specs.Texts.{Puts};
 ghost use Rattle.records.specs.Found.{AllCounted};
@@ -21,32 +20,14 @@ ghost use Rattle.buslog.specs.Replays.{replayCall, Inside};
 
 // ---- the log
 
-// The chips in groups 0 and 1: bytes 1 and 2.
-fn chips_of(log: &[u8]) -> Chips
-    ensures { λ r. ⌜ r ≡ logChips (now (log .entry)) ⌝ }
-{
-    Chips {
-        zero: checks::byte_at(log, 1),
-        one: checks::byte_at(log, 2),
-    }
-}
-
 // A log is checked whole before its first line is written: 14, 12, 3, then 13 and 20.
 fn check_log(log: &[u8]) -> Check
     ensures { λ r. ⌜ r ≡ checkLog (now (log .entry)) ⌝ }
     ensures { λ r. ⌜ (r ≡ Check.Passed → AllCounted (logRecords (now (log .entry)) .bodies)) ⌝ }
 {
-    if 65536 < log.len() {
-        return Check::Refused(Refusal::LongLog);
-    }
-    let version = checks::byte_at(log, 0);
-    if (3 <= log.len()) & ((version == 1) | (version == 2)) {
-        match checks::check_chips(chips_of(log)) {
-            Check::Refused(refusal) => Check::Refused(refusal),
-            Check::Passed => records::check_records(log),
-        }
-    } else {
-        Check::Refused(Refusal::LogHead)
+    match records::check_head(log) {
+        Check::Refused(refusal) => Check::Refused(refusal),
+        Check::Passed => records::check_records(log),
     }
 }
 
@@ -158,7 +139,7 @@ fn put_log(log: &[u8], out: &mut [u8]) -> usize
     requires { ⌜ length (textOf (now log)) ≤ length (now out) ⌝ }
     ensures { λ r. ⌜ Puts 0 (textOf (now (log .entry))) (now (out .entry)) (now (out .exit)) r ⌝ }
 {
-    let chips = chips_of(log);
+    let chips = records::chips_of(log);
     let mut ram = blank_ram();
     let size = 160 * (chips.zero as usize + chips.one as usize);
     play(log, chips, &mut ram[..size], out)

@@ -1,15 +1,16 @@
 -- The calls as C sees them: registers and chips as bytes, answers as numbers, through the definitions of `sheet`. Assumes nothing.
 use Prim.Native.Nat.{ℕ, _%_}
-use mathlib.Core.Bool.{Bool, cond, _&&_}
+use mathlib.Core.Bool.{Bool, true, cond, _&&_}
 use mathlib.Core.List.{List}
 use lib.Dec.{eqb}
 use lib.ListN.{length, getD}
 use Rattle.sheet.specs.declared.Chips.{Chips}
-use Rattle.sheet.specs.Refusals.{numbers, plainNumbers, pictureNumbers, checkNumbers}
+use Rattle.sheet.specs.Refusals.{numbers, plainNumbers, pictureNumbers, rescuedNumbers, checkNumbers}
 use Rattle.sheet.specs.Parts.{pcf8532}
 use Rattle.sheet.specs.Pictures.{Seen}
 use Rattle.sheet.specs.Long.{powerOnCall, transferCall, pictureCall}
 use Rattle.sheet.specs.Plain.{chipPowerOn, chipPictureCall}
+use Rattle.sheet.specs.Rescue.{rescueCall}
 use Rattle.buslog.specs.declared.Replayed.{Replayed}
 use Rattle.lent.specs.Lent.{lentCall}
 use Rattle.wire.specs.Bytes.{bothOf, bothBytes, chipIn, chipBytes}
@@ -80,6 +81,13 @@ plainC chips bytes answer =
     let s = lentCall chips bytes in
     let k = plainNumbers pcf8532 (s .answer) in
     filled (eqb (length chips % 171) 0) chips answer (record { number = getD k 0 0; buffer = s .chips; answer = k })
+
+-- what is whole of a torn log
+unfoldable pub rescueC : List ℕ → List ℕ → List ℕ → Filled
+rescueC log out answer =
+    let s = rescueCall log out in
+    let k = rescuedNumbers (s .result) in
+    filled true out answer (record { number = getD k 0 0; buffer = s .out; answer = k })
 
 -- ---- replay
 

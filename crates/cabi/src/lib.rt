@@ -4,7 +4,7 @@ use buslog::Replayed;
 use sheet::Chips;
 ghost use mathlib.Core.Path.{_≡_};
 ghost use Rattle.buslog.specs.Replays.{replayCall};
-ghost use Rattle.cabi.specs.Calls.{powerOnC, transferC, pictureC, chipPowerOnC, chipPictureC, plainC, replayNumber};
+ghost use Rattle.cabi.specs.Calls.{powerOnC, transferC, pictureC, chipPowerOnC, chipPictureC, plainC, rescueC, replayNumber};
 
 // Power-on of the long account, taken or refused by 3, 4, 5.
 #[no_mangle]
@@ -135,6 +135,19 @@ pub extern "C" fn humtrellis_plain_transfer(
     if (chips.len() % 171 == 0) & (answer.len() == 6) {
         let said = lent::transfer(chips, bytes);
         wire::put_numbers(answers::plain_numbers(said), answer)
+    } else {
+        255
+    }
+}
+
+// What is whole of a torn log to the start of `out`, or a refusal by 14, 12, 3, 9.
+#[no_mangle]
+pub extern "C" fn humtrellis_rescue(log: &[u8], out: &mut [u8], answer: &mut [usize]) -> u8
+    ensures { λ r. ⌜ rescueC (now (log .entry)) (now (out .entry)) (now (answer .entry)) ≡ record { number = r; buffer = now (out .exit); answer = now (answer .exit) } ⌝ }
+{
+    if answer.len() == 6 {
+        let rescued = torn::rescue(log, out);
+        wire::put_numbers(answers::rescued_numbers(rescued), answer)
     } else {
         255
     }

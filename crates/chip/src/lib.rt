@@ -144,7 +144,7 @@ fn check_picture(chip: Chip, phase: u8, size: usize) -> Check
 {
     if fits(chip) {
         if phase < 2 {
-            checks::unless(size == 160, Refusal::PictureLength)
+            checks::unless(size == 160, Refusal::OutputLength)
         } else {
             Check::Refused(Refusal::GroupOrPhase)
         }

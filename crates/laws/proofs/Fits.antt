@@ -13,7 +13,7 @@ use Rattle.sheet.specs.declared.Both.{Both}
 use Rattle.sheet.specs.declared.Chip.{Chip}
 use Rattle.sheet.specs.declared.Chips.{Chips}
 use Rattle.sheet.specs.declared.Refusal.{Refusal}
-use Rattle.sheet.specs.declared.Refusal.the-variants.{EmptyTransfer, LongTransfer, ChipCount, RamLength, Register, GroupOrPhase, PictureLength, ChipField}
+use Rattle.sheet.specs.declared.Refusal.the-variants.{EmptyTransfer, LongTransfer, ChipCount, RamLength, Register, GroupOrPhase, OutputLength, ChipField}
 use Rattle.sheet.specs.declared.Check.{Check}
 use Rattle.sheet.specs.declared.Check.the-variants.{Passed, Refused}
 use Rattle.sheet.specs.Parts.{Part}
@@ -107,7 +107,7 @@ unfolding checkPicture
 picture-passed K n r ram group phase size e =
     let s = both-pass (checkState K n r ram) _ e in
     let t = both-pass (unless (ltb group 2 && ltb phase 2) GroupOrPhase) _ (s .1) in
-    (s .0, eqb-true size (K .columns * chipsIn group n) (unless-passes _ PictureLength (t .1)))
+    (s .0, eqb-true size (K .columns * chipsIn group n) (unless-passes _ OutputLength (t .1)))
 
 -- ---- a chip of the plain account
 
@@ -124,5 +124,5 @@ pub chip-picture-passed : (K : Part) (c : Chip) (phase size : ℕ) → checkChip
 unfolding checkChipPicture
 chip-picture-passed K c phase size e =
     let s = both-pass (unless (chipFits K c) (ChipField 0)) _ e in
-    let t = both-pass (unless (ltb phase 2) GroupOrPhase) (unless (eqb size (K .columns)) PictureLength) (s .1) in
-    (registers-in K c (unless-passes _ (ChipField 0) (s .0)), eqb-true size (K .columns) (unless-passes _ PictureLength (t .1)))
+    let t = both-pass (unless (ltb phase 2) GroupOrPhase) (unless (eqb size (K .columns)) OutputLength) (s .1) in
+    (registers-in K c (unless-passes _ (ChipField 0) (s .0)), eqb-true size (K .columns) (unless-passes _ OutputLength (t .1)))

@@ -1,10 +1,11 @@
 -- Parts of a list as the code takes them: the elements from i on, one of them, and all that are left.
 -- Assumes nothing.
-use mathlib.Core.Path.{_≡_, sym, ap, _∙_}
+use mathlib.Core.Path.{_≡_, refl, sym, ap, _∙_}
 use mathlib.Core.List.{List, [], _∷_, _++_, append-nil}
-use Prim.Native.Nat.{ℕ, _+_, _-_, _<_}
+use Prim.Native.Nat.{ℕ, zero, suc, _+_, _-_, _≤_, _<_}
 use native.Mathlib.Nat.{zero-add, add-sub-cancel-left, le-refl}
 use native.Mathlib.Numerals.{add-one}
+use native.Mathlib.Omega.{arith}
 use lib.ListN.{length, getD, take, drop, length-drop, drop-of-length-le, replicate, length-replicate}
 use lib.Seq.{drop-cons, take-all, sets, sets-eq}
 
@@ -30,3 +31,14 @@ filled vs l e =
 -- how long an array of zeros is, for any length, since a long one is better not counted
 pub zeros : (n : ℕ) → n ≡ length (replicate {A = ℕ} n 0)
 zeros n = sym (length-replicate n 0)
+
+take-none : (n : ℕ) → take {A = ℕ} n [] ≡ []
+take-none zero = refl
+take-none (suc n) = refl
+
+-- a part of a list without its first bytes
+pub drop-take : (k n : ℕ) (l : List ℕ) → k ≤ n → drop k (take n l) ≡ take (n - k) (drop k l)
+drop-take zero n l h = let all : n - 0 ≡ n = omega arith in rw all
+drop-take (suc k) zero l h = absurd (omega arith)
+drop-take (suc k) (suc n) [] h = sym (take-none (suc n - suc k))
+drop-take (suc k) (suc n) (x ∷ l) h = let less : suc n - suc k ≡ n - k = omega arith in rw less (drop-take k n l (omega arith))

@@ -9,11 +9,14 @@ use lib.Dec.{leb}
 use lib.ListN.{length, take, drop, length-drop}
 use lib.Seq.{drop-drop}
 use borrow.Author.Tests.{leb-true, leb-false}
-use Rattle.sheet.specs.Records.{lengthOf, noRecords, tornAt, shortAt, withBody, nothing-left, one-byte-left, cut-short, too-short, whole}
+use denote.Enum.Declared.{tagOf}
+use types.Run.{OneOf, miss}
+use Rattle.sheet.specs.Records.{Records, lengthOf, noRecords, tornAt, shortAt, withBody, nothing-left, one-byte-left, cut-short, too-short, whole}
 use Rattle.sheet.specs.Logs.{seenIn}
 use Rattle.records.specs.declared.Record.{Record}
 use Rattle.records.specs.declared.Record.the-variants.{Body, End, Cut, Short}
 use Rattle.records.specs.Found.{recordIn, recordsAt}
+use Rattle.records.proofs.Record.{the-type}
 
 -- a whole record: its body lies in the log, has what was seen, and the walk goes on after it
 pub record Next (seen : ℕ) (log : List ℕ) (at start size count : ℕ) : Type 0 where
@@ -55,3 +58,10 @@ at-head seen log at (h ∷ l ∷ rest) e = by-length (leb (lengthOf h l) (length
 
 pub found : (seen : ℕ) (log : List ℕ) (at : ℕ) (r : Record) → r ≡ recordIn seen at (drop at log) → Found seen log at r
 found seen log at r e = subst (Found seen log at) (sym e) (at-head seen log at (drop at log) refl)
+
+-- where no whole record is found, none is left
+pub none-left : (seen : ℕ) (log : List ℕ) (at : ℕ) (r : Record) → Found seen log at r → OneOf (1 ∷ 2 ∷ 3 ∷ []) (tagOf the-type r) → recordsAt seen log at .bodies ≡ []
+none-left seen log at (Body start size count) f h = absurd (miss (1 ∷ 2 ∷ 3 ∷ []) 0 tt h)
+none-left seen log at End f h = ap (λ (k : Records). k .bodies) f
+none-left seen log at Cut f h = ap (λ (k : Records). k .bodies) f
+none-left seen log at Short f h = ap (λ (k : Records). k .bodies) f

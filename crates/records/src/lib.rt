@@ -1,12 +1,42 @@
-// A log's records: what stands at a place, and whether all of them are whole.
+// A log's head and records: whether the head is one, what stands at a place, and whether all records are whole.
 use sheet::Check;
+use sheet::Chips;
 use sheet::Refusal;
 ghost use mathlib.Core.Path.{_≡_};
 ghost use Prim.Native.Nat.{_<_};
 ghost use lib.ListN.{drop};
 ghost use Rattle.sheet.specs.Records.{lengthOf};
-ghost use Rattle.sheet.specs.Logs.{seenBytes, logRecords, seenIn};
+ghost use Rattle.sheet.specs.Logs.{logChips, seenBytes, logRecords, checkHead, seenIn};
 ghost use Rattle.records.specs.Found.{recordIn, Counted, AllCounted};
+
+// ---- the head
+
+// The chips in groups 0 and 1: bytes 1 and 2.
+pub fn chips_of(log: &[u8]) -> Chips
+    ensures { λ r. ⌜ r ≡ logChips (now (log .entry)) ⌝ }
+{
+    Chips {
+        zero: checks::byte_at(log, 1),
+        one: checks::byte_at(log, 2),
+    }
+}
+
+// 14, 12, 3.
+pub fn check_head(log: &[u8]) -> Check
+    ensures { λ r. ⌜ r ≡ checkHead (now (log .entry)) ⌝ }
+{
+    if 65536 < log.len() {
+        return Check::Refused(Refusal::LongLog);
+    }
+    let version = checks::byte_at(log, 0);
+    if (3 <= log.len()) & ((version == 1) | (version == 2)) {
+        checks::check_chips(chips_of(log))
+    } else {
+        Check::Refused(Refusal::LogHead)
+    }
+}
+
+// ---- the records
 
 // Two bytes, big-endian.
 fn length_of(high: u8, low: u8) -> usize

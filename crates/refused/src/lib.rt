@@ -98,7 +98,7 @@ pub fn check_picture(
         Check::Passed => {
             if (group < 2) & (phase < 2) {
                 let wanted = 160 * (groups::chips_in(group, chips) as usize);
-                checks::unless(size == wanted, Refusal::PictureLength)
+                checks::unless(size == wanted, Refusal::OutputLength)
             } else {
                 Check::Refused(Refusal::GroupOrPhase)
             }

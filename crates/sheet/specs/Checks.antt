@@ -12,7 +12,7 @@ use Rattle.sheet.specs.declared.Kind.{Kind}
 use Rattle.sheet.specs.declared.Expect.{Expect}
 use Rattle.sheet.specs.declared.Expect.the-variants.{Control, One, All}
 use Rattle.sheet.specs.declared.Refusal.{Refusal}
-use Rattle.sheet.specs.declared.Refusal.the-variants.{EmptyTransfer, LongTransfer, ChipCount, RamLength, RamByte, Register, UndefinedCommand, GroupOrPhase, PictureLength, StrayBits}
+use Rattle.sheet.specs.declared.Refusal.the-variants.{EmptyTransfer, LongTransfer, ChipCount, RamLength, RamByte, Register, UndefinedCommand, GroupOrPhase, OutputLength, StrayBits}
 use Rattle.sheet.specs.declared.Check.{Check}
 use Rattle.sheet.specs.declared.Check.the-variants.{Passed, Refused}
 use Rattle.sheet.specs.Parts.{Part}
@@ -95,4 +95,4 @@ checkTransfer K n r ram bytes =
 unfoldable pub checkPicture : Part → Chips → Both → List ℕ → ℕ → ℕ → ℕ → Check
 checkPicture K n r ram group phase size =
     orElse (checkState K n r ram)
-    (orElse (unless (ltb group 2 && ltb phase 2) GroupOrPhase) (unless (eqb size (K .columns * chipsIn group n)) PictureLength))
+    (orElse (unless (ltb group 2 && ltb phase 2) GroupOrPhase) (unless (eqb size (K .columns * chipsIn group n)) OutputLength))

@@ -11,6 +11,7 @@ pub mod Long
 pub mod Pictures
 pub mod Records
 pub mod Logs
+pub mod Rescue
 pub mod Plain
 pub mod Agree
 pub mod Lands
@@ -22,3 +23,4 @@ pub mod Last
 pub mod Landing
 pub mod Orders
 pub mod Worked
+pub mod Rescuing

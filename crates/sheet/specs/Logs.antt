@@ -32,12 +32,15 @@ seenBytes log = cond (eqb (getD log 0 0) 2) 2 0
 abbrev pub logRecords : List ℕ → Records
 logRecords log = recordsFrom (seenBytes log) 3 (drop 3 log)
 
--- 14, 12, 3, then 13 and 20 record by record
-unfoldable pub checkLog : List ℕ → Check
-checkLog log =
+-- 14, 12, 3
+unfoldable pub checkHead : List ℕ → Check
+checkHead log =
     orElse (unless (leb (length log) 65536) LongLog)
-    (orElse (unless (leb 3 (length log) && (eqb (getD log 0 0) 1 || eqb (getD log 0 0) 2)) LogHead)
-    (orElse (checkChips pcf8532 (logChips log)) (logRecords log .tear)))
+    (orElse (unless (leb 3 (length log) && (eqb (getD log 0 0) 1 || eqb (getD log 0 0) 2)) LogHead) (checkChips pcf8532 (logChips log)))
+
+-- then 13 and 20 record by record
+unfoldable pub checkLog : List ℕ → Check
+checkLog log = orElse (checkHead log) (logRecords log .tear)
 
 -- the transfers in bodies, each after what was seen
 abbrev pub transfersIn : ℕ → List (List ℕ) → List (List ℕ)

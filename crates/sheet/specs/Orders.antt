@@ -18,7 +18,7 @@ use Rattle.sheet.specs.Plain.{putRows, afterColumn, afterColumns, chipDa
 use Rattle.sheet.specs.Places.{advanced, position, atPosition}
 use Rattle.sheet.specs.Data.{putBits, changed, withRow, storedBits, counted, acknowledger}
 use Rattle.sheet.specs.Records.{readIn, recordsFrom}
-use Rattle.sheet.specs.Logs.{checkLog}
+use Rattle.sheet.specs.Logs.{checkHead, checkLog}
 use Rattle.sheet.specs.Starred.{same}
 use lib.Count.{ones, onesIn}
 
@@ -144,5 +144,5 @@ bodies =
     ∷ recorded (0 ∷ 0 ∷ 0 ∷ 9 ∷ []) 20 3 ∷ recorded (0 ∷ 2 ∷ 0 ∷ 0 ∷ 0 ∷ 9 ∷ []) 13 7 ∷ recorded (0 ∷ 2 ∷ 0 ∷ 0 ∷ 0 ∷ 1 ∷ 0 ∷ []) 20 7 ∷ [])
 
 pub orders : T (long && (plain && (logs && bodies)))
-unfolding checkLog recordsFrom readIn powerOnCall checkPowerOn pictureCall checkPicture chipPowerOn chipPictureCall checkChipPicture litIn ones onesIn plainCall checkPlain misfitIn chipFits plainHeard chipData afterColumn afterColumns putRows advanced acknowledgesData smallest transferCall checkTransfer checkState checkChips checkRegisters checkRam checkLength overIn faultIn heardBy heard dataByte controlOf commandOf commandIn within inRange backplanes bankRow position atPosition putBits changed withRow storedBits counted acknowledger shown pictureOf
+unfolding checkLog checkHead recordsFrom readIn powerOnCall checkPowerOn pictureCall checkPicture chipPowerOn chipPictureCall checkChipPicture litIn ones onesIn plainCall checkPlain misfitIn chipFits plainHeard chipData afterColumn afterColumns putRows advanced acknowledgesData smallest transferCall checkTransfer checkState checkChips checkRegisters checkRam checkLength overIn faultIn heardBy heard dataByte controlOf commandOf commandIn within inRange backplanes bankRow position atPosition putBits changed withRow storedBits counted acknowledger shown pictureOf
 orders = tt

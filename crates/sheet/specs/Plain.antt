@@ -11,7 +11,7 @@ use Rattle.sheet.specs.declared.Acknowledger.{Acknowledger}
 use Rattle.sheet.specs.declared.Expect.{Expect}
 use Rattle.sheet.specs.declared.Kind.{Kind}
 use Rattle.sheet.specs.declared.Expect.the-variants.{Control, One, All}
-use Rattle.sheet.specs.declared.Refusal.the-variants.{ManyChips, ChipField, GroupOrPhase, PictureLength}
+use Rattle.sheet.specs.declared.Refusal.the-variants.{ManyChips, ChipField, GroupOrPhase, OutputLength}
 use Rattle.sheet.specs.declared.Check.{Check}
 use Rattle.sheet.specs.declared.Check.the-variants.{Passed, Refused}
 use Rattle.sheet.specs.declared.PlainAnswer.{PlainAnswer}
@@ -160,7 +160,7 @@ chipPowerOn K c = record {
 -- picture into a buffer of the given size: 11, place 0, then 8, 9
 unfoldable pub checkChipPicture : Part → Chip → ℕ → ℕ → Check
 checkChipPicture K c phase size =
-    orElse (unless (chipFits K c) (ChipField 0)) (orElse (unless (ltb phase 2) GroupOrPhase) (unless (eqb size (K .columns)) PictureLength))
+    orElse (unless (chipFits K c) (ChipField 0)) (orElse (unless (ltb phase 2) GroupOrPhase) (unless (eqb size (K .columns)) OutputLength))
 
 -- the chip is shown alone, over its own registers and columns
 unfoldable pub chipPictureCall : Part → Chip → ℕ → List ℕ → Seen

@@ -35,6 +35,11 @@ withBody body after = record { bodies = body ∷ after .bodies; tear = after .te
 abbrev pub lengthOf : ℕ → ℕ → ℕ
 lengthOf h l = 256 * h + l
 
+-- the bytes of records: each a length field and a body
+abbrev pub sizeOf : List (List ℕ) → ℕ
+sizeOf [] = 0
+sizeOf (body ∷ bodies) = length body + 2 + sizeOf bodies
+
 -- k bounds how many records there are, for the recursion. 13 comes before 20
 unfoldable pub readIn : ℕ → ℕ → ℕ → List ℕ → Records
 readIn zero seen at rest = noRecords

@@ -13,7 +13,7 @@ use Rattle.sheet.specs.Long.{heard, dataByte, transferCall, stateAfterAl
 use Rattle.sheet.specs.Places.{position, atPosition}
 use Rattle.sheet.specs.Data.{putBits, changed, withRow, storedBits, counted, acknowledger}
 use Rattle.sheet.specs.Records.{tornAt, withBody, readIn, recordsFrom}
-use Rattle.sheet.specs.Logs.{logRecords, checkLog, digitsIn, decimal, spaced, transferLines, columnLines, textOf}
+use Rattle.sheet.specs.Logs.{logRecords, checkHead, checkLog, digitsIn, decimal, spaced, transferLines, columnLines, textOf}
 use Rattle.sheet.specs.Starred.{same}
 use lib.Count.{ones, onesIn}
 
@@ -43,7 +43,7 @@ workedText =
     ∷ 71 ∷ 32 ∷ 49 ∷ 32 ∷ 48 ∷ 10 ∷ []
 
 pub worked : T (same (textOf workedLog) workedText)
-unfolding textOf recordsFrom readIn checkLog digitsIn decimal spaced transferLines columnLines stateAfterAll transferCall checkTransfer checkState checkChips checkRegisters checkRam checkLength overIn faultIn heardBy heard dataByte controlOf commandOf commandIn within inRange backplanes bankRow position atPosition putBits changed withRow storedBits counted acknowledger shown pictureOf litIn ones onesIn
+unfolding textOf recordsFrom readIn checkLog checkHead digitsIn decimal spaced transferLines columnLines stateAfterAll transferCall checkTransfer checkState checkChips checkRegisters checkRam checkLength overIn faultIn heardBy heard dataByte controlOf commandOf commandIn within inRange backplanes bankRow position atPosition putBits changed withRow storedBits counted acknowledger shown pictureOf litIn ones onesIn
 worked = tt
 
 -- the same log in version 2: the analyser saw nine acknowledged bytes of the first transfer, as the model has it, 3 of the refused one and 258 of the one that nobody hears
@@ -64,7 +64,7 @@ seenText =
     ++ drop 48 workedText
 
 pub seen : T (same (textOf seenLog) seenText)
-unfolding textOf recordsFrom readIn checkLog digitsIn decimal spaced transferLines columnLines stateAfterAll transferCall checkTransfer checkState checkChips checkRegisters checkRam checkLength overIn faultIn heardBy heard dataByte controlOf commandOf commandIn within inRange backplanes bankRow position atPosition putBits changed withRow storedBits counted acknowledger shown pictureOf litIn ones onesIn
+unfolding textOf recordsFrom readIn checkLog checkHead digitsIn decimal spaced transferLines columnLines stateAfterAll transferCall checkTransfer checkState checkChips checkRegisters checkRam checkLength overIn faultIn heardBy heard dataByte controlOf commandOf commandIn within inRange backplanes bankRow position atPosition putBits changed withRow storedBits counted acknowledger shown pictureOf litIn ones onesIn
 seen = tt
 
 -- without its last byte the log is torn at offset 19, where that record's length field stands; the bodies before it are there

@@ -53,7 +53,7 @@ pub enum Refusal {
     Register,
     UndefinedCommand(usize),
     GroupOrPhase,
-    PictureLength,
+    OutputLength,
     ManyChips,
     ChipField(usize),
     LogHead,
@@ -123,6 +123,17 @@ pub enum Shown {
 
 pub enum Pictured {
     Lit(usize),
+    Refused(Refusal),
+}
+
+// What a rescue keeps of a log, drops, and where the tear is.
+pub enum Rescued {
+    Kept {
+        records: usize,
+        bytes: usize,
+        dropped: usize,
+        tear: usize,
+    },
     Refused(Refusal),
 }
 

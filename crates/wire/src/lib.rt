@@ -68,24 +68,13 @@ pub fn put_both(registers: Both, out: &mut [u8])
 
 // ---- chips
 
-fn copy(from: &[u8], to: &mut [u8])
-    requires { ⌜ length (now to) ≡ length (now from) ⌝ }
-    ensures { λ _. ⌜ now (to .exit) ≡ now (from .entry) ⌝ }
-{
-    let mut i = 0;
-    while i < from.len() {
-        to[i] = from[i];
-        i += 1;
-    }
-}
-
 // A chip, from 171 bytes.
 pub fn chip_of(bytes: &[u8]) -> Chip
     requires { ⌜ length (now bytes) ≡ 171 ⌝ }
     ensures { λ r. ⌜ r ≡ chipIn (now (bytes .entry)) ⌝ }
 {
     let mut columns = [0; 160];
-    copy(&bytes[..160], &mut columns);
+    copies::copy(&bytes[..160], &mut columns);
     Chip {
         columns,
         sa0: bytes[160],
@@ -101,7 +90,7 @@ pub fn put_chip(chip: Chip, out: &mut [u8])
 {
     let columns = chip.columns;
     let registers = chip.registers;
-    copy(&columns, &mut out[..160]);
+    copies::copy(&columns, &mut out[..160]);
     put_registers(registers, &mut out[162..]);
     out[160] = chip.sa0;
     out[161] = chip.subaddress;

@@ -36,6 +36,11 @@ extern "C" {
         answer: *mut usize, answer_length: usize,
     ) -> u8;
 
+    pub fn humtrellis_rescue(
+        log: *const u8, log_length: usize, out: *mut u8, out_length: usize,
+        answer: *mut usize, answer_length: usize,
+    ) -> u8;
+
     pub fn humtrellis_replay(log: *const u8, log_length: usize, out: *mut u8, out_length: usize) -> usize;
 }
 
@@ -214,6 +219,25 @@ pub fn chip_picture(chip: &mut [u8], phase: u8, out: &mut [u8], answer: &mut [us
         )
     };
     c.back(chip);
+    o.back(out);
+    a.back(answer);
+    number
+}
+
+pub fn rescue(log: &mut [u8], out: &mut [u8], answer: &mut [usize]) -> u8 {
+    let (mut l, mut o, mut a) = (bytes(log), bytes(out), numbers(answer));
+    // Safety: each pointer goes with the length of the buffer that it points to.
+    let number = unsafe {
+        humtrellis_rescue(
+            l.pointer(),
+            l.length(),
+            o.pointer(),
+            o.length(),
+            a.pointer(),
+            a.length(),
+        )
+    };
+    l.back(log);
     o.back(out);
     a.back(answer);
     number

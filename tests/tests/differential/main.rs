@@ -13,6 +13,7 @@ mod library;
 mod orders;
 mod plain;
 mod replay;
+mod rescue;
 mod seen;
 mod stops;
 

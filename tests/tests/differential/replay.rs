@@ -29,12 +29,16 @@ pub fn compare_torn(log: &[u8]) {
 }
 
 /// A log with each bit turned: of its head, its lengths, its control bytes, commands and data.
-pub fn compare_bits(log: &[u8]) {
-    for bit in 0..8 * log.len() {
+pub fn turned(log: &[u8]) -> impl Iterator<Item = Vec<u8>> + '_ {
+    (0..8 * log.len()).map(|bit| {
         let mut log = log.to_vec();
         log[bit / 8] ^= 1 << (bit % 8);
-        compare(&log);
-    }
+        log
+    })
+}
+
+pub fn compare_bits(log: &[u8]) {
+    turned(log).for_each(|log| compare(&log));
 }
 
 #[test]

@@ -156,3 +156,13 @@ fn stops_at_log_length() {
         unsafe { humtrellis_replay([1, 0, 0].as_ptr(), FALSE, out.as_mut_ptr(), out.len()) };
     assert_eq!(out[..length], *b"X 14 0\n");
 }
+
+#[test]
+fn stops_at_length_of_a_torn_log() {
+    let (mut bus, mut out) = (Bus::new(), [0xEE; 3]);
+    let (log, a) = ([1, 0, 0], bus.answer.as_mut_ptr());
+    let number =
+        unsafe { humtrellis_rescue(log.as_ptr(), FALSE, out.as_mut_ptr(), out.len(), a, ANSWER) };
+    bus.refused(number, 14, 0);
+    assert_eq!(out, [0xEE; 3]);
+}

@@ -32,7 +32,13 @@ fn repository(name: &str) -> String {
         fs::create_dir_all(format!("{folder}/{part}")).expect("a folder");
     }
     fs::write(format!("{folder}/crates.txt"), CRATES).expect("crates.txt");
-    fs::copy(format!("{ROOT}/bin/replay"), format!("{folder}/bin/replay")).expect("a script");
+    for script in ["replay", "program"] {
+        fs::copy(
+            format!("{ROOT}/bin/{script}"),
+            format!("{folder}/bin/{script}"),
+        )
+        .expect("a script");
+    }
     fs::copy(
         format!("{ROOT}/examples/minus.log"),
         format!("{folder}/log"),

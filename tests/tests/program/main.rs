@@ -1,8 +1,9 @@
-//! The program as a user runs it: its text, its statuses, and that it loses no input and no output silently.
+//! The programs as a user runs them: their output, their statuses, and that they lose no input and no output silently.
 
 mod build;
 mod input;
 mod output;
+mod rescue;
 mod run;
 mod usage;
 

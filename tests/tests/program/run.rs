@@ -12,7 +12,7 @@ pub const ROOT: &str = concat!(env!("CARGO_MANIFEST_DIR"), "/..");
 /// Linux's flag for reads and writes that do not wait.
 const O_NONBLOCK: i32 = 0o4000;
 
-/// The first call builds the program; it is made once, before any other.
+/// The first calls build the programs; they are made once, before any other.
 static BUILT: Once = Once::new();
 
 #[derive(Debug, PartialEq)]
@@ -48,11 +48,13 @@ impl Ended {
     }
 }
 
-/// A line of bash over a program that is built; one that hangs ends with status 124.
+/// A line of bash over programs that are built; one that hangs ends with status 124.
 pub fn command(line: &str) -> Command {
     BUILT.call_once(|| {
-        let first = bash(3600, "bin/replay examples/minus.log");
-        Ended::of(output(first)).expect_status(0);
+        for program in ["bin/replay", "bin/rescue"] {
+            let first = bash(3600, &format!("{program} examples/minus.log >/dev/null"));
+            Ended::of(output(first)).expect_status(0);
+        }
     });
     bash(60, line)
 }

@@ -1,38 +1,19 @@
 -- `buslog::put_transfers` meets its contract: a record a turn; what is left gives the whole.
 -- Assumes nothing.
 use mathlib.Core.Path.{_≡_, refl, ap, subst, _∙_}
-use mathlib.Core.List.{List, [], _∷_}
 use Prim.Native.Nat.{ℕ, _+_, _-_, _≤_}
 use native.Mathlib.Omega.{arith}
 use lib.ListN.{length, take, drop}
-use denote.Enum.Declared.{tagOf}
-use types.Run.{OneOf, miss}
-use Rattle.sheet.specs.declared.Check.the-variants.{Passed}
 use Rattle.sheet.specs.Parts.{pcf8532}
 use Rattle.sheet.specs.Long.{After, stateOf, transferCall, stateAfterAll}
 use Rattle.sheet.specs.Logs.{seenBytes, recordLines, transferLines}
-use Rattle.sheet.specs.Records.{noRecords}
-use Rattle.records.specs.declared.Record.{Record}
-use Rattle.records.specs.declared.Record.the-variants.{Body, End, Cut, Short}
-use Rattle.records.specs.Found.{recordIn, recordsAt}
-use Rattle.records.proofs.Record.{the-type}
-use Rattle.records.proofs.Found.{Next, Found, found}
+use Rattle.records.specs.Found.{recordIn}
+use Rattle.records.proofs.Found.{Next, Found, found, none-left}
 use Rattle.text.proofs.Writing.{begin, rest-is, done, room-for, puts-length}
 use Rattle.buslog.proofs.Playing.{Playing, one-more, next-record}
 use borrow.Author.Needs.{needs}
 use Rattle.buslog.proofs.put_transfers.Statement.{statement}
 use Rattle.buslog.proofs.put_transfers.Tie as tie
-
--- where no whole record is found in a log without a tear, none is left
-none-left : (seen : ℕ) (log : List ℕ) (at : ℕ) (r : Record) → Found seen log at r → OneOf (1 ∷ 2 ∷ 3 ∷ []) (tagOf the-type r) → recordsAt seen log at .tear ≡ Passed → recordsAt seen log at ≡ noRecords
-none-left seen log at (Body start size count) f h w = absurd (miss (1 ∷ 2 ∷ 3 ∷ []) 0 tt h)
-none-left seen log at End f h w = f
-none-left seen log at Cut f h w = let torn = rw f at w in
-    let never : _≡_ {A = ℕ} 0 1 = cc in
-    absurd (omega arith)
-none-left seen log at Short f h w = let torn = rw f at w in
-    let never : _≡_ {A = ℕ} 0 1 = cc in
-    absurd (omega arith)
 
 -- the invariant, and that the cursor knows the version
 abbrev Inv-loop : tie.InvT-loop
@@ -111,7 +92,7 @@ returns : tie.Need-returns Inv-loop μ-loop
 unfolding stateAfterAll transferLines
 returns c = let p = c .before .before in
     let log = p .before .before .before .before .before .args .log .now in
-    let over = none-left (seenBytes log) log (p .loop .cursor .at) (c .before .read .result) (read-at (c .before)) (c .match .keys2) (p .loop .inv .0 .whole) in
+    let over = none-left (seenBytes log) log (p .loop .cursor .at) (c .before .read .result) (read-at (c .before)) (c .match .keys2) in
     (rw over at (p .loop .inv .0 .state), done (rest-is (p .loop .inv .0 .writing) (rw over)))
 
 pub put-transfers-spec : {M : Type 1} → statement M

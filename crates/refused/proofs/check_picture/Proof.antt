@@ -3,7 +3,7 @@
 use mathlib.Core.Path.{refl, sym, ap, _∙_}
 use Prim.Native.Nat.{ℕ, _*_}
 use lib.Dec.{eqb}
-use Rattle.sheet.specs.declared.Refusal.the-variants.{PictureLength}
+use Rattle.sheet.specs.declared.Refusal.the-variants.{OutputLength}
 use Rattle.sheet.specs.Checks.{unless, checkPicture}
 use borrow.Author.Needs.{needs}
 use Rattle.refused.proofs.check_picture.Statement.{statement}
@@ -18,7 +18,7 @@ unfolding checkPicture
 returns-2 c =
     let passed = c .before .before .before in
     rw (sym (passed .before .before .check-state .ensures) ∙ passed .enum-told .given .1, c .before .before .if1 .taken)
-    (c .unless .ensures ∙ ap (λ (k : ℕ). unless (eqb (passed .before .before .before .before .args .size) (160 * k)) PictureLength) (c .before .chips-in .ensures))
+    (c .unless .ensures ∙ ap (λ (k : ℕ). unless (eqb (passed .before .before .before .before .args .size) (160 * k)) OutputLength) (c .before .chips-in .ensures))
 
 returns-3 : tie.Need-returns-3
 unfolding checkPicture

@@ -3,7 +3,7 @@
 use mathlib.Core.Path.{subst}
 use Rattle.io.specs.Counts.{Counts}
 use borrow.Author.Needs.{needs}
-use Rattle.replay.specs.Reads.{Within}
+use Rattle.input.specs.Reads.{Within}
 use Rattle.replay.proofs.main.Statement.{statement}
 use Rattle.replay.proofs.main.Tie as tie
 

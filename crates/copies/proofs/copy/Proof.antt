@@ -1,4 +1,4 @@
--- `wire::copy` meets its contract: after i turns the first i bytes are copied.
+-- `copies::copy` meets its contract: after i turns the first i bytes are copied.
 -- Assumes nothing.
 use mathlib.Core.Path.{refl, sym, _∙_}
 use Prim.Native.Nat.{_-_}
@@ -6,8 +6,8 @@ use native.Mathlib.Omega.{arith}
 use lib.ListN.{length}
 use Rattle.lemmas.proofs.Mapped.{Mapped, mapped-one, mapped-all, copied}
 use borrow.Author.Needs.{needs}
-use Rattle.wire.proofs.copy.Statement.{statement}
-use Rattle.wire.proofs.copy.Tie as tie
+use Rattle.copies.proofs.copy.Statement.{statement}
+use Rattle.copies.proofs.copy.Tie as tie
 
 abbrev Inv-loop : tie.InvT-loop
 Inv-loop from to₀ i₀ to i = Mapped (λ q. q) from to i

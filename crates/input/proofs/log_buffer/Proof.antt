@@ -1,8 +1,8 @@
--- `replay::log_buffer` meets its contract.
+-- `input::log_buffer` meets its contract.
 -- Assumes nothing.
 use Rattle.lemmas.proofs.Lists.{zeros}
-use Rattle.replay.proofs.log_buffer.Statement.{statement}
-use Rattle.replay.proofs.log_buffer.Tie as tie
+use Rattle.input.proofs.log_buffer.Statement.{statement}
+use Rattle.input.proofs.log_buffer.Tie as tie
 
 returns : tie.Need-returns
 returns c = zeros 65537

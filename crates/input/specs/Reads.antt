@@ -2,8 +2,8 @@
 use Prim.Native.Nat.{ℕ}
 use mathlib.Core.List.{List}
 use Rattle.io.specs.Counts.{Counts}
-use Rattle.replay.specs.declared.Input.{Input}
-use Rattle.replay.specs.declared.Input.the-variants.{Whole, Failed}
+use Rattle.input.specs.declared.Input.{Input}
+use Rattle.input.specs.declared.Input.the-variants.{Whole, Failed}
 
 -- a whole input is so many of the buffer's first bytes
 abbrev pub Within : Input → List ℕ → Type 0

@@ -1,4 +1,4 @@
--- `replay::read_input` meets its contract. The loop's invariant: the buffer keeps its length, and what is read is within it.
+-- `input::read_input` meets its contract. The loop's invariant: the buffer keeps its length, and what is read is within it.
 -- The measure is what is left of the buffer. Assumes nothing.
 use Prim.Native.Nat.{_≤_, _-_}
 use mathlib.Core.Path.{_≡_}
@@ -6,8 +6,8 @@ use native.Mathlib.Omega.{arith}
 use lib.ListN.{length}
 use borrow.Author.Needs.{needs}
 use Rattle.io.proofs.Counting.{counts}
-use Rattle.replay.proofs.read_input.Statement.{statement}
-use Rattle.replay.proofs.read_input.Tie as tie
+use Rattle.input.proofs.read_input.Statement.{statement}
+use Rattle.input.proofs.read_input.Tie as tie
 
 abbrev Inv-loop : tie.InvT-loop
 Inv-loop buffer₀ done₀ buffer done = (length buffer ≡ length buffer₀) × (done ≤ length buffer)
