@@ -7,10 +7,11 @@ pub struct Settings {
     pub m: u8,
 }
 
-// The commands of sheet 003, table 5, and the bytes that are none.
+// The commands of sheet 003, table 5, with the one pointer command of sheet 002, table 11; and the bytes that are none.
 pub enum Command {
     PointerHigh(u8),
     PointerLow(u8),
+    Pointer(u8),
     ModeSet(Settings),
     DeviceSelect(u8),
     FrequencyCtrl,
@@ -59,6 +60,7 @@ pub enum Refusal {
     LogHead,
     CutRecord(usize),
     LongLog,
+    UnknownPart,
     StrayBits(usize),
     ShortBody(usize),
 }
@@ -137,7 +139,7 @@ pub enum Rescued {
     Refused(Refusal),
 }
 
-// A chip of the plain account, with its own columns, identity and registers.
+// A chip of the plain account, with its own columns, identity and registers. A part with fewer columns has the first of them.
 pub struct Chip {
     pub columns: [u8; 160],
     pub sa0: u8,
