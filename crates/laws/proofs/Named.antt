@@ -48,3 +48,7 @@ ram-small part n l = omega (arith, group-columns part, mul-le-mul-left (partOf p
 
 pub position-small : (part : ℕ) (r : Registers) → InRange (partOf part) r → position (partOf part) r < 800
 position-small part r h = of-both (λ K. (r : Registers) → InRange K r → position K r < 800) part (λ r h. omega (arith, position-lt pcf8532 r h)) (λ r h. omega (arith, position-lt pca85133 r h)) r h
+
+-- and of any number of chips
+pub columns-most : (part n : ℕ) → partOf part .columns * n ≤ 160 * n
+columns-most part n = of-both (λ K. K .columns * n ≤ 160 * n) part (omega arith) (omega arith)
