@@ -111,7 +111,10 @@ pub fn plain_numbers(part: u8, answer: PlainAnswer) -> [usize; 6]
 {
     match answer {
         PlainAnswer::Acknowledged { bytes, last } => [0, 0, bytes, 0, 0, last_number(part, last)],
-        PlainAnswer::Refused(refusal) => refusal_numbers(refusal, last_number(part, Acknowledger::None)),
+        PlainAnswer::Refused(refusal) => refusal_numbers(
+            refusal,
+            last_number(part, Acknowledger::None),
+        ),
     }
 }
 

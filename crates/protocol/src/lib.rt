@@ -61,7 +61,10 @@ fn fault_of(part: u8, kind: Kind, i: usize, byte: u8) -> Check
     ensures { λ r. ⌜ r ≡ faultOf (partOf part) kind i byte ⌝ }
 {
     match kind {
-        Kind::Command => checks::unless(command::is_defined(part, byte), Refusal::UndefinedCommand(i)),
+        Kind::Command => checks::unless(
+            command::is_defined(part, byte),
+            Refusal::UndefinedCommand(i),
+        ),
         Kind::Data => Check::Passed,
     }
 }
