@@ -14,6 +14,10 @@ use Rattle.sheet.specs.Pictures.{Seen, seenBy}
 use Rattle.sheet.specs.Long.{After, answered}
 use Rattle.sheet.specs.Plain.{PlainAfter, plainAnswered}
 
+pub or-else : (a b c : Check) → orElse a (orElse b c) ≡ orElse (orElse a b) c
+or-else Passed b c = refl
+or-else (Refused r) b c = refl
+
 -- the two refuse, or what comes after them decides
 pub then-refused : (a b c : Check) (r : Refusal) → orElse a b ≡ Refused r → Refused r ≡ orElse a (orElse b c)
 then-refused Passed b c r e = rw e
