@@ -14,21 +14,21 @@ ghost use Rattle.sheet.specs.Data.{bitOf, withRow, widthOf};
 pub fn columns(part: u8) -> usize
     ensures { λ r. ⌜ r ≡ partOf part .columns ⌝ }
 {
-    if part == 1 { 80 } else { 160 }
+    if part == sheet::PCA85133 { 80 } else { 160 }
 }
 
 // The subaddresses of a group, and where its counter rests.
 pub fn limit(part: u8) -> usize
     ensures { λ r. ⌜ r ≡ partOf part .limit ⌝ }
 {
-    if part == 1 { 8 } else { 4 }
+    if part == sheet::PCA85133 { 8 } else { 4 }
 }
 
 // The columns of so many chips.
 pub fn columns_in(part: u8, chips: u16) -> usize
     ensures { λ r. ⌜ r ≡ partOf part .columns * chips ⌝ }
 {
-    if part == 1 {
+    if part == sheet::PCA85133 {
         80 * (chips as usize)
     } else {
         160 * (chips as usize)
@@ -39,14 +39,22 @@ pub fn columns_in(part: u8, chips: u16) -> usize
 pub fn chip_of(part: u8, v: usize) -> usize
     ensures { λ r. ⌜ r ≡ v / partOf part .columns ⌝ }
 {
-    if part == 1 { v / 80 } else { v / 160 }
+    if part == sheet::PCA85133 {
+        v / 80
+    } else {
+        v / 160
+    }
 }
 
 // Which of its columns that is.
 pub fn column_of(part: u8, v: usize) -> usize
     ensures { λ r. ⌜ r ≡ v % partOf part .columns ⌝ }
 {
-    if part == 1 { v % 80 } else { v % 160 }
+    if part == sheet::PCA85133 {
+        v % 80
+    } else {
+        v % 160
+    }
 }
 
 // ---- modes and banks

@@ -82,7 +82,7 @@ pub fn decode_pca85133(byte: u8) -> Command
 pub fn decode(part: u8, byte: u8) -> Command
     ensures { λ r. ⌜ r ≡ (partOf part .command) byte ⌝ }
 {
-    if part == 1 {
+    if part == sheet::PCA85133 {
         decode_pca85133(byte)
     } else {
         decode_pcf8532(byte)

@@ -3,12 +3,17 @@
 use Prim.Native.Nat.{ℕ, _*_, _<_, _≤_}
 use mathlib.Core.Path.{_≡_, refl}
 use mathlib.Core.Bool.{Bool, true, false, cond}
+use mathlib.Core.List.{List}
 use native.Mathlib.Nat.{mul-le-mul-left}
 use native.Mathlib.Omega.{arith}
 use lib.Dec.{eqb}
 use borrow.Author.Tests.{eq-eqb, ne-eqb}
+use Rattle.sheet.specs.declared.Both.{Both}
+use Rattle.sheet.specs.declared.Chips.{Chips}
 use Rattle.sheet.specs.declared.Registers.{Registers}
 use Rattle.sheet.specs.Parts.{Part, partOf, pcf8532, pca85133}
+use Rattle.sheet.specs.Checks.{checkPart}
+use Rattle.sheet.specs.Long.{transferCall, pictureCall, transferPart, picturePart}
 use Rattle.sheet.specs.Places.{position}
 use Rattle.laws.proofs.Ranges.{InRange, position-lt}
 
@@ -27,6 +32,19 @@ is-pca85133 part e = rw (eq-eqb _ _ e)
 pub is-pcf8532 : (part : ℕ) → (part ≡ 1 → ⊥) → partOf part ≡ pcf8532
 unfolding partOf
 is-pcf8532 part d = rw (ne-eqb _ _ d)
+
+-- ---- a log is the PCF8532's: part 0
+
+pub is-zero : partOf 0 ≡ pcf8532
+is-zero = is-pcf8532 0 (λ e. omega arith)
+
+pub zero-transfer : (n : Chips) (r : Both) (ram bytes : List ℕ) → transferPart 0 n r ram bytes ≡ transferCall pcf8532 n r ram bytes
+unfolding transferPart checkPart partOf
+zero-transfer n r ram bytes = refl
+
+pub zero-picture : (n : Chips) (r : Both) (ram : List ℕ) (g phase : ℕ) (out : List ℕ) → picturePart 0 n r ram g phase out ≡ pictureCall pcf8532 n r ram g phase out
+unfolding picturePart checkPart partOf
+zero-picture n r ram g phase out = refl
 
 -- ---- sizes
 

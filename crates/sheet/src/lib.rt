@@ -1,5 +1,10 @@
 // The types of the bus and its chips. Letters are the registers' of the paper: E, B, M, P, A, I, O, AB, BF.
 
+// The parts by their numbers (paper 02, request 5).
+pub const PCF8532: u8 = 0;
+
+pub const PCA85133: u8 = 1;
+
 // What a mode-set carries, as one record (sheet 003, table 6).
 pub struct Settings {
     pub e: u8,
