@@ -360,8 +360,8 @@ fn transfer_first(bytes: &[u8], bench: Bench, part: u8) -> BenchTransferred
     }
 }
 
-// More chips than a bench has: 16, 10.
-fn too_many(part: u8) -> Refusal
+// Why more chips than a bench has are refused: 16, 10.
+pub fn too_many(part: u8) -> Refusal
     ensures { λ r. ⌜ r ≡ tooMany part ⌝ }
 {
     if part <= 1 {
