@@ -171,14 +171,14 @@ static void smaller_part(void) {
     const uint8_t part = HUMTRELLIS_PCA85133, past[] = {0x70, 0x80, 0xE7, 0x40, 0xA5}, undefined[] = {0x70, 0x00, 0x50};
     const uint8_t edge[] = {0x70, 0x80, 0xC8, 0x80, 0x4F, 0x40, 0xA5};
     memset(ram, 0, sizeof ram);
-    EXPECT(HUMTRELLIS_PCF8532 == 0 && HUMTRELLIS_PCA85133 == 1);
+    EXPECT(HUMTRELLIS_PCF8532 == 0 && HUMTRELLIS_PCA85133 == 1 && HUMTRELLIS_PCA85133_COLUMNS == 80 && HUMTRELLIS_PCA85133_NONE == 8);
     EXPECT(humtrellis_power_on(part, 4, 0, ram, RAM, registers, sizeof registers, answer, HUMTRELLIS_ANSWER) == HUMTRELLIS_TAKEN);
     EXPECT(send_to_four(part, edge, sizeof edge) == HUMTRELLIS_TAKEN && answer[HUMTRELLIS_ACKNOWLEDGED_BY] == 1);
     EXPECT(ram[79] == 5 && ram[80] == 10 && registers[HUMTRELLIS_P] == 1 && registers[HUMTRELLIS_A] == 1);
     EXPECT(show_four(part, RAM) == HUMTRELLIS_TAKEN && answer[HUMTRELLIS_LIT] == 4);
     EXPECT(show_four(part, RAM / 2) == HUMTRELLIS_REFUSED_OUT_LENGTH);
-    EXPECT(send_to_four(part, past, sizeof past) == HUMTRELLIS_TAKEN && answer[HUMTRELLIS_ACKNOWLEDGED_BY] == 8);
-    EXPECT(send_to_four(part, undefined, sizeof undefined) == HUMTRELLIS_REFUSED_COMMAND && answer[HUMTRELLIS_ACKNOWLEDGED_BY] == 8);
+    EXPECT(send_to_four(part, past, sizeof past) == HUMTRELLIS_TAKEN && answer[HUMTRELLIS_ACKNOWLEDGED_BY] == HUMTRELLIS_PCA85133_NONE);
+    EXPECT(send_to_four(part, undefined, sizeof undefined) == HUMTRELLIS_REFUSED_COMMAND && answer[HUMTRELLIS_ACKNOWLEDGED_BY] == HUMTRELLIS_PCA85133_NONE);
     EXPECT(humtrellis_power_on(part, 9, 0, ram, RAM, registers, sizeof registers, answer, HUMTRELLIS_ANSWER) == HUMTRELLIS_REFUSED_CHIP_COUNT);
 }
 
@@ -186,13 +186,13 @@ static void smaller_part(void) {
 static void smaller_chips(void) {
     const uint8_t part = HUMTRELLIS_PCA85133, data[] = {0x70, 0x80, 0xE7, 0x80, 0x4E, 0x40, 0xA5};
     memset(chips, 0, sizeof chips);
-    memset(chips + 80, 255, HUMTRELLIS_COLUMNS - 80);
+    memset(chips + HUMTRELLIS_PCA85133_COLUMNS, 255, HUMTRELLIS_COLUMNS - HUMTRELLIS_PCA85133_COLUMNS);
     chips[HUMTRELLIS_CHIP_SUBADDRESS] = 7;
     EXPECT(power_on_chip(part, HUMTRELLIS_CHIP) == HUMTRELLIS_TAKEN);
     EXPECT(send_plain(part, 16, data, sizeof data) == HUMTRELLIS_TAKEN && answer[HUMTRELLIS_ACKNOWLEDGED_BY] == 7);
     EXPECT(chips[78] == 5 && chips[79] == 10 && chips[80] == 255 && chips[HUMTRELLIS_CHIP_REGISTERS + HUMTRELLIS_A] == 8);
     chips[HUMTRELLIS_CHIP_REGISTERS + HUMTRELLIS_E] = 1;
-    EXPECT(show_chip(part, HUMTRELLIS_CHIP, 0, 80) == HUMTRELLIS_TAKEN && answer[HUMTRELLIS_LIT] == 4 && picture[78] == 5);
+    EXPECT(show_chip(part, HUMTRELLIS_CHIP, 0, HUMTRELLIS_PCA85133_COLUMNS) == HUMTRELLIS_TAKEN && answer[HUMTRELLIS_LIT] == 4 && picture[78] == 5);
     EXPECT(show_chip(part, HUMTRELLIS_CHIP, 0, HUMTRELLIS_COLUMNS) == HUMTRELLIS_REFUSED_OUT_LENGTH);
     EXPECT(send_plain(part, 17, data, sizeof data) == HUMTRELLIS_REFUSED_CHIP_LIST);
     chips[HUMTRELLIS_CHIP_SUBADDRESS] = 8;
@@ -202,14 +202,14 @@ static void smaller_chips(void) {
 /* An unknown part comes before every refusal, but not before a wrong size; both power-ons still give power-on registers. */
 static void unknown_part(void) {
     registers[HUMTRELLIS_E] = 9;
-    EXPECT(send_to_four(2, many, 0) == HUMTRELLIS_UNKNOWN_PART && answer[HUMTRELLIS_ACKNOWLEDGED_BY] == HUMTRELLIS_NONE && registers[HUMTRELLIS_E] == 9);
-    EXPECT(answer[HUMTRELLIS_NUMBER] == HUMTRELLIS_UNKNOWN_PART && HUMTRELLIS_UNKNOWN_PART == 16 && answer[HUMTRELLIS_PLACE] == 0);
-    EXPECT(show_four(2, 0) == HUMTRELLIS_UNKNOWN_PART && answer[HUMTRELLIS_ACKNOWLEDGED_BY] == 0);
-    EXPECT(humtrellis_power_on(255, 9, 9, ram, 0, registers, sizeof registers, answer, HUMTRELLIS_ANSWER) == HUMTRELLIS_UNKNOWN_PART && registers[HUMTRELLIS_E] == 0);
+    EXPECT(send_to_four(2, many, 0) == HUMTRELLIS_REFUSED_PART && answer[HUMTRELLIS_ACKNOWLEDGED_BY] == HUMTRELLIS_NONE && registers[HUMTRELLIS_E] == 9);
+    EXPECT(answer[HUMTRELLIS_NUMBER] == HUMTRELLIS_REFUSED_PART && HUMTRELLIS_REFUSED_PART == 16 && answer[HUMTRELLIS_PLACE] == 0);
+    EXPECT(show_four(2, 0) == HUMTRELLIS_REFUSED_PART && answer[HUMTRELLIS_ACKNOWLEDGED_BY] == 0);
+    EXPECT(humtrellis_power_on(255, 9, 9, ram, 0, registers, sizeof registers, answer, HUMTRELLIS_ANSWER) == HUMTRELLIS_REFUSED_PART && registers[HUMTRELLIS_E] == 0);
     EXPECT(humtrellis_power_on(255, 9, 9, ram, 0, registers, sizeof registers, answer, HUMTRELLIS_ANSWER - 1) == HUMTRELLIS_SIZE);
     memset(chips, 255, sizeof chips);
-    EXPECT(send_plain(2, 17, many, 0) == HUMTRELLIS_UNKNOWN_PART && show_chip(2, HUMTRELLIS_CHIP, 2, 0) == HUMTRELLIS_UNKNOWN_PART);
-    EXPECT(power_on_chip(2, HUMTRELLIS_CHIP) == HUMTRELLIS_UNKNOWN_PART && chips[HUMTRELLIS_CHIP_REGISTERS + HUMTRELLIS_E] == 0 && chips[0] == 255);
+    EXPECT(send_plain(2, 17, many, 0) == HUMTRELLIS_REFUSED_PART && show_chip(2, HUMTRELLIS_CHIP, 2, 0) == HUMTRELLIS_REFUSED_PART);
+    EXPECT(power_on_chip(2, HUMTRELLIS_CHIP) == HUMTRELLIS_REFUSED_PART && chips[HUMTRELLIS_CHIP_REGISTERS + HUMTRELLIS_E] == 0 && chips[0] == 255);
 }
 
 /* The text of a log that is refused at a place. */
