@@ -3,12 +3,11 @@
 use mathlib.Core.Path.{_≡_, refl, sym, ap, ap₂, _∙_}
 use mathlib.Core.Bool.{Bool, true, false, cond, _&&_, _||_}
 use mathlib.Core.List.{List, [], _∷_, map}
-use Prim.Native.Nat.{ℕ, zero, suc, _+_, _*_, _/_, _<_, _≤_}
+use Prim.Native.Nat.{ℕ, zero, suc, _+_, _*_, _/_, _<_}
 use native.Mathlib.Omega.{arith}
 use lib.Dec.{eqb, leb}
-use lib.ListN.{length, getD, drop, take}
+use lib.ListN.{length, getD, drop}
 use lib.Seq.{take-take}
-use Rattle.sheet.specs.declared.Registers.{Registers}
 use Rattle.sheet.specs.declared.Chip.{Chip}
 use Rattle.sheet.specs.declared.Kind.{Kind}
 use Rattle.sheet.specs.declared.Expect.{Expect}
@@ -20,8 +19,8 @@ use Rattle.sheet.specs.declared.Refusal.the-variants.{ManyChips, ChipField}
 use Rattle.sheet.specs.Parts.{Part}
 use Rattle.sheet.specs.Registers.{inRange, backplanes}
 use Rattle.sheet.specs.Protocol.{next}
-use Rattle.sheet.specs.Checks.{unless, orElse, overIn, checkLength, faultIn}
-use Rattle.sheet.specs.Plain.{afterColumn, afterColumns, chipData, acknowledgesData, chipByteOf, chipByte, acknowledgesByte, hears, any, takes, lower, smallest, acknowledgedBy, once, lastAfter, Plain, plainHeard, chipFits, chipPowerOn, checkChipPicture, chipPictureCall, misfitIn, checkPlain, plainTaken, begunBy, plainAnswered, plainSaid, plainCall}
+use Rattle.sheet.specs.Checks.{unless}
+use Rattle.sheet.specs.Plain.{afterColumn, afterColumns, chipData, acknowledgesData, chipByte, acknowledgesByte, hears, any, takes, lower, smallest, acknowledgedBy, once, lastAfter, Plain, plainHeard, chipFits, chipPowerOn, checkChipPicture, chipPictureCall, misfitIn, checkPlain, plainTaken, begunBy, plainSaid, plainCall}
 use Rattle.sheet.specs.Data.{widthOf}
 use Rattle.sheet.specs.Agree.{AllIn, Keeps, trimmed, pastColumns, PastStays, PastUnread}
 use Rattle.laws.proofs.Ranges.{range-of}

@@ -1,7 +1,7 @@
 -- A transfer followed byte by byte: a turn is the next byte, its place, and what is acknowledged so far.
 use Prim.Native.Nat.{ℕ, _+_, _<_, _≤_}
 use mathlib.Core.Path.{_≡_}
-use mathlib.Core.List.{List, [], _∷_}
+use mathlib.Core.List.{List}
 use lib.ListN.{length, getD, drop}
 use Rattle.sheet.specs.declared.Chip.{Chip}
 use Rattle.sheet.specs.declared.Acknowledger.{Acknowledger}

@@ -1,11 +1,8 @@
 -- `groups::end_of` meets its contract: the columns of two groups are few.
 -- Assumes nothing.
-use mathlib.Core.Path.{_≡_, ap₂}
-use Prim.Native.Nat.{ℕ, _+_}
 use native.Mathlib.Omega.{arith}
 use Rattle.sheet.specs.Parts.{partOf}
 use Rattle.sheet.specs.Protocol.{chipsIn}
-use Rattle.sheet.specs.Long.{startOf}
 use Rattle.laws.proofs.Lens.{start-few, chips-few}
 use Rattle.laws.proofs.Named.{columns-most}
 use borrow.Author.Needs.{needs}

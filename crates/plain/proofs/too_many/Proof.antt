@@ -1,7 +1,6 @@
 -- too_many: by its test.
 -- Assumes nothing.
 use borrow.Author.Tests.{le-leb, lt-leb}
-use borrow.Author.Needs.{needs}
 use Rattle.plain.proofs.too_many.Statement.{statement}
 use Rattle.plain.proofs.too_many.Tie as tie
 

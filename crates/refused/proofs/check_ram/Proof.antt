@@ -1,6 +1,6 @@
 -- `refused::check_ram` meets its contract.
 -- Assumes nothing.
-use mathlib.Core.Path.{refl, sym, ap, _∙_}
+use mathlib.Core.Path.{refl, sym, _∙_}
 use borrow.Author.Tests.{eq-eqb, ne-eqb}
 use Rattle.sheet.specs.Checks.{checkRam}
 use borrow.Author.Needs.{needs}

@@ -1,6 +1,6 @@
 -- `refused::check_state` meets its contract.
 -- Assumes nothing.
-use mathlib.Core.Path.{_≡_, refl, sym, ap, _∙_}
+use mathlib.Core.Path.{_≡_, refl, sym, _∙_}
 use denote.Ref.{now}
 use Rattle.sheet.specs.declared.Check.{Check}
 use Rattle.sheet.specs.Parts.{partOf}
