@@ -89,13 +89,24 @@ pub fn decode(part: u8, byte: u8) -> Command
     }
 }
 
-// Whether a byte is a command.
+// Whether a command is one.
+fn told(command: Command) -> bool
+    ensures { λ r. ⌜ r ≡ defined command ⌝ }
+{
+    match command {
+        Command::Undefined => false,
+        _ => true,
+    }
+}
+
+// Whether a byte is a command. The PCF8532's decoder is asked by itself, so that only its ranges are left of it.
 pub fn is_defined(part: u8, byte: u8) -> bool
     ensures { λ r. ⌜ r ≡ defined ((partOf part .command) byte) ⌝ }
 {
-    match decode(part, byte) {
-        Command::Undefined => false,
-        _ => true,
+    if part == sheet::PCF8532 {
+        told(decode_pcf8532(byte))
+    } else {
+        told(decode(part, byte))
     }
 }
 
