@@ -1,11 +1,18 @@
-/* PCF8532 drivers on one I2C bus: the proved model, for C and C++. Link target/staticlib/libcabi.a, made by `rt staticlib cabi`.
+/* PCF8532 or PCA85133 drivers on one I2C bus: the proved model, for C and C++. Link target/staticlib/libcabi.a, made by `rt staticlib cabi`.
  *
- * Group 0 (SA0 = 0) has the address byte 0x70 and group 1 (SA0 = 1) 0x72; each has 0 to 4 chips, at subaddresses 0, 1, 2, 3 without a gap.
+ * A bus has chips of one part, HUMTRELLIS_PCF8532 or HUMTRELLIS_PCA85133, which every call on registers, chips or RAM names first:
  *
- * RAM         160 bytes a chip: group 0's chips in order, then group 1's. A byte is a column, 0 to 15; bit r is row r.
+ *                  columns a chip   chips a group, at subaddresses 0 upwards without a gap   plain chips in a list
+ *     PCF8532      160              0 to 4                                                   0 to 8
+ *     PCA85133     80               0 to 8                                                   0 to 16
+ *
+ * Group 0 (SA0 = 0) has the address byte 0x70 and group 1 (SA0 = 1) 0x72.
+ *
+ * RAM         the part's columns a chip: group 0's chips in order, then group 1's. A byte is a column, 0 to 15; bit r is row r.
  * Registers   18 bytes: group 0's nine, then group 1's, each in the order of enum humtrellis_register.
- * Plain chip  171 bytes: its 160 columns, SA0 (0 or 1), subaddress (0 to 3) and nine registers.
- * Picture     160 bytes for each chip of the group shown. A byte is a column; bit r is the element on backplane r.
+ * Plain chip  171 bytes: 160 columns, SA0 (0 or 1), subaddress (0 to 3; PCA85133: 0 to 7) and nine registers.
+ *             Of a PCA85133 bytes 80 to 159 are neither checked nor read nor changed.
+ * Picture     the part's columns for each chip of the group shown. A byte is a column; bit r is the element on backplane r.
  * Answer      six numbers, in the order of enum humtrellis_answer.
  *
  * Every call but humtrellis_replay returns its answer's first number: 0 for taken, else the refusal.
@@ -22,12 +29,16 @@
 #include <stddef.h>
 #include <stdint.h>
 
-#define HUMTRELLIS_VERSION 2   /* of these sizes and calls; docs/C.md says what changed */
-#define HUMTRELLIS_COLUMNS 160 /* of a chip: its bytes in the RAM and in a picture */
-#define HUMTRELLIS_SET 9       /* registers of a group or a chip; group 1's begin at this index */
+#define HUMTRELLIS_VERSION 3 /* of these sizes and calls; docs/C.md says what changed */
+#define HUMTRELLIS_PCF8532 0 /* the parts */
+#define HUMTRELLIS_PCA85133 1
+#define HUMTRELLIS_COLUMNS 160         /* of a chip: its bytes in the RAM and in a picture */
+#define HUMTRELLIS_PCA85133_COLUMNS 80 /* of a PCA85133 */
+#define HUMTRELLIS_SET 9               /* registers of a group or a chip; group 1's begin at this index */
 #define HUMTRELLIS_REGISTERS 18
 #define HUMTRELLIS_ANSWER 6
-#define HUMTRELLIS_NONE 4 /* what HUMTRELLIS_ACKNOWLEDGED_BY holds where no chip did */
+#define HUMTRELLIS_NONE 4          /* what HUMTRELLIS_ACKNOWLEDGED_BY holds where no chip did; with refusal 16 too */
+#define HUMTRELLIS_PCA85133_NONE 8 /* of a PCA85133 */
 #define HUMTRELLIS_SIZE 255
 #define HUMTRELLIS_TEXT 700000 /* bytes that hold the text of any log */
 
@@ -41,8 +52,8 @@ enum humtrellis_register {
     HUMTRELLIS_E = 0,  /* 0, 1: the display is on */
     HUMTRELLIS_B = 1,  /* 0, 1: bias; kept, without effect here */
     HUMTRELLIS_M = 2,  /* 0 to 3: binary 01, 10, 11, 00 are 1, 2, 3, 4 backplanes */
-    HUMTRELLIS_P = 3,  /* 0 to 159: pointer, a column */
-    HUMTRELLIS_A = 4,  /* 0 to 4: counter, a subaddress; 4 is past the end */
+    HUMTRELLIS_P = 3,  /* 0 to 159: pointer, a column; PCA85133: 0 to 79 */
+    HUMTRELLIS_A = 4,  /* 0 to 4: counter, a subaddress; 4 is past the end; PCA85133: 0 to 8 */
     HUMTRELLIS_I = 5,  /* 0, 1: input bank */
     HUMTRELLIS_O = 6,  /* 0, 1: output bank */
     HUMTRELLIS_AB = 7, /* 0, 1: blink mode; 1 alternates the banks in static and 1:2, and is as 0 in 1:3 and 1:4 */
@@ -61,7 +72,7 @@ enum humtrellis_answer {
     HUMTRELLIS_BYTES_KEPT = 3,     /* a rescue; the head included */
     HUMTRELLIS_BYTES_DROPPED = 4,  /* a rescue */
     HUMTRELLIS_TEAR = 5,           /* a rescue: its offset; the log's length where nothing is torn */
-    HUMTRELLIS_ACKNOWLEDGED_BY = 5 /* the subaddress that acknowledged the last data byte of a transfer or plain transfer; HUMTRELLIS_NONE where none did, there is no data, or it is refused */
+    HUMTRELLIS_ACKNOWLEDGED_BY = 5 /* the subaddress that acknowledged the last data byte of a transfer or plain transfer; the part's none where none did, there is no data, or it is refused */
 };
 
 /* What a call returns. */
@@ -69,18 +80,19 @@ enum humtrellis_refusal {
     HUMTRELLIS_TAKEN = 0,
     HUMTRELLIS_REFUSED_EMPTY_TRANSFER = 1,
     HUMTRELLIS_REFUSED_LONG_TRANSFER = 2, /* over 4,096 bytes */
-    HUMTRELLIS_REFUSED_CHIP_COUNT = 3,    /* over 4 in a group */
-    HUMTRELLIS_REFUSED_RAM_LENGTH = 4,    /* not 160 bytes for each chip of both groups */
+    HUMTRELLIS_REFUSED_CHIP_COUNT = 3,    /* over 4 in a group; PCA85133: over 8 */
+    HUMTRELLIS_REFUSED_RAM_LENGTH = 4,    /* not the part's columns for each chip of both groups */
     HUMTRELLIS_REFUSED_COLUMN = 5,        /* a RAM byte over 15; place: the first */
     HUMTRELLIS_REFUSED_REGISTER = 6,      /* out of range, in either group */
     HUMTRELLIS_REFUSED_COMMAND = 7,       /* undefined, in a transfer that a chip hears; place: the first, the address is byte 0 */
     HUMTRELLIS_REFUSED_VIEW = 8,          /* group or phase over 1 */
-    HUMTRELLIS_REFUSED_OUT_LENGTH = 9,    /* not 160 bytes for each chip shown; of a rescue, shorter than the log */
-    HUMTRELLIS_REFUSED_CHIP_LIST = 10,    /* more than 8 plain chips */
+    HUMTRELLIS_REFUSED_OUT_LENGTH = 9,    /* not the part's columns for each chip shown; of a rescue, shorter than the log */
+    HUMTRELLIS_REFUSED_CHIP_LIST = 10,    /* more than 8 plain chips; PCA85133: more than 16 */
     HUMTRELLIS_REFUSED_CHIP = 11,         /* a field or column of a plain chip out of range; place: the first such chip */
     HUMTRELLIS_REFUSED_LOG = 12,          /* under 3 bytes or version not 1 or 2; this, the next two and 20 stand in a log's text */
     HUMTRELLIS_REFUSED_RECORD = 13,       /* cut short; place: the offset of its length field */
     HUMTRELLIS_REFUSED_LOG_LENGTH = 14,   /* over 65,536 bytes */
+    HUMTRELLIS_REFUSED_PART = 16,         /* neither HUMTRELLIS_PCF8532 nor HUMTRELLIS_PCA85133; before every other refusal */
     HUMTRELLIS_REFUSED_CONTROL = 17,      /* stray bits 5 to 0 of a control byte, in a transfer that a chip hears; place: the first; 7 or 17, whichever byte comes first */
     HUMTRELLIS_REFUSED_BODY = 20          /* a version 2 record's body under two bytes; place: the offset of its length field */
 };
@@ -89,32 +101,32 @@ enum humtrellis_refusal {
 extern "C" {
 #endif
 
-/* Power-on: the registers become the power-on ones, taken or refused; the RAM is only read. Refusals: 3, 4, 5. */
-uint8_t humtrellis_power_on(uint8_t chips0, uint8_t chips1, const uint8_t *ram, size_t ram_length,
+/* Power-on: the registers become the power-on ones, taken or refused; the RAM is only read. Refusals: 16, 3, 4, 5. */
+uint8_t humtrellis_power_on(uint8_t part, uint8_t chips0, uint8_t chips1, const uint8_t *ram, size_t ram_length,
                             uint8_t *registers, size_t registers_length, size_t *answer, size_t answer_length);
 
 /* One transfer, START to STOP, address byte first: changes registers and RAM. Answer: number, place, acknowledged, stored, discarded, acknowledged by.
- * Refusals: 3, 6, 4, 5, 1, 2, then 7 or 17 by the first faulty byte. */
-uint8_t humtrellis_transfer(uint8_t chips0, uint8_t chips1, uint8_t *registers, size_t registers_length,
+ * Refusals: 16, 3, 6, 4, 5, 1, 2, then 7 or 17 by the first faulty byte. */
+uint8_t humtrellis_transfer(uint8_t part, uint8_t chips0, uint8_t chips1, uint8_t *registers, size_t registers_length,
                             uint8_t *ram, size_t ram_length, const uint8_t *bytes, size_t bytes_length,
                             size_t *answer, size_t answer_length);
 
-/* The lit elements of a group (0 or 1) at a blink phase (0 or 1) into `out`. Answer: number, place, lit, 0, 0, 0. Refusals: 3, 6, 4, 5, 8, 9. */
-uint8_t humtrellis_picture(uint8_t chips0, uint8_t chips1, const uint8_t *registers, size_t registers_length,
+/* The lit elements of a group (0 or 1) at a blink phase (0 or 1) into `out`. Answer: number, place, lit, 0, 0, 0. Refusals: 16, 3, 6, 4, 5, 8, 9. */
+uint8_t humtrellis_picture(uint8_t part, uint8_t chips0, uint8_t chips1, const uint8_t *registers, size_t registers_length,
                            const uint8_t *ram, size_t ram_length, uint8_t group, uint8_t phase,
                            uint8_t *out, size_t out_length, size_t *answer, size_t answer_length);
 
-/* One transfer to a list of 0 to 8 plain chips, each of which follows every byte by itself; gaps and repeated subaddresses are allowed.
- * Answer: number, place, acknowledged (a byte counts once), 0, 0, acknowledged by (the smallest subaddress that did). Refusals: 10, 11, 1, 2, then 7 or 17 by the first faulty byte. */
-uint8_t humtrellis_plain_transfer(uint8_t *chips, size_t chips_length, const uint8_t *bytes, size_t bytes_length,
+/* One transfer to a list of 0 to 8 plain chips (PCA85133: 0 to 16), each of which follows every byte by itself; gaps and repeated subaddresses are allowed.
+ * Answer: number, place, acknowledged (a byte counts once), 0, 0, acknowledged by (the smallest subaddress that did). Refusals: 16, 10, 11, 1, 2, then 7 or 17 by the first faulty byte. */
+uint8_t humtrellis_plain_transfer(uint8_t part, uint8_t *chips, size_t chips_length, const uint8_t *bytes, size_t bytes_length,
                                   size_t *answer, size_t answer_length);
 
 /* Power-on of one plain chip: its registers become the power-on ones, taken or refused, and its other bytes stay.
- * Refusal: 11 with place 0, for SA0, subaddress or a column. */
-uint8_t humtrellis_chip_power_on(uint8_t *chip, size_t chip_length, size_t *answer, size_t answer_length);
+ * Refusals: 16, then 11 with place 0, for SA0, subaddress or a column. */
+uint8_t humtrellis_chip_power_on(uint8_t part, uint8_t *chip, size_t chip_length, size_t *answer, size_t answer_length);
 
-/* The lit elements of one plain chip at a blink phase into 160 bytes. Answer: number, place, lit, 0, 0, 0. Refusals: 11 with place 0, 8, 9. */
-uint8_t humtrellis_chip_picture(const uint8_t *chip, size_t chip_length, uint8_t phase,
+/* The lit elements of one plain chip at a blink phase into as many bytes as the part has columns. Answer: number, place, lit, 0, 0, 0. Refusals: 16, 11 with place 0, 8, 9. */
+uint8_t humtrellis_chip_picture(uint8_t part, const uint8_t *chip, size_t chip_length, uint8_t phase,
                                 uint8_t *out, size_t out_length, size_t *answer, size_t answer_length);
 
 /* What is whole of a torn bus log, its head and the records before the first tear, at the front of `out`; the bytes behind it stay.
@@ -122,7 +134,7 @@ uint8_t humtrellis_chip_picture(const uint8_t *chip, size_t chip_length, uint8_t
 uint8_t humtrellis_rescue(const uint8_t *log, size_t log_length, uint8_t *out, size_t out_length,
                           size_t *answer, size_t answer_length);
 
-/* The text of a bus log (docs/BENCH.md) at the front of `out`; the bytes behind it stay. Returns the text's length, which is never 0;
+/* The text of a bus log of PCF8532 drivers (docs/BENCH.md) at the front of `out`; the bytes behind it stay. Returns the text's length, which is never 0;
  * returns 0, and nothing is written, if `out` has under HUMTRELLIS_TEXT bytes. A refused log has a text too, its X line. */
 size_t humtrellis_replay(const uint8_t *log, size_t log_length, uint8_t *out, size_t out_length);
 

@@ -8,35 +8,35 @@ static int failures = 0;
 
 #define EXPECT(fact) ((fact) ? (void)0 : (void)(failures++, printf("tests/header.c:%d: not so: %s\n", __LINE__, #fact)))
 
-/* A bus of one chip in each group. */
+/* A bus of one PCF8532 in each group, or of four PCA85133 in group 0. */
 enum { RAM = 2 * HUMTRELLIS_COLUMNS };
-static uint8_t registers[HUMTRELLIS_REGISTERS], ram[RAM], picture[HUMTRELLIS_COLUMNS], chips[9 * HUMTRELLIS_CHIP], text[HUMTRELLIS_TEXT];
+static uint8_t registers[HUMTRELLIS_REGISTERS], ram[RAM], picture[HUMTRELLIS_COLUMNS], chips[17 * HUMTRELLIS_CHIP], text[HUMTRELLIS_TEXT];
 static uint8_t many[65537];
 static size_t answer[HUMTRELLIS_ANSWER];
 
 static uint8_t power_on(void) {
     memset(ram, 0, sizeof ram);
-    return humtrellis_power_on(1, 1, ram, sizeof ram, registers, sizeof registers, answer, HUMTRELLIS_ANSWER);
+    return humtrellis_power_on(HUMTRELLIS_PCF8532, 1, 1, ram, sizeof ram, registers, sizeof registers, answer, HUMTRELLIS_ANSWER);
 }
 
 static uint8_t send(const uint8_t *bytes, size_t length) {
-    return humtrellis_transfer(1, 1, registers, sizeof registers, ram, sizeof ram, bytes, length, answer, HUMTRELLIS_ANSWER);
+    return humtrellis_transfer(HUMTRELLIS_PCF8532, 1, 1, registers, sizeof registers, ram, sizeof ram, bytes, length, answer, HUMTRELLIS_ANSWER);
 }
 
 static uint8_t show(uint8_t group, uint8_t phase, size_t length) {
-    return humtrellis_picture(1, 1, registers, sizeof registers, ram, sizeof ram, group, phase, picture, length, answer, HUMTRELLIS_ANSWER);
+    return humtrellis_picture(HUMTRELLIS_PCF8532, 1, 1, registers, sizeof registers, ram, sizeof ram, group, phase, picture, length, answer, HUMTRELLIS_ANSWER);
 }
 
-static uint8_t send_plain(size_t count, const uint8_t *bytes, size_t length) {
-    return humtrellis_plain_transfer(chips, count * HUMTRELLIS_CHIP, bytes, length, answer, HUMTRELLIS_ANSWER);
+static uint8_t send_plain(uint8_t part, size_t count, const uint8_t *bytes, size_t length) {
+    return humtrellis_plain_transfer(part, chips, count * HUMTRELLIS_CHIP, bytes, length, answer, HUMTRELLIS_ANSWER);
 }
 
-static uint8_t power_on_chip(size_t length) {
-    return humtrellis_chip_power_on(chips, length, answer, HUMTRELLIS_ANSWER);
+static uint8_t power_on_chip(uint8_t part, size_t length) {
+    return humtrellis_chip_power_on(part, chips, length, answer, HUMTRELLIS_ANSWER);
 }
 
-static uint8_t show_chip(size_t length, uint8_t phase, size_t out_length) {
-    return humtrellis_chip_picture(chips, length, phase, picture, out_length, answer, HUMTRELLIS_ANSWER);
+static uint8_t show_chip(uint8_t part, size_t length, uint8_t phase, size_t out_length) {
+    return humtrellis_chip_picture(part, chips, length, phase, picture, out_length, answer, HUMTRELLIS_ANSWER);
 }
 
 /* One command to group 1 sets one register, and the others stay 0. */
@@ -89,7 +89,7 @@ static void answers(void) {
     EXPECT(power_on() == HUMTRELLIS_TAKEN);
     EXPECT(send(past_the_end, sizeof past_the_end) == HUMTRELLIS_TAKEN);
     EXPECT(answer[HUMTRELLIS_ACKNOWLEDGED] == 8 && answer[HUMTRELLIS_STORED] == 3 && answer[HUMTRELLIS_DISCARDED] == 5);
-    EXPECT(answer[HUMTRELLIS_ACKNOWLEDGED_BY] == HUMTRELLIS_NONE && HUMTRELLIS_NONE == 4 && HUMTRELLIS_VERSION == 2);
+    EXPECT(answer[HUMTRELLIS_ACKNOWLEDGED_BY] == HUMTRELLIS_NONE && HUMTRELLIS_NONE == 4 && HUMTRELLIS_VERSION == 3);
     EXPECT(ram[HUMTRELLIS_COLUMNS - 1] == 7 && ram[HUMTRELLIS_COLUMNS] == 0);
     EXPECT(send(group1, sizeof group1) == HUMTRELLIS_TAKEN && answer[HUMTRELLIS_ACKNOWLEDGED_BY] == 0);
     EXPECT(ram[HUMTRELLIS_COLUMNS] == 5 && ram[HUMTRELLIS_COLUMNS + 1] == 10);
@@ -108,18 +108,18 @@ static void refusals(void) {
     EXPECT(answer[HUMTRELLIS_NUMBER] == HUMTRELLIS_REFUSED_CONTROL && answer[HUMTRELLIS_PLACE] == 3);
     EXPECT(show(2, 0, sizeof picture) == HUMTRELLIS_REFUSED_VIEW && show(0, 2, sizeof picture) == HUMTRELLIS_REFUSED_VIEW);
     EXPECT(show(0, 0, sizeof picture - 1) == HUMTRELLIS_REFUSED_OUT_LENGTH);
-    EXPECT(humtrellis_power_on(5, 0, ram, 0, registers, sizeof registers, answer, HUMTRELLIS_ANSWER) == HUMTRELLIS_REFUSED_CHIP_COUNT);
-    EXPECT(humtrellis_power_on(1, 0, ram, 0, registers, sizeof registers, answer, HUMTRELLIS_ANSWER) == HUMTRELLIS_REFUSED_RAM_LENGTH);
+    EXPECT(humtrellis_power_on(HUMTRELLIS_PCF8532, 5, 0, ram, 0, registers, sizeof registers, answer, HUMTRELLIS_ANSWER) == HUMTRELLIS_REFUSED_CHIP_COUNT);
+    EXPECT(humtrellis_power_on(HUMTRELLIS_PCF8532, 1, 0, ram, 0, registers, sizeof registers, answer, HUMTRELLIS_ANSWER) == HUMTRELLIS_REFUSED_RAM_LENGTH);
     ram[7] = 16;
     registers[HUMTRELLIS_E] = 1;
-    EXPECT(humtrellis_power_on(1, 1, ram, RAM, registers, sizeof registers, answer, HUMTRELLIS_ANSWER) == HUMTRELLIS_REFUSED_COLUMN);
+    EXPECT(humtrellis_power_on(HUMTRELLIS_PCF8532, 1, 1, ram, RAM, registers, sizeof registers, answer, HUMTRELLIS_ANSWER) == HUMTRELLIS_REFUSED_COLUMN);
     EXPECT(answer[HUMTRELLIS_PLACE] == 7 && registers[HUMTRELLIS_E] == 0);
 }
 
 static void sizes(void) {
-    EXPECT(humtrellis_power_on(1, 1, ram, RAM, registers, HUMTRELLIS_REGISTERS - 1, answer, HUMTRELLIS_ANSWER) == HUMTRELLIS_SIZE);
-    EXPECT(humtrellis_power_on(1, 1, ram, RAM, registers, HUMTRELLIS_REGISTERS, answer, HUMTRELLIS_ANSWER - 1) == HUMTRELLIS_SIZE);
-    EXPECT(humtrellis_plain_transfer(chips, HUMTRELLIS_CHIP - 1, ram, 1, answer, HUMTRELLIS_ANSWER) == HUMTRELLIS_SIZE);
+    EXPECT(humtrellis_power_on(HUMTRELLIS_PCF8532, 1, 1, ram, RAM, registers, HUMTRELLIS_REGISTERS - 1, answer, HUMTRELLIS_ANSWER) == HUMTRELLIS_SIZE);
+    EXPECT(humtrellis_power_on(HUMTRELLIS_PCF8532, 1, 1, ram, RAM, registers, HUMTRELLIS_REGISTERS, answer, HUMTRELLIS_ANSWER - 1) == HUMTRELLIS_SIZE);
+    EXPECT(humtrellis_plain_transfer(HUMTRELLIS_PCF8532, chips, HUMTRELLIS_CHIP - 1, ram, 1, answer, HUMTRELLIS_ANSWER) == HUMTRELLIS_SIZE);
 }
 
 /* Two chips at one place: SA0 1, subaddress 2. A byte that both acknowledge counts once. */
@@ -130,13 +130,13 @@ static void plain_chips(void) {
     chips[HUMTRELLIS_CHIP_SA0] = second[HUMTRELLIS_CHIP_SA0] = 1;
     chips[HUMTRELLIS_CHIP_SUBADDRESS] = second[HUMTRELLIS_CHIP_SUBADDRESS] = 2;
     second[HUMTRELLIS_CHIP_REGISTERS + HUMTRELLIS_P] = 7;
-    EXPECT(send_plain(2, data, sizeof data) == HUMTRELLIS_TAKEN);
+    EXPECT(send_plain(HUMTRELLIS_PCF8532, 2, data, sizeof data) == HUMTRELLIS_TAKEN);
     EXPECT(answer[HUMTRELLIS_ACKNOWLEDGED] == 5 && answer[HUMTRELLIS_ACKNOWLEDGED_BY] == 2);
     EXPECT(chips[0] == 5 && chips[1] == 10 && second[7] == 5 && second[8] == 10);
     EXPECT(second[HUMTRELLIS_CHIP_REGISTERS + HUMTRELLIS_P] == 9);
     second[HUMTRELLIS_CHIP_SUBADDRESS] = 4;
-    EXPECT(send_plain(2, data, sizeof data) == HUMTRELLIS_REFUSED_CHIP && answer[HUMTRELLIS_PLACE] == 1);
-    EXPECT(send_plain(9, data, sizeof data) == HUMTRELLIS_REFUSED_CHIP_LIST);
+    EXPECT(send_plain(HUMTRELLIS_PCF8532, 2, data, sizeof data) == HUMTRELLIS_REFUSED_CHIP && answer[HUMTRELLIS_PLACE] == 1);
+    EXPECT(send_plain(HUMTRELLIS_PCF8532, 9, data, sizeof data) == HUMTRELLIS_REFUSED_CHIP_LIST);
 }
 
 /* Power-on clears the registers, also bad ones, and keeps the rest; the picture is of 160 bytes. */
@@ -145,16 +145,71 @@ static void one_chip(void) {
     chips[3] = 9;
     chips[HUMTRELLIS_CHIP_SA0] = 1;
     chips[HUMTRELLIS_CHIP_REGISTERS + HUMTRELLIS_P] = 200;
-    EXPECT(power_on_chip(HUMTRELLIS_CHIP) == HUMTRELLIS_TAKEN);
+    EXPECT(power_on_chip(HUMTRELLIS_PCF8532, HUMTRELLIS_CHIP) == HUMTRELLIS_TAKEN);
     EXPECT(chips[3] == 9 && chips[HUMTRELLIS_CHIP_SA0] == 1 && chips[HUMTRELLIS_CHIP_REGISTERS + HUMTRELLIS_P] == 0);
     chips[HUMTRELLIS_CHIP_REGISTERS + HUMTRELLIS_E] = 1;
-    EXPECT(show_chip(HUMTRELLIS_CHIP, 0, HUMTRELLIS_COLUMNS) == HUMTRELLIS_TAKEN && answer[HUMTRELLIS_LIT] == 2 && picture[3] == 9);
-    EXPECT(show_chip(HUMTRELLIS_CHIP, 2, HUMTRELLIS_COLUMNS) == HUMTRELLIS_REFUSED_VIEW);
-    EXPECT(show_chip(HUMTRELLIS_CHIP, 0, HUMTRELLIS_COLUMNS - 1) == HUMTRELLIS_REFUSED_OUT_LENGTH);
+    EXPECT(show_chip(HUMTRELLIS_PCF8532, HUMTRELLIS_CHIP, 0, HUMTRELLIS_COLUMNS) == HUMTRELLIS_TAKEN && answer[HUMTRELLIS_LIT] == 2 && picture[3] == 9);
+    EXPECT(show_chip(HUMTRELLIS_PCF8532, HUMTRELLIS_CHIP, 2, HUMTRELLIS_COLUMNS) == HUMTRELLIS_REFUSED_VIEW);
+    EXPECT(show_chip(HUMTRELLIS_PCF8532, HUMTRELLIS_CHIP, 0, HUMTRELLIS_COLUMNS - 1) == HUMTRELLIS_REFUSED_OUT_LENGTH);
     chips[HUMTRELLIS_CHIP_SUBADDRESS] = 4;
-    EXPECT(show_chip(HUMTRELLIS_CHIP, 0, HUMTRELLIS_COLUMNS) == HUMTRELLIS_REFUSED_CHIP);
-    EXPECT(power_on_chip(HUMTRELLIS_CHIP) == HUMTRELLIS_REFUSED_CHIP && chips[HUMTRELLIS_CHIP_REGISTERS + HUMTRELLIS_E] == 0);
-    EXPECT(power_on_chip(HUMTRELLIS_CHIP - 1) == HUMTRELLIS_SIZE && show_chip(HUMTRELLIS_CHIP + 1, 0, HUMTRELLIS_COLUMNS) == HUMTRELLIS_SIZE);
+    EXPECT(show_chip(HUMTRELLIS_PCF8532, HUMTRELLIS_CHIP, 0, HUMTRELLIS_COLUMNS) == HUMTRELLIS_REFUSED_CHIP);
+    EXPECT(power_on_chip(HUMTRELLIS_PCF8532, HUMTRELLIS_CHIP) == HUMTRELLIS_REFUSED_CHIP && chips[HUMTRELLIS_CHIP_REGISTERS + HUMTRELLIS_E] == 0);
+    EXPECT(power_on_chip(HUMTRELLIS_PCF8532, HUMTRELLIS_CHIP - 1) == HUMTRELLIS_SIZE && show_chip(HUMTRELLIS_PCF8532, HUMTRELLIS_CHIP + 1, 0, HUMTRELLIS_COLUMNS) == HUMTRELLIS_SIZE);
+}
+
+static uint8_t send_to_four(uint8_t part, const uint8_t *bytes, size_t length) {
+    return humtrellis_transfer(part, 4, 0, registers, sizeof registers, ram, RAM, bytes, length, answer, HUMTRELLIS_ANSWER);
+}
+
+static uint8_t show_four(uint8_t part, size_t length) {
+    static uint8_t out[RAM];
+    return humtrellis_picture(part, 4, 0, registers, sizeof registers, ram, RAM, 0, 0, out, length, answer, HUMTRELLIS_ANSWER);
+}
+
+/* PCA85133: 80 columns, one pointer command up to 4F, eight subaddresses, 8 where no chip acknowledged. */
+static void smaller_part(void) {
+    const uint8_t part = HUMTRELLIS_PCA85133, past[] = {0x70, 0x80, 0xE7, 0x40, 0xA5}, undefined[] = {0x70, 0x00, 0x50};
+    const uint8_t edge[] = {0x70, 0x80, 0xC8, 0x80, 0x4F, 0x40, 0xA5};
+    memset(ram, 0, sizeof ram);
+    EXPECT(HUMTRELLIS_PCF8532 == 0 && HUMTRELLIS_PCA85133 == 1 && HUMTRELLIS_PCA85133_COLUMNS == 80 && HUMTRELLIS_PCA85133_NONE == 8);
+    EXPECT(humtrellis_power_on(part, 4, 0, ram, RAM, registers, sizeof registers, answer, HUMTRELLIS_ANSWER) == HUMTRELLIS_TAKEN);
+    EXPECT(send_to_four(part, edge, sizeof edge) == HUMTRELLIS_TAKEN && answer[HUMTRELLIS_ACKNOWLEDGED_BY] == 1);
+    EXPECT(ram[79] == 5 && ram[80] == 10 && registers[HUMTRELLIS_P] == 1 && registers[HUMTRELLIS_A] == 1);
+    EXPECT(show_four(part, RAM) == HUMTRELLIS_TAKEN && answer[HUMTRELLIS_LIT] == 4);
+    EXPECT(show_four(part, RAM / 2) == HUMTRELLIS_REFUSED_OUT_LENGTH);
+    EXPECT(send_to_four(part, past, sizeof past) == HUMTRELLIS_TAKEN && answer[HUMTRELLIS_ACKNOWLEDGED_BY] == HUMTRELLIS_PCA85133_NONE);
+    EXPECT(send_to_four(part, undefined, sizeof undefined) == HUMTRELLIS_REFUSED_COMMAND && answer[HUMTRELLIS_ACKNOWLEDGED_BY] == HUMTRELLIS_PCA85133_NONE);
+    EXPECT(humtrellis_power_on(part, 9, 0, ram, RAM, registers, sizeof registers, answer, HUMTRELLIS_ANSWER) == HUMTRELLIS_REFUSED_CHIP_COUNT);
+}
+
+/* A plain PCA85133: the bytes behind its 80 columns have any value, and stay. At most 16 make a list. */
+static void smaller_chips(void) {
+    const uint8_t part = HUMTRELLIS_PCA85133, data[] = {0x70, 0x80, 0xE7, 0x80, 0x4E, 0x40, 0xA5};
+    memset(chips, 0, sizeof chips);
+    memset(chips + HUMTRELLIS_PCA85133_COLUMNS, 255, HUMTRELLIS_COLUMNS - HUMTRELLIS_PCA85133_COLUMNS);
+    chips[HUMTRELLIS_CHIP_SUBADDRESS] = 7;
+    EXPECT(power_on_chip(part, HUMTRELLIS_CHIP) == HUMTRELLIS_TAKEN);
+    EXPECT(send_plain(part, 16, data, sizeof data) == HUMTRELLIS_TAKEN && answer[HUMTRELLIS_ACKNOWLEDGED_BY] == 7);
+    EXPECT(chips[78] == 5 && chips[79] == 10 && chips[80] == 255 && chips[HUMTRELLIS_CHIP_REGISTERS + HUMTRELLIS_A] == 8);
+    chips[HUMTRELLIS_CHIP_REGISTERS + HUMTRELLIS_E] = 1;
+    EXPECT(show_chip(part, HUMTRELLIS_CHIP, 0, HUMTRELLIS_PCA85133_COLUMNS) == HUMTRELLIS_TAKEN && answer[HUMTRELLIS_LIT] == 4 && picture[78] == 5);
+    EXPECT(show_chip(part, HUMTRELLIS_CHIP, 0, HUMTRELLIS_COLUMNS) == HUMTRELLIS_REFUSED_OUT_LENGTH);
+    EXPECT(send_plain(part, 17, data, sizeof data) == HUMTRELLIS_REFUSED_CHIP_LIST);
+    chips[HUMTRELLIS_CHIP_SUBADDRESS] = 8;
+    EXPECT(send_plain(part, 16, data, sizeof data) == HUMTRELLIS_REFUSED_CHIP);
+}
+
+/* An unknown part comes before every refusal, but not before a wrong size; both power-ons still give power-on registers. */
+static void unknown_part(void) {
+    registers[HUMTRELLIS_E] = 9;
+    EXPECT(send_to_four(2, many, 0) == HUMTRELLIS_REFUSED_PART && answer[HUMTRELLIS_ACKNOWLEDGED_BY] == HUMTRELLIS_NONE && registers[HUMTRELLIS_E] == 9);
+    EXPECT(answer[HUMTRELLIS_NUMBER] == HUMTRELLIS_REFUSED_PART && HUMTRELLIS_REFUSED_PART == 16 && answer[HUMTRELLIS_PLACE] == 0);
+    EXPECT(show_four(2, 0) == HUMTRELLIS_REFUSED_PART && answer[HUMTRELLIS_ACKNOWLEDGED_BY] == 0);
+    EXPECT(humtrellis_power_on(255, 9, 9, ram, 0, registers, sizeof registers, answer, HUMTRELLIS_ANSWER) == HUMTRELLIS_REFUSED_PART && registers[HUMTRELLIS_E] == 0);
+    EXPECT(humtrellis_power_on(255, 9, 9, ram, 0, registers, sizeof registers, answer, HUMTRELLIS_ANSWER - 1) == HUMTRELLIS_SIZE);
+    memset(chips, 255, sizeof chips);
+    EXPECT(send_plain(2, 17, many, 0) == HUMTRELLIS_REFUSED_PART && show_chip(2, HUMTRELLIS_CHIP, 2, 0) == HUMTRELLIS_REFUSED_PART);
+    EXPECT(power_on_chip(2, HUMTRELLIS_CHIP) == HUMTRELLIS_REFUSED_PART && chips[HUMTRELLIS_CHIP_REGISTERS + HUMTRELLIS_E] == 0 && chips[0] == 255);
 }
 
 /* The text of a log that is refused at a place. */
@@ -196,6 +251,9 @@ int main(void) {
     sizes();
     plain_chips();
     one_chip();
+    smaller_part();
+    smaller_chips();
+    unknown_part();
     logs();
     rescues();
     return failures != 0;

@@ -10,13 +10,13 @@ pub type Numbers = [usize; ANSWER];
 #[rustfmt::skip]
 extern "C" {
     fn humtrellis_transfer(
-        chips0: u8, chips1: u8, registers: *mut u8, registers_length: usize,
+        part: u8, chips0: u8, chips1: u8, registers: *mut u8, registers_length: usize,
         ram: *mut u8, ram_length: usize, bytes: *const u8, bytes_length: usize,
         answer: *mut usize, answer_length: usize,
     ) -> u8;
 
     fn humtrellis_picture(
-        chips0: u8, chips1: u8, registers: *const u8, registers_length: usize,
+        part: u8, chips0: u8, chips1: u8, registers: *const u8, registers_length: usize,
         ram: *const u8, ram_length: usize, group: u8, phase: u8,
         out: *mut u8, out_length: usize, answer: *mut usize, answer_length: usize,
     ) -> u8;
@@ -25,6 +25,7 @@ extern "C" {
 }
 
 pub fn transfer(
+    part: u8,
     [chips0, chips1]: [u8; 2],
     registers: &mut RegisterBytes,
     ram: &mut [u8],
@@ -34,6 +35,7 @@ pub fn transfer(
     // Safety: each pointer goes with the length of the buffer that it points to.
     unsafe {
         humtrellis_transfer(
+            part,
             chips0,
             chips1,
             registers.as_mut_ptr(),
@@ -54,6 +56,7 @@ pub fn picture(view: View, out: &mut [u8]) -> Numbers {
     // Safety: each pointer goes with the length of the buffer that it points to.
     unsafe {
         humtrellis_picture(
+            view.part,
             view.chips0,
             view.chips1,
             view.registers.as_ptr(),

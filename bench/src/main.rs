@@ -10,14 +10,13 @@ mod table_loop;
 mod timing;
 mod ways;
 
-use samples::{MODES, SHOWN};
 use std::process::ExitCode;
 
 fn run() -> Result<(), String> {
     agree::check()?;
-    let transfers = MODES.map(measure::transfers);
+    let transfers = measure::all(&samples::filled(), measure::transfers);
     report::transfers(&transfers);
-    let pictures = SHOWN.map(|chips| MODES.map(|mode| measure::pictures(mode, chips)));
+    let pictures = measure::all(&samples::shown(), measure::pictures);
     report::pictures(&pictures);
     replay::run()?;
     report::targets(&transfers, &pictures);

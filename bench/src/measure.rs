@@ -1,30 +1,40 @@
-//! What is timed: a transfer and a picture over four chips, in a mode, in each way.
+//! What is timed: a transfer that fills a setup's chips, and their pictures, in each way.
 
-use crate::samples::{self, Bus, Mode, TURNS};
+use crate::samples::{Bus, Setup, TURNS};
 use crate::timing::{figures, Call, Figure};
 use crate::ways::{Picture, Transfer, PICTURES, TRANSFERS};
-use humtrellis_tests::model::COLUMNS;
 use humtrellis_tests::random::Random;
 use std::hint::black_box;
 
-fn transfer_call<'a>(transfer: Transfer, transfers: &'a [Vec<u8>]) -> Call<'a> {
-    let mut bus = Bus::new(&mut Random::new(0), [4, 0]);
+/// A setup and the figures of each way in it.
+pub type Row<const WAYS: usize> = (Setup, [Figure; WAYS]);
+
+pub fn all<const WAYS: usize>(
+    setups: &[Setup],
+    measure: fn(Setup) -> [Figure; WAYS],
+) -> Vec<Row<WAYS>> {
+    let row = |setup: &Setup| (*setup, measure(*setup));
+    setups.iter().map(row).collect()
+}
+
+fn transfer_call<'a>(transfer: Transfer, mut bus: Bus, transfers: &'a [Vec<u8>]) -> Call<'a> {
     Box::new(move |turn| {
         let bytes = black_box(transfers[turn % TURNS].as_slice());
-        black_box(transfer(bus.chips, &mut bus.registers, &mut bus.ram, bytes));
+        black_box(bus.send(transfer, bytes));
     })
 }
 
 /// Nanoseconds a data byte.
-pub fn transfers(mode: Mode) -> [Figure; 3] {
-    let transfers = samples::transfers(mode);
-    let calls = TRANSFERS.map(|(_, way)| transfer_call(way, &transfers));
-    figures(calls).map(|figure| figure.per(mode.data_bytes()))
+pub fn transfers(setup: Setup) -> [Figure; 3] {
+    let transfers = setup.transfers();
+    let bus = || setup.bus(&mut Random::new(0));
+    let calls = TRANSFERS.map(|(_, way)| transfer_call(way, bus(), &transfers));
+    figures(calls).map(|figure| figure.per(setup.data_bytes()))
 }
 
 /// The pictures of the groups that have chips.
 fn picture_call<'a>(picture: Picture, buses: &'a [Bus]) -> Call<'a> {
-    let rooms = buses[0].chips.map(|chips| COLUMNS * chips as usize);
+    let rooms = [0, 1].map(|group| buses[0].columns(group));
     let mut out = vec![0; rooms[0].max(rooms[1])];
     Box::new(move |turn| {
         let bus = black_box(&buses[turn % TURNS]);
@@ -35,8 +45,8 @@ fn picture_call<'a>(picture: Picture, buses: &'a [Bus]) -> Call<'a> {
 }
 
 /// Nanoseconds a column.
-pub fn pictures(mode: Mode, chips: [u8; 2]) -> [Figure; 4] {
-    let buses = samples::shown_buses(mode, chips);
+pub fn pictures(setup: Setup) -> [Figure; 4] {
+    let buses = setup.shown_buses();
     let calls = PICTURES.map(|(_, way)| picture_call(way, &buses));
-    figures(calls).map(|figure| figure.per(buses[0].ram.len()))
+    figures(calls).map(|figure| figure.per(setup.columns()))
 }

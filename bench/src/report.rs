@@ -1,32 +1,34 @@
 //! The printed tables and targets.
 
-use crate::samples::{Mode, MODES, SHOWN};
+use crate::measure::Row;
+use crate::samples::{around_data, Setup};
 use crate::timing::{Figure, SAMPLES};
-use humtrellis_tests::model::COLUMNS;
-
-/// The figures of library, model and loop, mode by mode.
-pub type Rows = [[Figure; 3]; 4];
-
-/// The figures of library, model, loop by columns and loop by words, for each number of columns, mode by mode.
-pub type Pictures = [[[Figure; 4]; 4]; 3];
-
-/// Bytes before the data run: address, four commands with their control bytes, and the run's control byte.
-const BEFORE_DATA: usize = 10;
 
 fn ratio(library: Figure, other: Figure) -> f64 {
     library.median / other.median
 }
 
-fn print_rows(what: &str, rows: &Rows, size: impl Fn(Mode) -> String) {
-    println!(
-        "{:6} | {what:>14} | {:>7} | {:>7} | {:>7} | library/model | library/loop",
-        "mode", "library", "model", "loop"
-    );
-    for (mode, [a, b, c]) in MODES.iter().zip(rows) {
+fn spread(figure: &Figure) -> String {
+    format!("{:.3} to {:.3}", figure.lowest, figure.highest)
+}
+
+/// What each row begins with.
+fn row_name(setup: &Setup) -> String {
+    format!("{:8} | {:6}", setup.part_name(), setup.mode.name)
+}
+
+fn data_and_all_bytes(setup: &Setup) -> String {
+    let data = setup.data_bytes();
+    format!("{data}/{}", data + around_data(setup.part))
+}
+
+fn print_medians(rows: &[Row<3>]) {
+    println!("part     | mode   | data/all bytes | library |   model |    loop | library/model | library/loop");
+    for (setup, [a, b, c]) in rows {
         println!(
-            "{:6} | {:>14} | {:7.3} | {:7.3} | {:7.3} | {:13.2} | {:12.2}",
-            mode.name,
-            size(*mode),
+            "{} | {:>14} | {:7.3} | {:7.3} | {:7.3} | {:13.2} | {:12.2}",
+            row_name(setup),
+            data_and_all_bytes(setup),
             a.median,
             b.median,
             c.median,
@@ -37,57 +39,45 @@ fn print_rows(what: &str, rows: &Rows, size: impl Fn(Mode) -> String) {
     println!();
 }
 
-fn spread(figure: &Figure) -> String {
-    format!("{:.3} to {:.3}", figure.lowest, figure.highest)
-}
-
-fn print_spread(rows: &Rows) {
+fn print_spread(rows: &[Row<3>]) {
     println!(
-        "{:6} | {:>18} | {:>18} | {:>18}",
-        "mode", "library", "model", "loop"
+        "part     | mode   | {:>18} | {:>18} | {:>18}",
+        "library", "model", "loop"
     );
-    for (mode, figures) in MODES.iter().zip(rows) {
+    for (setup, figures) in rows {
         let [a, b, c] = figures.each_ref().map(spread);
-        println!("{:6} | {a:>18} | {b:>18} | {c:>18}", mode.name);
+        println!("{} | {a:>18} | {b:>18} | {c:>18}", row_name(setup));
     }
     println!();
 }
 
-pub fn transfers(rows: &Rows) {
-    println!("A transfer that fills four chips: ns a data byte, median of {SAMPLES} samples");
-    print_rows("data/all bytes", rows, |mode| {
-        let data = mode.data_bytes();
-        format!("{data}/{}", data + BEFORE_DATA)
-    });
+/// The figures of library, model and loop.
+pub fn transfers(rows: &[Row<3>]) {
+    println!("A transfer that fills four PCF8532 or eight PCA85133: ns a data byte, median of {SAMPLES} samples");
+    print_medians(rows);
     println!("The same: lowest and highest sample");
     print_spread(rows);
 }
 
-/// The columns of the pictures of both groups.
-fn columns_of(chips: &[u8; 2]) -> usize {
-    COLUMNS * (chips[0] + chips[1]) as usize
-}
-
-pub fn pictures(pictures: &Pictures) {
+/// The figures of library, model, loop by columns and loop by words.
+pub fn pictures(rows: &[Row<4>]) {
     println!(
         "A picture: ns a column, median of {SAMPLES} samples, and the library's lowest and highest"
     );
-    println!("mode   | columns | library |   model | by columns | by words | library/by columns | library/by words |        library");
-    for (chips, rows) in SHOWN.iter().zip(pictures) {
-        let columns = columns_of(chips);
-        for (mode, [a, b, c, d]) in MODES.iter().zip(rows) {
-            println!(
-                "{:6} | {columns:7} | {:7.3} | {:7.3} | {:10.3} | {:8.3} | {:18.2} | {:16.2} | {}",
-                mode.name,
-                a.median,
-                b.median,
-                c.median,
-                d.median,
-                ratio(*a, *c),
-                ratio(*a, *d),
-                spread(a)
-            );
-        }
+    println!("part     | mode   | columns | library |   model | by columns | by words | library/by columns | library/by words |        library");
+    for (setup, [a, b, c, d]) in rows {
+        println!(
+            "{} | {:7} | {:7.3} | {:7.3} | {:10.3} | {:8.3} | {:18.2} | {:16.2} | {}",
+            row_name(setup),
+            setup.columns(),
+            a.median,
+            b.median,
+            c.median,
+            d.median,
+            ratio(*a, *c),
+            ratio(*a, *d),
+            spread(a)
+        );
     }
     println!();
 }
@@ -107,21 +97,16 @@ fn print_target(target: &str, value: f64, limit: f64) {
     println!("{verdict:6} | {value:6.2} | {limit:5} | {target}");
 }
 
-pub fn targets(transfers: &Rows, pictures: &Pictures) {
+pub fn targets(transfers: &[Row<3>], pictures: &[Row<4>]) {
     println!("Targets: verdict, measured, at most");
-    for (mode, [a, b, c]) in MODES.iter().zip(transfers) {
-        let (name, model, table) = (mode.name, ratio(*a, *b), ratio(*a, *c));
+    for (setup, [a, b, c]) in transfers {
+        let (name, model, table) = (setup.name(), ratio(*a, *b), ratio(*a, *c));
         print_target(&format!("transfer, {name}: library/model"), model, 1.0);
         print_target(&format!("transfer, {name}: library/loop"), table, 2.0);
     }
-    for (chips, rows) in SHOWN.iter().zip(pictures) {
-        let columns = columns_of(chips);
-        for (mode, [a, _, c, _]) in MODES.iter().zip(rows) {
-            let target = format!(
-                "picture, {columns} columns, {}: library/by columns",
-                mode.name
-            );
-            print_target(&target, ratio(*a, *c), 1.1);
-        }
+    for (setup, [a, _, c, _]) in pictures {
+        let (name, columns) = (setup.name(), setup.columns());
+        let target = format!("picture, {columns} columns, {name}: library/by columns");
+        print_target(&target, ratio(*a, *c), 1.1);
     }
 }

@@ -1,14 +1,13 @@
-//! The inputs: transfers that fill four chips, buses to show, and logs; the same in every run.
+//! The inputs: setups, transfers that fill their chips, buses to show, and logs; the same in every run.
 
-use crate::library::RegisterBytes;
-use humtrellis_tests::generate::commands_then_data;
-use humtrellis_tests::model::{Registers, View, COLUMNS, REGISTERS, SET};
+use crate::library::{Numbers, RegisterBytes};
+use crate::ways::Transfer;
+use humtrellis_tests::generate::{commands_then_data, position_commands, shape};
+use humtrellis_tests::model::{Part, Registers, View, LOG_PART, REGISTERS, SET};
 use humtrellis_tests::random::Random;
 
 /// Inputs of one kind that take turns, so that no call repeats the one before.
 pub const TURNS: usize = 8;
-/// Columns of four chips.
-pub const FOUR_CHIPS: usize = 4 * COLUMNS;
 
 #[derive(Clone, Copy)]
 pub struct Mode {
@@ -23,23 +22,24 @@ impl Mode {
     const fn new(name: &'static str, bits: u8, width: usize) -> Self {
         Mode { name, bits, width }
     }
-
-    /// Data bytes that fill four chips; in 1:3 the last one is cut.
-    pub fn data_bytes(self) -> usize {
-        FOUR_CHIPS.div_ceil(self.width)
-    }
 }
 
-pub const MODES: [Mode; 4] = [
+const MODES: [Mode; 4] = [
     Mode::new("static", 1, 8),
     Mode::new("1:2", 2, 4),
     Mode::new("1:3", 3, 3),
     Mode::new("1:4", 0, 2),
 ];
 
+/// Columns of so many chips.
+fn columns_of(part: u8, chips: u8) -> usize {
+    shape(part).columns() * chips as usize
+}
+
 /// A bus as a caller holds it.
 #[derive(Clone, PartialEq, Eq)]
 pub struct Bus {
+    pub part: u8,
     pub chips: [u8; 2],
     pub registers: RegisterBytes,
     pub ram: Vec<u8>,
@@ -47,17 +47,29 @@ pub struct Bus {
 
 impl Bus {
     /// Power-on registers over columns of any value.
-    pub fn new(random: &mut Random, chips: [u8; 2]) -> Self {
-        let columns = COLUMNS * (chips[0] + chips[1]) as usize;
+    pub fn new(random: &mut Random, part: u8, chips: [u8; 2]) -> Self {
+        let columns = columns_of(part, chips[0] + chips[1]);
         Bus {
+            part,
             chips,
             registers: [0; REGISTERS],
             ram: (0..columns).map(|_| random.byte() & 15).collect(),
         }
     }
 
+    /// Columns of a group.
+    pub fn columns(&self, group: usize) -> usize {
+        columns_of(self.part, self.chips[group])
+    }
+
+    pub fn send(&mut self, transfer: Transfer, bytes: &[u8]) -> Numbers {
+        let (registers, ram) = (&mut self.registers, &mut self.ram);
+        transfer(self.part, self.chips, registers, ram, bytes)
+    }
+
     pub fn view(&self, group: u8, phase: u8) -> View<'_> {
         View {
+            part: self.part,
             chips0: self.chips[0],
             chips1: self.chips[1],
             registers: &self.registers,
@@ -68,38 +80,97 @@ impl Bus {
     }
 }
 
-/// Sets mode, device and pointer (each with its control byte), then a data run from column 0 to the last.
-fn transfer(random: &mut Random, mode: Mode, length: usize) -> Vec<u8> {
-    let commands = [0xC8 | mode.bits, 0xE0, 0x00, 0x40];
-    commands_then_data(0x70, &commands, &random.bytes(length))
+/// What a row of figures is about: chips of a part in each group, in a mode.
+#[derive(Clone, Copy)]
+pub struct Setup {
+    pub part: Part,
+    chips: [u8; 2],
+    pub mode: Mode,
 }
 
-pub fn transfers(mode: Mode) -> Vec<Vec<u8>> {
-    let mut random = Random::new(mode.bits as u64);
-    (0..TURNS)
-        .map(|_| transfer(&mut random, mode, mode.data_bytes()))
-        .collect()
+/// A full group of each part: 640 columns.
+pub fn filled() -> Vec<Setup> {
+    setups(|most| [[most, 0]])
 }
 
-/// The chips whose pictures are timed: 160, 640 and, both groups one after the other, 1,280 columns.
-pub const SHOWN: [[u8; 2]; 3] = [[1, 0], [4, 0], [4, 4]];
+/// One chip, a full group and two full groups of each part: 160 or 80, 640 and 1,280 columns.
+pub fn shown() -> Vec<Setup> {
+    setups(|most| [[1, 0], [most, 0], [most, most]])
+}
 
-/// Chips in a mode, enabled, with columns of any value and both output banks in turn.
-pub fn shown_buses(mode: Mode, chips: [u8; 2]) -> Vec<Bus> {
-    let mut random = Random::new(16 + mode.bits as u64);
-    let mut shown = |turn: usize| {
-        let mut bus = Bus::new(&mut random, chips);
-        let shown = Registers {
-            e: 1,
-            m: mode.bits,
-            o: (turn % 2) as u8,
-            ..Registers::power_on()
+/// The chips that `chips` makes of the most that a group has, of each part and in each mode.
+fn setups<const COUNT: usize>(chips: fn(u8) -> [[u8; 2]; COUNT]) -> Vec<Setup> {
+    let mut setups = Vec::new();
+    for part in Part::BOTH {
+        for chips in chips(part.subaddresses()) {
+            setups.extend(MODES.map(|mode| Setup { part, chips, mode }));
+        }
+    }
+    setups
+}
+
+impl Setup {
+    pub fn part_name(self) -> &'static str {
+        match self.part {
+            Part::Pcf8532 => "PCF8532",
+            Part::Pca85133 => "PCA85133",
+        }
+    }
+
+    pub fn name(self) -> String {
+        format!("{}, {}", self.part_name(), self.mode.name)
+    }
+
+    /// Columns of both groups.
+    pub fn columns(self) -> usize {
+        columns_of(self.part.number(), self.chips[0] + self.chips[1])
+    }
+
+    /// Data bytes that fill the columns; of 640 in 1:3 the last one is cut.
+    pub fn data_bytes(self) -> usize {
+        self.columns().div_ceil(self.mode.width)
+    }
+
+    pub fn bus(self, random: &mut Random) -> Bus {
+        Bus::new(random, self.part.number(), self.chips)
+    }
+
+    pub fn transfers(self) -> Vec<Vec<u8>> {
+        let mut random = Random::new(self.mode.bits as u64);
+        let mut data = || random.bytes(self.data_bytes());
+        (0..TURNS)
+            .map(|_| transfer(self.part, self.mode, &data()))
+            .collect()
+    }
+
+    /// The chips enabled, with columns of any value and both output banks in turn.
+    pub fn shown_buses(self) -> Vec<Bus> {
+        let mut random = Random::new(16 + self.mode.bits as u64);
+        let mut shown = |turn: usize| {
+            let mut bus = self.bus(&mut random);
+            let shown = Registers {
+                e: 1,
+                m: self.mode.bits,
+                o: (turn % 2) as u8,
+                ..Registers::power_on()
+            };
+            bus.registers[..SET].copy_from_slice(&shown.to_bytes());
+            bus.registers[SET..].copy_from_slice(&shown.to_bytes());
+            bus
         };
-        bus.registers[..SET].copy_from_slice(&shown.to_bytes());
-        bus.registers[SET..].copy_from_slice(&shown.to_bytes());
-        bus
-    };
-    (0..TURNS).map(&mut shown).collect()
+        (0..TURNS).map(&mut shown).collect()
+    }
+}
+
+/// Sets mode, device and pointer (each with its control byte), then a data run from column 0 on.
+fn transfer(part: Part, mode: Mode, data: &[u8]) -> Vec<u8> {
+    let commands = [&[0xC8 | mode.bits], &position_commands(part, 0, 0)[..]].concat();
+    commands_then_data(0x70, &commands, data)
+}
+
+/// Bytes of such a transfer that are not data.
+pub fn around_data(part: Part) -> usize {
+    transfer(part, MODES[0], &[]).len()
 }
 
 /// Logs of just the greatest length: runs of 1 to 320 bytes in all modes over four chips.
@@ -112,7 +183,7 @@ pub fn logs() -> Vec<Vec<u8>> {
 fn log(random: &mut Random) -> Vec<u8> {
     use humtrellis_tests::generate::log_of;
     use humtrellis_tests::model::LOG_LIMIT;
-    let (head, around) = (3, 2 + transfer(random, MODES[0], 0).len());
+    let (head, around) = (3, 2 + around_data(LOG_PART));
     let mut left = LOG_LIMIT - head;
     let mut records = Vec::new();
     while left > 0 {
@@ -122,7 +193,7 @@ fn log(random: &mut Random) -> Vec<u8> {
             0..=400 => left - around,
             _ => random.between(1, 320),
         };
-        records.push(transfer(random, mode, length));
+        records.push(transfer(LOG_PART, mode, &random.bytes(length)));
         left -= around + length;
     }
     log_of(4, 0, &records)

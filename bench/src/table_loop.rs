@@ -1,10 +1,12 @@
 //! (c): what a careful programmer writes by hand, in plain Rust without `unsafe`.
 //! It trusts its caller as little as the library does: every check of the papers in its order, with the same refusals.
-//! A run then goes a byte at a time over a table of 256 entries a mode: bytes whose columns are all there without a test
-//! for the end, the one cut byte apart, the counts in closed form.
+//! A branch on the part leads to a path of its own, compiled with its literals. A run then goes a byte at a time over a
+//! table of 256 entries a mode: bytes whose columns are all there without a test for the end, the one cut byte apart,
+//! the counts in closed form.
 
 mod checks;
 mod commands;
+mod part;
 mod picture;
 mod run;
 mod tables;
@@ -13,11 +15,10 @@ mod transfer;
 pub use picture::{picture_by_columns, picture_by_words};
 pub use transfer::transfer;
 
-/// Numbers of an answer, and the last one where no chip acknowledged the last data byte.
+use part::Part;
+
+/// Numbers of an answer.
 const ANSWER: usize = 6;
-const NONE: usize = 4;
-/// Columns of one chip.
-const COLUMNS: usize = 160;
 /// Bytes of one register set.
 const SET: usize = 9;
 
@@ -35,15 +36,17 @@ const BF: usize = 8;
 /// A refusal's number and place.
 type Refusal = (usize, usize);
 
+const UNKNOWN_PART: Refusal = (16, 0);
+
 fn refused((number, place): Refusal, last: usize) -> [usize; ANSWER] {
     [number, place, 0, 0, 0, last]
 }
 
 /// Where the columns of a group begin and end in the long RAM.
-fn group_range(chips: [u8; 2], group: usize) -> std::ops::Range<usize> {
-    let middle = COLUMNS * chips[0] as usize;
+fn group_range<Chosen: Part>(chips: [u8; 2], group: usize) -> std::ops::Range<usize> {
+    let middle = Chosen::COLUMNS * chips[0] as usize;
     match group {
         0 => 0..middle,
-        _ => middle..middle + COLUMNS * chips[1] as usize,
+        _ => middle..middle + Chosen::COLUMNS * chips[1] as usize,
     }
 }

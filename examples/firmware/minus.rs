@@ -1,14 +1,16 @@
 //! The library from Rust: the minus bar of a price, written in 1:3 over the edge of two chips.
 
+const PCF8532: u8 = 0;
+
 #[rustfmt::skip]
 extern "C" {
     fn humtrellis_power_on(
-        chips0: u8, chips1: u8, ram: *const u8, ram_length: usize,
+        part: u8, chips0: u8, chips1: u8, ram: *const u8, ram_length: usize,
         registers: *mut u8, registers_length: usize, answer: *mut usize, answer_length: usize,
     ) -> u8;
 
     fn humtrellis_transfer(
-        chips0: u8, chips1: u8, registers: *mut u8, registers_length: usize,
+        part: u8, chips0: u8, chips1: u8, registers: *mut u8, registers_length: usize,
         ram: *mut u8, ram_length: usize, bytes: *const u8, bytes_length: usize,
         answer: *mut usize, answer_length: usize,
     ) -> u8;
@@ -24,11 +26,11 @@ fn main() {
     let taken = unsafe {
         #[rustfmt::skip]
         let on = humtrellis_power_on(
-            2, 0, ram.as_ptr(), ram.len(), registers.as_mut_ptr(), 18, answer.as_mut_ptr(), 6,
+            PCF8532, 2, 0, ram.as_ptr(), ram.len(), registers.as_mut_ptr(), 18, answer.as_mut_ptr(), 6,
         );
         #[rustfmt::skip]
         let sent = humtrellis_transfer(
-            2, 0, registers.as_mut_ptr(), 18, ram.as_mut_ptr(), ram.len(),
+            PCF8532, 2, 0, registers.as_mut_ptr(), 18, ram.as_mut_ptr(), ram.len(),
             bytes.as_ptr(), bytes.len(), answer.as_mut_ptr(), 6,
         );
         (on, sent)

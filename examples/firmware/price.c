@@ -34,9 +34,9 @@ int main(int argc, char **argv) {
     size_t answer[HUMTRELLIS_ANSWER];
     int failures = 0;
 
-    if (humtrellis_power_on(CHIPS, 0, ram, sizeof ram, registers, sizeof registers, answer, HUMTRELLIS_ANSWER) != 0) return 2;
+    if (humtrellis_power_on(HUMTRELLIS_PCF8532, CHIPS, 0, ram, sizeof ram, registers, sizeof registers, answer, HUMTRELLIS_ANSWER) != 0) return 2;
     const size_t n = firmware(faulty, bytes);
-    const uint8_t refused = humtrellis_transfer(CHIPS, 0, registers, sizeof registers, ram, sizeof ram, bytes, n, answer, HUMTRELLIS_ANSWER);
+    const uint8_t refused = humtrellis_transfer(HUMTRELLIS_PCF8532, CHIPS, 0, registers, sizeof registers, ram, sizeof ram, bytes, n, answer, HUMTRELLIS_ANSWER);
     if (refused != 0) {
         printf("FAIL: the transfer is refused: %u at byte %zu\n", refused, answer[1]);
         return 1;
@@ -45,7 +45,7 @@ int main(int argc, char **argv) {
         printf("FAIL: %zu of %zu bytes acknowledged\n", answer[2], n);
         failures++;
     }
-    if (humtrellis_picture(CHIPS, 0, registers, sizeof registers, ram, sizeof ram, 0, 0, picture, sizeof picture, answer, HUMTRELLIS_ANSWER) != 0) return 2;
+    if (humtrellis_picture(HUMTRELLIS_PCF8532, CHIPS, 0, registers, sizeof registers, ram, sizeof ram, 0, 0, picture, sizeof picture, answer, HUMTRELLIS_ANSWER) != 0) return 2;
     const size_t wanted = sizeof expected / sizeof expected[0];
     for (size_t i = 0; i < wanted; i++) {
         if (!(picture[expected[i].column] >> expected[i].backplane & 1)) {

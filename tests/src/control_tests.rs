@@ -8,15 +8,12 @@ const CLEAN: [u8; 4] = [0x00, 0x40, 0x80, 0xC0];
 /// Number and place that both accounts give a transfer to two chips of group 0; refused, it changes nothing.
 fn sent(bytes: &[u8]) -> (usize, usize) {
     let mut bus = Bus::new(2, 9);
-    let given = plain_chips([2, 0], &bus.registers, &bus.ram);
-    let mut chips = given.clone();
-    let long = bus.answer(bytes);
-    assert_eq!(common(long), common(plain_transfer(&mut chips, bytes)));
-    assert_eq!(chips, plain_chips([2, 0], &bus.registers, &bus.ram));
-    if long.number != 0 {
-        assert_eq!((long.counts, long.chip, chips), ([0; 3], 4, given));
+    let answer = bus.answer(bytes);
+    if answer.number != 0 {
+        assert_eq!((answer.counts, answer.chip), ([0; 3], 4));
+        assert_eq!((bus.registers, bus.others(9)), ([0; REGISTERS], vec![]));
     }
-    (long.number, long.place)
+    (answer.number, answer.place)
 }
 
 /// Each stray bit alone under each Co and RS: as the last byte, before others, and behind a command and data.
@@ -76,9 +73,8 @@ fn unheard() {
     for address in [0x71, 0x72, 0x73, 0x50] {
         assert_eq!(sent(&[address, 0x3F, 0xFC, 0x81]), (0, 0));
     }
-    let heard_by = |sa0| plain_transfer(&mut [Chip::new(sa0, 0)], &[0x72, 0x3F]).number;
+    let heard_by = |sa0| plain_transfer(PCF8532, &mut [Chip::new(sa0, 0)], &[0x72, 0x3F]).number;
     assert_eq!([0, 1].map(heard_by), [0, 17]);
-    assert_eq!(plain_transfer(&mut [], &[0x70, 0x3F]).number, 0);
     assert_eq!(Bus::new(0, 0).send(&[0x70, 0x3F])[0], 0);
 }
 

@@ -1,6 +1,6 @@
-//! Generators of transfers and logs, well-formed and damaged.
+//! Generators of parts, transfers and logs, well-formed and damaged.
 
-use crate::model::{defined, LogBus, LOG_LIMIT, TRANSFER_LIMIT};
+use crate::model::{LogBus, Part, LOG_LIMIT, LOG_PART, TRANSFER_LIMIT};
 use crate::random::Random;
 
 /// The log that the paper works out.
@@ -15,6 +15,25 @@ pub const WORKED_SEEN_LOG: [u8; 28] = [
     0x00, 0x05, 0x00, 0x03, 0x70, 0x00, 0xFC, 0x00, 0x03, 0x00, 0x00, 0x50,
 ];
 
+// ---- Parts -----------------------------------------------------------------
+
+/// Numbers that no part has.
+pub const UNKNOWN_PARTS: [u8; 8] = [2, 3, 4, 8, 16, 127, 254, 255];
+
+/// A part's number, either as often as the other, and now and then one that no part has.
+pub fn part(random: &mut Random) -> u8 {
+    if random.one_in(24) {
+        random.pick(&UNKNOWN_PARTS)
+    } else {
+        random.below(2) as u8
+    }
+}
+
+/// The part whose chips, buffers and transfers a call with this number gets: its own, or that of its lowest bit where no part has it.
+pub fn shape(part: u8) -> Part {
+    Part::BOTH[part as usize % 2]
+}
+
 // ---- Transfers -------------------------------------------------------------
 
 /// Each command with its own control byte, then a data run.
@@ -28,38 +47,67 @@ pub fn commands_then_data(address: u8, commands: &[u8], data: &[u8]) -> Vec<u8> 
     bytes
 }
 
-/// A command that the table names.
-pub fn command(random: &mut Random) -> u8 {
+/// A command that the part's table names.
+pub fn command(random: &mut Random, part: Part) -> u8 {
     let low = random.byte();
-    match random.below(8) {
-        0 => low % 10,
-        1 => 0x40 | low & 15,
-        2 => 0xC0 | low & 15,
-        3 => 0xC8 | low & 7,
-        4 => 0xE0 | low & 3,
-        5 => 0xE8 | low & 7,
-        6 => 0xF0 | low & 7,
-        _ => 0xF8 | low & 3,
+    match part {
+        Part::Pcf8532 => match random.below(8) {
+            0 => low % 10,
+            1 => 0x40 | low & 15,
+            2 => 0xC0 | low & 15,
+            3 => 0xC8 | low & 7,
+            4 => 0xE0 | low & 3,
+            5 => 0xE8 | low & 7,
+            6 => 0xF0 | low & 7,
+            _ => 0xF8 | low & 3,
+        },
+        Part::Pca85133 => match random.below(6) {
+            0 => low % 80,
+            1 => 0xC0 | low & 15,
+            2 => 0xC8 | low & 7,
+            3 => 0xE0 | low & 7,
+            4 => 0xF0 | low & 7,
+            _ => 0xF8 | low & 3,
+        },
     }
 }
 
-fn undefined_command(random: &mut Random) -> u8 {
+/// Undefined bytes next to those that the part's table names.
+fn just_undefined(part: Part) -> [u8; 10] {
+    match part {
+        Part::Pcf8532 => [0x0A, 0x3F, 0x50, 0xBF, 0xD0, 0xDF, 0xE4, 0xE7, 0xFC, 0xFF],
+        Part::Pca85133 => [0x50, 0x7F, 0x80, 0xBF, 0xD0, 0xDF, 0xE8, 0xEF, 0xFC, 0xFF],
+    }
+}
+
+fn undefined_command(random: &mut Random, part: Part) -> u8 {
     if random.one_in(2) {
-        return random.pick(&[0x0A, 0x3F, 0x50, 0xBF, 0xD0, 0xDF, 0xE4, 0xE7, 0xFC, 0xFF]);
+        return random.pick(&just_undefined(part));
     }
     loop {
         let byte = random.byte();
-        if !defined(byte) {
+        if !part.defines(byte) {
             return byte;
         }
     }
 }
 
+/// The commands that set counter and pointer.
+pub fn position_commands(part: Part, a: u8, p: u8) -> Vec<u8> {
+    match part {
+        Part::Pcf8532 => vec![0xE0 | a, p / 16, 0x40 | (p % 16)],
+        Part::Pca85133 => vec![0xE0 | a, p],
+    }
+}
+
 /// Commands that set the pointer near a chip's edge.
-fn edge_pointer(random: &mut Random) -> Vec<u8> {
-    let pointer = random.pick(&[0, 1, 143, 150, 152, 153, 154, 155, 156, 157, 158, 159]);
-    let device = 0xE0 | random.below(4) as u8;
-    vec![device, pointer / 16, 0x40 | (pointer % 16)]
+fn edge_pointer(random: &mut Random, part: Part) -> Vec<u8> {
+    let pointer = match part {
+        Part::Pcf8532 => random.pick(&[0, 1, 143, 150, 152, 153, 154, 155, 156, 157, 158, 159]),
+        Part::Pca85133 => random.pick(&[0, 1, 63, 70, 72, 73, 74, 75, 76, 77, 78, 79]),
+    };
+    let device = random.below(part.subaddresses().into());
+    position_commands(part, device as u8, pointer)
 }
 
 /// A mode-set (mostly enabled), and perhaps banks and blinking.
@@ -75,16 +123,16 @@ fn settings(random: &mut Random) -> Vec<u8> {
     commands
 }
 
-fn commands(random: &mut Random) -> Vec<u8> {
+fn commands(random: &mut Random, part: Part) -> Vec<u8> {
     let mut commands = Vec::new();
     if random.one_in(2) {
         commands.extend(settings(random));
     }
     if random.one_in(2) {
-        commands.extend(edge_pointer(random));
+        commands.extend(edge_pointer(random, part));
     }
     for _ in 0..random.below(4) {
-        commands.push(command(random));
+        commands.push(command(random, part));
     }
     commands
 }
@@ -113,22 +161,22 @@ fn push_single(bytes: &mut Vec<u8>, rs: u8, byte: u8) {
 }
 
 /// A transfer without a fault: commands, single data bytes with a command between now and then, and a run of commands or data.
-pub fn good_transfer(random: &mut Random) -> Vec<u8> {
+pub fn good_transfer(random: &mut Random, part: Part) -> Vec<u8> {
     let mut bytes = vec![address(random)];
-    for command in commands(random) {
+    for command in commands(random, part) {
         push_single(&mut bytes, 0, command);
     }
     for _ in 0..random.pick(&[0, 0, 0, 1, 2, 5]) {
         push_single(&mut bytes, 0x40, random.byte());
         if random.one_in(4) {
-            push_single(&mut bytes, 0, command(random));
+            push_single(&mut bytes, 0, command(random, part));
         }
     }
     match random.below(6) {
         0 => {}
         1 => {
             bytes.push(0x00);
-            bytes.extend(commands(random));
+            bytes.extend(commands(random, part));
         }
         _ => {
             bytes.push(0x40);
@@ -138,14 +186,14 @@ pub fn good_transfer(random: &mut Random) -> Vec<u8> {
     bytes
 }
 
-/// A good transfer with an undefined command in front of or behind its parts.
-fn with_undefined(random: &mut Random) -> Vec<u8> {
-    let mut bytes = good_transfer(random);
-    let wrong = undefined_command(random);
+/// A good transfer with an undefined command in front of it, or such a command among others.
+fn with_undefined(random: &mut Random, part: Part) -> Vec<u8> {
+    let mut bytes = good_transfer(random, part);
+    let wrong = undefined_command(random, part);
     if random.one_in(2) {
         bytes.splice(1..1, [0x80, wrong]);
     } else {
-        let mut commands = commands(random);
+        let mut commands = commands(random, part);
         commands.insert(random.below(commands.len() + 1), wrong);
         bytes = vec![bytes[0], 0x00];
         bytes.extend(commands);
@@ -153,8 +201,8 @@ fn with_undefined(random: &mut Random) -> Vec<u8> {
     bytes
 }
 
-fn with_other_address(random: &mut Random) -> Vec<u8> {
-    let mut bytes = good_transfer(random);
+fn with_other_address(random: &mut Random, part: Part) -> Vec<u8> {
+    let mut bytes = good_transfer(random, part);
     bytes[0] = if random.one_in(2) {
         random.pick(&[0x71, 0x73, 0x6F, 0x74, 0x00])
     } else {
@@ -163,8 +211,8 @@ fn with_other_address(random: &mut Random) -> Vec<u8> {
     bytes
 }
 
-fn cut(random: &mut Random) -> Vec<u8> {
-    let mut bytes = good_transfer(random);
+fn cut(random: &mut Random, part: Part) -> Vec<u8> {
+    let mut bytes = good_transfer(random, part);
     bytes.truncate(random.between(1, bytes.len()));
     bytes
 }
@@ -193,14 +241,14 @@ fn noise(random: &mut Random) -> Vec<u8> {
 }
 
 /// A transfer with clean control bytes, most often a good one, never over-long.
-pub fn clean_transfer(random: &mut Random) -> Vec<u8> {
+pub fn clean_transfer(random: &mut Random, part: Part) -> Vec<u8> {
     match random.below(16) {
-        0 => with_undefined(random),
-        1 => with_other_address(random),
-        2 => cut(random),
+        0 => with_undefined(random, part),
+        1 => with_other_address(random, part),
+        2 => cut(random, part),
         3 => noise(random),
         4 if random.one_in(3) => Vec::new(),
-        _ => good_transfer(random),
+        _ => good_transfer(random, part),
     }
 }
 
@@ -211,8 +259,8 @@ fn stray_bits(random: &mut Random) -> u8 {
 }
 
 /// A transfer of any kind with stray bits in some of its control bytes.
-pub fn stray_transfer(random: &mut Random) -> Vec<u8> {
-    let mut bytes = clean_transfer(random);
+pub fn stray_transfer(random: &mut Random, part: Part) -> Vec<u8> {
+    let mut bytes = clean_transfer(random, part);
     let rarity = random.between(1, 8);
     for place in control_places(&bytes) {
         if random.one_in(rarity) {
@@ -223,11 +271,11 @@ pub fn stray_transfer(random: &mut Random) -> Vec<u8> {
 }
 
 /// A transfer, now and then with stray bits.
-pub fn transfer(random: &mut Random) -> Vec<u8> {
+pub fn transfer(random: &mut Random, part: Part) -> Vec<u8> {
     if random.one_in(12) {
-        stray_transfer(random)
+        stray_transfer(random, part)
     } else {
-        clean_transfer(random)
+        clean_transfer(random, part)
     }
 }
 
@@ -308,14 +356,14 @@ fn seen(random: &mut Random, modelled: usize) -> u16 {
 }
 
 /// Transfers that `make` makes.
-fn traffic(make: fn(&mut Random) -> Vec<u8>, random: &mut Random) -> Traffic {
+fn traffic(make: fn(&mut Random, Part) -> Vec<u8>, random: &mut Random) -> Traffic {
     let chips = [random.below(5) as u8, random.below(5) as u8];
     let count = match random.below(10) {
         0 => random.below(2),
         1 => random.between(80, 140),
         _ => random.between(3, 40),
     };
-    let transfers = (0..count).map(|_| make(random)).collect();
+    let transfers = (0..count).map(|_| make(random, LOG_PART)).collect();
     Traffic { chips, transfers }
 }
 
@@ -323,7 +371,7 @@ fn traffic(make: fn(&mut Random) -> Vec<u8>, random: &mut Random) -> Traffic {
 fn traffic_with_long_transfer(random: &mut Random) -> Traffic {
     let mut traffic = traffic(clean_transfer, random);
     traffic.transfers.push(long_transfer(random));
-    traffic.transfers.push(good_transfer(random));
+    traffic.transfers.push(good_transfer(random, LOG_PART));
     traffic
 }
 
@@ -335,7 +383,7 @@ fn traffic_of_length(random: &mut Random, length: usize, before: usize) -> Traff
             let length = random.between(100, 900);
             transfer_of_length(random, length)
         } else {
-            clean_transfer(random)
+            clean_transfer(random, LOG_PART)
         };
         left -= before + bytes.len();
         transfers.push(bytes);

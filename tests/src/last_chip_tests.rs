@@ -4,11 +4,7 @@ use super::*;
 
 /// The chip that both accounts name for a transfer to so many chips of group 0.
 fn chip(chips: u8, bytes: &[u8]) -> usize {
-    let mut bus = Bus::new(chips, 0);
-    let mut list = plain_chips([chips, 0], &bus.registers, &bus.ram);
-    let long = bus.answer(bytes);
-    assert_eq!(common(long), common(plain_transfer(&mut list, bytes)));
-    long.chip
+    Bus::new(chips, 0).answer(bytes).chip
 }
 
 /// A data byte in a mode, from a counter and a pointer.
@@ -26,7 +22,7 @@ fn each_chip() {
         }
     }
     let bytes = [0x72, 0x80, 0xE2, 0x40, 0xA5];
-    let group1 = transfer(1, 3, &mut [0; REGISTERS], &mut [0; 640], &bytes);
+    let group1 = transfer(PCF8532, 1, 3, &mut [0; REGISTERS], &mut [0; 640], &bytes);
     assert_eq!(group1.chip, 2);
 }
 
@@ -116,7 +112,8 @@ fn unheard() {
     }
     assert_eq!(chip(0, &[0x70, 0x40, 0xA5]), 4);
     let mut other = [Chip::new(1, 0)];
-    assert_eq!(plain_transfer(&mut other, &[0x70, 0x40, 0xA5]).chip, 4);
+    let unheard = plain_transfer(PCF8532, &mut other, &[0x70, 0x40, 0xA5]);
+    assert_eq!(unheard.chip, 4);
 }
 
 /// Refused transfers of the long account, each with a data byte that a chip would acknowledge, but for the empty one.
@@ -125,7 +122,7 @@ fn refused_transfers() {
     let data = [0x70, 0xC0, 0xA5];
     let refused = |chips, registers: [u8; REGISTERS], column, bytes: &[u8]| {
         let mut ram = vec![column; COLUMNS];
-        transfer(chips, 0, &mut registers.clone(), &mut ram, bytes).numbers()
+        transfer(PCF8532, chips, 0, &mut registers.clone(), &mut ram, bytes).numbers()
     };
     let zeros = [0; REGISTERS];
     let long = [&[0x70, 0x40][..], &[0; 4095]].concat();
@@ -145,8 +142,10 @@ fn refused_transfers() {
 #[test]
 fn refused_plain_transfers() {
     let good = Chip::new(0, 0);
-    let refused =
-        |chips: &[Chip], bytes: &[u8]| plain_transfer(&mut chips.to_vec(), bytes).numbers();
+    let refused = |chips: &[Chip], bytes: &[u8]| {
+        let answer = plain_transfer(PCF8532, &mut chips.to_vec(), bytes);
+        answer.numbers()
+    };
     let long = [&[0x70, 0x40][..], &[0; 4095]].concat();
     let data = [0x70, 0xC0, 0xA5];
     assert_eq!(refused(&[good; 9], &data), [10, 0, 0, 0, 0, 4]);
@@ -174,8 +173,8 @@ fn unequal(sa0: u8, subaddress: u8, m: u8, a: u8, p: u8) -> Chip {
 fn chip_of_list(list: &[Chip], count: usize) -> usize {
     let bytes = [vec![0x70, 0x40], vec![0xA5; count]].concat();
     let mut turned: Vec<Chip> = list.iter().rev().copied().collect();
-    let number = plain_transfer(&mut list.to_vec(), &bytes).chip;
-    assert_eq!(plain_transfer(&mut turned, &bytes).chip, number);
+    let number = plain_transfer(PCF8532, &mut list.to_vec(), &bytes).chip;
+    assert_eq!(plain_transfer(PCF8532, &mut turned, &bytes).chip, number);
     number
 }
 
@@ -209,20 +208,22 @@ fn own_last_columns() {
 #[test]
 fn no_transfer() {
     let mut registers = [0; REGISTERS];
-    let on = |chips, registers: &mut _| power_on(chips, 0, &[0; COLUMNS], registers).numbers();
+    let on = |chips, registers: &mut _| {
+        let answer = power_on(PCF8532, chips, 0, &[0; COLUMNS], registers);
+        answer.numbers()
+    };
     assert_eq!(on(1, &mut registers), [0; 6]);
     assert_eq!(on(5, &mut registers), [3, 0, 0, 0, 0, 0]);
     assert_eq!(Bus::new(1, 0).show(0).0, [0; 6]);
     assert_eq!(Bus::new(1, 0).show(2).0, [8, 0, 0, 0, 0, 0]);
     let mut chip = Chip::new(0, 3);
-    assert_eq!(plain_power_on(&mut chip).numbers(), [0; 6]);
-    assert_eq!(plain_picture(&chip, 0, &mut [0; 160]).numbers(), [0; 6]);
-    assert_eq!(
-        plain_picture(&chip, 0, &mut []).numbers(),
-        [9, 0, 0, 0, 0, 0]
-    );
+    let shown = |length| plain_picture(PCF8532, &chip, 0, &mut vec![0; length]).numbers();
+    assert_eq!(shown(160), [0; 6]);
+    assert_eq!(shown(0), [9, 0, 0, 0, 0, 0]);
+    assert_eq!(plain_power_on(PCF8532, &mut chip).numbers(), [0; 6]);
     chip.subaddress = 4;
-    assert_eq!(plain_power_on(&mut chip).numbers(), [11, 0, 0, 0, 0, 0]);
+    let refused = plain_power_on(PCF8532, &mut chip);
+    assert_eq!(refused.numbers(), [11, 0, 0, 0, 0, 0]);
 }
 
 #[test]

@@ -1,10 +1,8 @@
-//! The model, bit by bit as paper 01 tells it, amended by requests 3, 4, 7, 10 and 11 of paper 02: the long account, the plain account, bus logs and their rescue.
+//! The model, bit by bit as paper 01 tells it, amended by requests 3, 4, 5, 7, 10 and 11 of paper 02: the long account, the plain account, bus logs and their rescue.
 
 /// Numbers of an answer.
 pub const ANSWER: usize = 6;
-/// A transfer's chip where none acknowledged the last data byte, there is no such byte, or the transfer is refused.
-pub const NONE: usize = 4;
-/// Columns of one chip.
+/// Places for columns in a plain chip of either part.
 pub const COLUMNS: usize = 160;
 /// Bytes of one register set.
 pub const SET: usize = 9;
@@ -14,8 +12,6 @@ pub const REGISTERS: usize = 2 * SET;
 pub const TRANSFER_LIMIT: usize = 4096;
 /// Most bytes of a log.
 pub const LOG_LIMIT: usize = 65536;
-/// Most chips of the plain account.
-pub const CHIP_LIMIT: usize = 8;
 
 /// A call's answer: refusal number (0 is taken), place and three counts, and a transfer's chip.
 #[derive(Clone, Copy, Debug, Default, PartialEq, Eq)]
@@ -34,14 +30,6 @@ impl Answer {
         }
     }
 
-    /// The answer of a transfer whose last data byte this subaddress acknowledged, or none did.
-    fn with_chip(self, subaddress: Option<u8>) -> Self {
-        Answer {
-            chip: subaddress.map_or(NONE, usize::from),
-            ..self
-        }
-    }
-
     /// The numbers in the order of the C interface.
     pub fn numbers(self) -> [usize; ANSWER] {
         let [x, y, z] = self.counts;
@@ -50,7 +38,8 @@ impl Answer {
 }
 
 /// A refusal: its number and place.
-type Check = Result<(), (usize, usize)>;
+type Refusal = (usize, usize);
+type Check = Result<(), Refusal>;
 
 fn refuse_if(wrong: bool, number: usize) -> Check {
     refuse_at(if wrong { Some(0) } else { None }, number)
@@ -63,11 +52,133 @@ fn refuse_at(place: Option<usize>, number: usize) -> Check {
     }
 }
 
-fn refused((number, place): (usize, usize)) -> Answer {
+fn refused((number, place): Refusal) -> Answer {
     Answer {
         number,
         place,
         ..Default::default()
+    }
+}
+
+/// The answer of a call that is no transfer.
+fn answer(outcome: Result<[usize; 3], Refusal>) -> Answer {
+    match outcome {
+        Ok(counts) => Answer::taken(counts),
+        Err(refusal) => refused(refusal),
+    }
+}
+
+// ---- Parts -----------------------------------------------------------------
+
+/// A part, with its number in a call.
+#[derive(Clone, Copy, Debug, PartialEq, Eq)]
+pub enum Part {
+    /// Paper 01 and data sheet 003.
+    Pcf8532 = 0,
+    /// Paper 02, request 5, and data sheet 002.
+    Pca85133 = 1,
+}
+
+impl Part {
+    pub const BOTH: [Part; 2] = [Part::Pcf8532, Part::Pca85133];
+
+    pub fn of(number: u8) -> Option<Part> {
+        Part::BOTH.into_iter().find(|part| part.number() == number)
+    }
+
+    pub fn number(self) -> u8 {
+        self as u8
+    }
+
+    /// Columns of a chip.
+    pub fn columns(self) -> usize {
+        match self {
+            Part::Pcf8532 => 160,
+            Part::Pca85133 => 80,
+        }
+    }
+
+    /// Subaddresses of a group, which is the most chips that it has, and where the counter rests.
+    pub fn subaddresses(self) -> u8 {
+        match self {
+            Part::Pcf8532 => 4,
+            Part::Pca85133 => 8,
+        }
+    }
+
+    /// Most chips of the plain account.
+    pub fn most_chips(self) -> usize {
+        match self {
+            Part::Pcf8532 => 8,
+            Part::Pca85133 => 16,
+        }
+    }
+
+    /// The greatest value of each register, in the order of a set's bytes.
+    pub fn greatest(self) -> [u8; SET] {
+        let last_column = self.columns() as u8 - 1;
+        [1, 1, 3, last_column, self.subaddresses(), 1, 1, 1, 3]
+    }
+
+    /// The command that a byte is: the table of paper 01, and that of data sheet 002 (tables 11 to 16).
+    fn command(self, byte: u8) -> Option<Command> {
+        let flag = |place: u8| byte >> place & 1;
+        let command = match (self, byte) {
+            (Part::Pcf8532, 0x00..=0x09) => Command::PointerHigh(byte & 15),
+            (Part::Pcf8532, 0x40..=0x4F) => Command::PointerLow(byte & 15),
+            (Part::Pca85133, 0x00..=0x4F) => Command::Pointer(byte),
+            (_, 0xC0..=0xCF) => Command::ModeSet(flag(3), flag(2), byte & 3),
+            (Part::Pcf8532, 0xE0..=0xE3) => Command::DeviceSelect(byte & 3),
+            (Part::Pca85133, 0xE0..=0xE7) => Command::DeviceSelect(byte & 7),
+            (Part::Pcf8532, 0xE8..=0xEF) => Command::FrequencyControl,
+            (_, 0xF0..=0xF7) => Command::BlinkSelect(flag(2), byte & 3),
+            (_, 0xF8..=0xFB) => Command::BankSelect(flag(1), flag(0)),
+            _ => return None,
+        };
+        Some(command)
+    }
+
+    /// True for the bytes that the part's table of commands names.
+    pub fn defines(self, byte: u8) -> bool {
+        self.command(byte).is_some()
+    }
+}
+
+/// A command, with what it sets.
+#[derive(Clone, Copy, Debug, PartialEq, Eq)]
+enum Command {
+    PointerHigh(u8),
+    PointerLow(u8),
+    /// The whole of P.
+    Pointer(u8),
+    /// E, B and M.
+    ModeSet(u8, u8, u8),
+    DeviceSelect(u8),
+    FrequencyControl,
+    /// AB and BF.
+    BlinkSelect(u8, u8),
+    /// I and O.
+    BankSelect(u8, u8),
+}
+
+/// The part of a call; an unknown one is refused before all else.
+fn known(part: u8) -> Result<Part, Refusal> {
+    Part::of(part).ok_or((16, 0))
+}
+
+/// A transfer's chip where none acknowledged the last data byte, there is no such byte, or the transfer is refused: where the part's counter rests, and 4 if the part is unknown.
+pub fn none(part: u8) -> usize {
+    Part::of(part).map_or(4, |part| part.subaddresses().into())
+}
+
+/// What a transfer counts, and the subaddress that acknowledged its last data byte, if one did.
+type Counted = ([usize; 3], Option<u8>);
+
+fn transfer_answer(part: u8, outcome: Result<Counted, Refusal>) -> Answer {
+    let subaddress = outcome.ok().and_then(|(_, subaddress)| subaddress);
+    Answer {
+        chip: subaddress.map_or(none(part), usize::from),
+        ..answer(outcome.map(|(counts, _)| counts))
     }
 }
 
@@ -114,10 +225,9 @@ impl Registers {
         ]
     }
 
-    pub fn in_range(self) -> bool {
-        let limits = [1, 1, 3, 159, 4, 1, 1, 1, 3];
-        let bytes = self.to_bytes();
-        (0..SET).all(|x| bytes[x] <= limits[x])
+    pub fn in_range(self, part: Part) -> bool {
+        let (bytes, greatest) = (self.to_bytes(), part.greatest());
+        (0..SET).all(|x| bytes[x] <= greatest[x])
     }
 
     /// Backplanes m.
@@ -149,48 +259,42 @@ impl Registers {
         }
     }
 
-    /// The whole position v = 160 A + P.
-    fn position(self) -> usize {
-        COLUMNS * self.a as usize + self.p as usize
+    /// The whole position v: the part's columns times A, plus P.
+    fn position(self, part: Part) -> usize {
+        part.columns() * self.a as usize + self.p as usize
     }
 
-    fn set_position(&mut self, v: usize) {
-        self.p = (v % COLUMNS) as u8;
-        self.a = (v / COLUMNS).min(4) as u8;
+    fn set_position(&mut self, part: Part, v: usize) {
+        let subaddresses = part.subaddresses() as usize;
+        self.p = (v % part.columns()) as u8;
+        self.a = (v / part.columns()).min(subaddresses) as u8;
     }
 
-    /// One column on: P rises, wraps at 160, and A rises with the wrap up to 4.
-    fn next_column(&mut self) {
+    /// One column on: P rises, wraps behind the part's last column, and A rises with the wrap until it rests.
+    fn next_column(&mut self, part: Part) {
         self.p += 1;
-        if self.p as usize == COLUMNS {
+        if self.p as usize == part.columns() {
             self.p = 0;
-            if self.a < 4 {
+            if self.a < part.subaddresses() {
                 self.a += 1;
             }
         }
     }
 
     /// Carries out a command; an undefined one changes nothing.
-    fn obey(&mut self, byte: u8) {
-        let low = byte & 15;
-        match byte {
-            0x00..=0x09 => self.p = 16 * low + self.p % 16,
-            0x40..=0x4F => self.p = self.p - self.p % 16 + low,
-            0xC0..=0xCF => {
-                self.e = byte >> 3 & 1;
-                self.b = byte >> 2 & 1;
-                self.m = byte & 3;
-            }
-            0xE0..=0xE3 => self.a = byte & 3,
-            0xF0..=0xF7 => {
-                self.ab = byte >> 2 & 1;
-                self.bf = byte & 3;
-            }
-            0xF8..=0xFB => {
-                self.i = byte >> 1 & 1;
-                self.o = byte & 1;
-            }
-            _ => {}
+    fn obey(&mut self, part: Part, byte: u8) {
+        let Some(command) = part.command(byte) else {
+            return;
+        };
+        match command {
+            Command::PointerHigh(high) => self.p = 16 * high + self.p % 16,
+            Command::PointerLow(low) => self.p = self.p - self.p % 16 + low,
+            Command::Pointer(p) => self.p = p,
+            Command::ModeSet(e, b, m) => (self.e, self.b, self.m) = (e, b, m),
+            Command::DeviceSelect(a) => self.a = a,
+            Command::FrequencyControl => {}
+            Command::BlinkSelect(ab, bf) => (self.ab, self.bf) = (ab, bf),
+            Command::BankSelect(i, o) => (self.i, self.o) = (i, o),
         }
     }
 
@@ -230,11 +334,6 @@ impl Registers {
     }
 }
 
-/// True for the bytes that the table of commands names.
-pub fn defined(byte: u8) -> bool {
-    matches!(byte, 0x00..=0x09 | 0x40..=0x4F | 0xC0..=0xCF | 0xE0..=0xE3 | 0xE8..=0xFB)
-}
-
 /// Bit k of a byte, numbered from the most significant.
 fn bit(byte: u8, k: usize) -> u8 {
     byte >> (7 - k) & 1
@@ -248,52 +347,52 @@ fn put_bit(column: &mut u8, row: usize, value: u8) {
 
 /// What a byte of a transfer is, after the address.
 #[derive(Clone, Copy, Debug, PartialEq, Eq)]
-enum Part {
+enum Role {
     Control(u8),
     Command(u8),
     Data(u8),
 }
 
-/// The part that each byte after the address is.
-fn parts(bytes: &[u8]) -> Vec<Part> {
-    let mut parts = Vec::new();
+/// The role of each byte after the address.
+fn roles(bytes: &[u8]) -> Vec<Role> {
+    let mut roles = Vec::new();
     let mut at = 1;
     while at < bytes.len() {
         let control = bytes[at];
-        parts.push(Part::Control(control));
+        roles.push(Role::Control(control));
         let rest = &bytes[at + 1..];
         let length = if control & 0x80 == 0 {
             rest.len()
         } else {
             rest.len().min(1)
         };
-        parts.extend(rest[..length].iter().map(|byte| part(control, *byte)));
+        roles.extend(rest[..length].iter().map(|byte| role(control, *byte)));
         at += 1 + length;
     }
-    parts
+    roles
 }
 
-fn part(control: u8, byte: u8) -> Part {
+fn role(control: u8, byte: u8) -> Role {
     if control & 0x40 == 0 {
-        Part::Command(byte)
+        Role::Command(byte)
     } else {
-        Part::Data(byte)
+        Role::Data(byte)
     }
 }
 
 /// A byte of a heard transfer at its place: an undefined command is refused, and a control byte with one of bits 5 to 0 set.
-fn check_part(part: Part, place: usize) -> Check {
-    match part {
-        Part::Command(byte) if !defined(byte) => Err((7, place)),
-        Part::Control(byte) if byte & 0x3F != 0 => Err((17, place)),
+fn check_role(part: Part, role: Role, place: usize) -> Check {
+    match role {
+        Role::Command(byte) if !part.defines(byte) => Err((7, place)),
+        Role::Control(byte) if byte & 0x3F != 0 => Err((17, place)),
         _ => Ok(()),
     }
 }
 
 /// The walk through a heard transfer, in which the first wrong byte counts.
-fn check_parts(bytes: &[u8]) -> Check {
-    for (part, place) in parts(bytes).into_iter().zip(1..) {
-        check_part(part, place)?;
+fn check_roles(part: Part, bytes: &[u8]) -> Check {
+    for (role, place) in roles(bytes).into_iter().zip(1..) {
+        check_role(part, role, place)?;
     }
     Ok(())
 }
@@ -318,113 +417,146 @@ fn first_over_15(columns: &[u8]) -> Option<usize> {
     columns.iter().position(|column| *column > 15)
 }
 
-fn check_counts(chips0: u8, chips1: u8) -> Check {
-    refuse_if(chips0 > 4 || chips1 > 4, 3)
+/// A bench of the long account: its part, and the chips in each group.
+#[derive(Clone, Copy, Debug)]
+struct Bench {
+    part: Part,
+    chips: [u8; 2],
 }
 
-fn check_registers(registers: &[u8; REGISTERS]) -> Check {
-    let good = registers
-        .chunks(SET)
-        .all(|set| Registers::from_bytes(set).in_range());
-    refuse_if(!good, 6)
-}
+impl Bench {
+    fn new(part: u8, chips0: u8, chips1: u8) -> Result<Self, Refusal> {
+        Ok(Bench {
+            part: known(part)?,
+            chips: [chips0, chips1],
+        })
+    }
 
-fn check_ram(chips0: u8, chips1: u8, ram: &[u8]) -> Check {
-    let chips = chips0 as usize + chips1 as usize;
-    refuse_if(ram.len() != COLUMNS * chips, 4)?;
-    refuse_at(first_over_15(ram), 5)
-}
+    fn check_counts(self) -> Check {
+        let most = self.part.subaddresses();
+        refuse_if(self.chips.iter().any(|chips| *chips > most), 3)
+    }
 
-fn check_power_on(chips0: u8, chips1: u8, ram: &[u8]) -> Check {
-    check_counts(chips0, chips1)?;
-    check_ram(chips0, chips1, ram)
-}
+    fn check_registers(self, registers: &[u8; REGISTERS]) -> Check {
+        let good = registers
+            .chunks(SET)
+            .all(|set| Registers::from_bytes(set).in_range(self.part));
+        refuse_if(!good, 6)
+    }
 
-fn check_bus(chips0: u8, chips1: u8, registers: &[u8; REGISTERS], ram: &[u8]) -> Check {
-    check_counts(chips0, chips1)?;
-    check_registers(registers)?;
-    check_ram(chips0, chips1, ram)
-}
+    fn check_ram(self, ram: &[u8]) -> Check {
+        refuse_if(ram.len() != self.columns(0) + self.columns(1), 4)?;
+        refuse_at(first_over_15(ram), 5)
+    }
 
-/// The group's part of the long RAM.
-fn group_range(chips0: u8, chips1: u8, group: usize) -> std::ops::Range<usize> {
-    let middle = COLUMNS * chips0 as usize;
-    let end = middle + COLUMNS * chips1 as usize;
-    if group == 0 {
-        0..middle
-    } else {
-        middle..end
+    fn check(self, registers: &[u8; REGISTERS], ram: &[u8]) -> Check {
+        self.check_counts()?;
+        self.check_registers(registers)?;
+        self.check_ram(ram)
+    }
+
+    /// Columns of a group.
+    fn columns(self, group: usize) -> usize {
+        self.part.columns() * self.chips[group] as usize
+    }
+
+    /// The group's share of the long RAM.
+    fn range(self, group: usize) -> std::ops::Range<usize> {
+        let middle = self.columns(0);
+        if group == 0 {
+            0..middle
+        } else {
+            middle..middle + self.columns(1)
+        }
+    }
+
+    /// The group that hears a transfer, if one does.
+    fn hearing_group(self, bytes: &[u8]) -> Option<usize> {
+        let group = addressed(*bytes.first()?)?;
+        if self.chips[group] > 0 {
+            Some(group)
+        } else {
+            None
+        }
     }
 }
 
-pub fn power_on(chips0: u8, chips1: u8, ram: &[u8], registers: &mut [u8; REGISTERS]) -> Answer {
+pub fn power_on(
+    part: u8,
+    chips0: u8,
+    chips1: u8,
+    ram: &[u8],
+    registers: &mut [u8; REGISTERS],
+) -> Answer {
     *registers = [0; REGISTERS];
-    match check_power_on(chips0, chips1, ram) {
-        Err(refusal) => refused(refusal),
-        Ok(()) => Answer::taken([0; 3]),
-    }
+    answer(check_power_on(part, chips0, chips1, ram).map(|()| [0; 3]))
 }
 
-/// The group that hears a transfer, if one does.
-fn hearing_group(chips0: u8, chips1: u8, bytes: &[u8]) -> Option<usize> {
-    let group = addressed(*bytes.first()?)?;
-    if [chips0, chips1][group] > 0 {
-        Some(group)
-    } else {
-        None
-    }
+fn check_power_on(part: u8, chips0: u8, chips1: u8, ram: &[u8]) -> Check {
+    let bench = Bench::new(part, chips0, chips1)?;
+    bench.check_counts()?;
+    bench.check_ram(ram)
 }
 
 pub fn transfer(
+    part: u8,
     chips0: u8,
     chips1: u8,
     registers: &mut [u8; REGISTERS],
     ram: &mut [u8],
     bytes: &[u8],
 ) -> Answer {
-    let checked = check_bus(chips0, chips1, registers, ram).and_then(|()| check_length(bytes));
-    if let Err(refusal) = checked {
-        return refused(refusal).with_chip(None);
-    }
-    let Some(group) = hearing_group(chips0, chips1, bytes) else {
-        return Answer::taken([0; 3]).with_chip(None);
+    let bench = Bench::new(part, chips0, chips1);
+    let counted = bench.and_then(|bench| long_counted(bench, registers, ram, bytes));
+    transfer_answer(part, counted)
+}
+
+fn long_counted(
+    bench: Bench,
+    registers: &mut [u8; REGISTERS],
+    ram: &mut [u8],
+    bytes: &[u8],
+) -> Result<Counted, Refusal> {
+    bench.check(registers, ram)?;
+    check_length(bytes)?;
+    let Some(group) = bench.hearing_group(bytes) else {
+        return Ok(([0; 3], None));
     };
-    if let Err(refusal) = check_parts(bytes) {
-        return refused(refusal).with_chip(None);
-    }
-    let columns = &mut ram[group_range(chips0, chips1, group)];
+    check_roles(bench.part, bytes)?;
+    let columns = &mut ram[bench.range(group)];
     let set = &mut registers[SET * group..SET * group + SET];
     let mut state = Registers::from_bytes(set);
-    let answer = carry_out(&mut state, columns, bytes);
+    let counted = carry_out(bench.part, &mut state, columns, bytes);
     set.copy_from_slice(&state.to_bytes());
-    answer
+    Ok(counted)
 }
 
 /// Carries out a heard transfer on a group: bytes acknowledged, bits stored, bits discarded, and the last data byte's chip.
-fn carry_out(state: &mut Registers, columns: &mut [u8], bytes: &[u8]) -> Answer {
+fn carry_out(part: Part, state: &mut Registers, columns: &mut [u8], bytes: &[u8]) -> Counted {
     let mut counts = [1, 0, 0];
     let mut last = None;
-    for part in parts(bytes) {
-        match part {
-            Part::Control(_) => counts[0] += 1,
-            Part::Command(byte) => {
+    for role in roles(bytes) {
+        match role {
+            Role::Control(_) => counts[0] += 1,
+            Role::Command(byte) => {
                 counts[0] += 1;
-                state.obey(byte);
+                state.obey(part, byte);
             }
-            Part::Data(byte) => last = store(state, columns, byte, &mut counts),
+            Role::Data(byte) => last = store(part, state, columns, byte, &mut counts),
         }
     }
-    Answer::taken(counts).with_chip(last)
+    (counts, last)
 }
 
 /// One data byte, by the position v: the subaddress that acknowledges it, if one does.
 fn store(
+    part: Part,
     state: &mut Registers,
     columns: &mut [u8],
     byte: u8,
     counts: &mut [usize; 3],
 ) -> Option<u8> {
-    let (v, m) = (state.position(), state.backplanes());
+    let (v, m) = (state.position(part), state.backplanes());
     for k in 0..8 {
         match columns.get_mut(v + k / m) {
             Some(column) => {
@@ -435,17 +567,18 @@ fn store(
         }
     }
     let last = v + state.width() - 1;
-    state.set_position(last + 1);
+    state.set_position(part, last + 1);
     if last >= columns.len() {
         return None;
     }
     counts[0] += 1;
-    Some((last / COLUMNS) as u8)
+    Some((last / part.columns()) as u8)
 }
 
 /// What a picture shows: the bus, a group and a blink phase.
 #[derive(Clone, Copy, Debug)]
 pub struct View<'a> {
+    pub part: u8,
     pub chips0: u8,
     pub chips1: u8,
     pub registers: &'a [u8; REGISTERS],
@@ -454,23 +587,24 @@ pub struct View<'a> {
     pub phase: u8,
 }
 
-fn check_view(view: View, length: usize) -> Check {
-    check_bus(view.chips0, view.chips1, view.registers, view.ram)?;
+fn check_view(bench: Bench, view: View, length: usize) -> Check {
+    bench.check(view.registers, view.ram)?;
     refuse_if(view.group > 1 || view.phase > 1, 8)?;
-    let chips = [view.chips0, view.chips1][view.group as usize];
-    refuse_if(length != COLUMNS * chips as usize, 9)
+    refuse_if(length != bench.columns(view.group as usize), 9)
 }
 
 /// The picture of a group; the first count is the lit elements.
 pub fn picture(view: View, out: &mut [u8]) -> Answer {
-    if let Err(refusal) = check_view(view, out.len()) {
-        return refused(refusal);
-    }
+    let bench = Bench::new(view.part, view.chips0, view.chips1);
+    answer(bench.and_then(|bench| shown_group(bench, view, out)))
+}
+
+fn shown_group(bench: Bench, view: View, out: &mut [u8]) -> Result<[usize; 3], Refusal> {
+    check_view(bench, view, out.len())?;
     let group = view.group as usize;
     let state = Registers::from_bytes(&view.registers[SET * group..SET * group + SET]);
-    let columns = &view.ram[group_range(view.chips0, view.chips1, group)];
-    let lit = state.fill_picture(view.phase, columns, out);
-    Answer::taken([lit, 0, 0])
+    let lit = state.fill_picture(view.phase, &view.ram[bench.range(group)], out);
+    Ok([lit, 0, 0])
 }
 
 // ---- The plain account -----------------------------------------------------
@@ -494,12 +628,18 @@ impl Chip {
         }
     }
 
-    fn body_in_range(&self) -> bool {
-        self.sa0 <= 1 && self.subaddress <= 3 && first_over_15(&self.columns).is_none()
+    /// The columns that a chip of this part has; the places behind them are nobody's.
+    fn own_columns(&self, part: Part) -> &[u8] {
+        &self.columns[..part.columns()]
     }
 
-    fn in_range(&self) -> bool {
-        self.body_in_range() && self.registers.in_range()
+    fn body_in_range(&self, part: Part) -> bool {
+        let identity = self.sa0 <= 1 && self.subaddress < part.subaddresses();
+        identity && first_over_15(self.own_columns(part)).is_none()
+    }
+
+    fn in_range(&self, part: Part) -> bool {
+        self.body_in_range(part) && self.registers.in_range(part)
     }
 
     fn hears(&self, bytes: &[u8]) -> bool {
@@ -511,26 +651,26 @@ impl Chip {
     }
 
     /// Takes one byte after the address; true if this chip acknowledges it.
-    fn take(&mut self, part: Part) -> bool {
-        match part {
-            Part::Control(_) => true,
-            Part::Command(byte) => {
-                self.registers.obey(byte);
+    fn take(&mut self, part: Part, role: Role) -> bool {
+        match role {
+            Role::Control(_) => true,
+            Role::Command(byte) => {
+                self.registers.obey(part, byte);
                 true
             }
-            Part::Data(byte) => self.take_data(byte),
+            Role::Data(byte) => self.take_data(part, byte),
         }
     }
 
     /// Takes a data byte, column by column.
-    fn take_data(&mut self, byte: u8) -> bool {
+    fn take_data(&mut self, part: Part, byte: u8) -> bool {
         let mut last = false;
         for offset in 0..self.registers.width() {
             last = self.selected();
             if last {
                 self.take_column(byte, offset);
             }
-            self.registers.next_column();
+            self.registers.next_column(part);
         }
         last
     }
@@ -546,21 +686,21 @@ impl Chip {
     }
 }
 
-fn check_plain(chips: &[Chip], bytes: &[u8]) -> Check {
-    refuse_if(chips.len() > CHIP_LIMIT, 10)?;
-    refuse_at(chips.iter().position(|chip| !chip.in_range()), 11)?;
+fn check_plain(part: Part, chips: &[Chip], bytes: &[u8]) -> Check {
+    refuse_if(chips.len() > part.most_chips(), 10)?;
+    refuse_at(chips.iter().position(|chip| !chip.in_range(part)), 11)?;
     check_length(bytes)?;
     if chips.iter().any(|chip| chip.hears(bytes)) {
-        check_parts(bytes)?;
+        check_roles(part, bytes)?;
     }
     Ok(())
 }
 
 /// All hearing chips take a byte: the smallest subaddress that acknowledges it, if one does.
-fn take_by_all(hearing: &mut [&mut Chip], part: Part) -> Option<u8> {
+fn take_by_all(part: Part, hearing: &mut [&mut Chip], role: Role) -> Option<u8> {
     let mut acknowledging = Vec::new();
     for chip in hearing {
-        if chip.take(part) {
+        if chip.take(part, role) {
             acknowledging.push(chip.subaddress);
         }
     }
@@ -568,51 +708,57 @@ fn take_by_all(hearing: &mut [&mut Chip], part: Part) -> Option<u8> {
 }
 
 /// A transfer over plain chips; the first count is the bytes acknowledged.
-pub fn plain_transfer(chips: &mut [Chip], bytes: &[u8]) -> Answer {
-    if let Err(refusal) = check_plain(chips, bytes) {
-        return refused(refusal).with_chip(None);
-    }
+pub fn plain_transfer(part: u8, chips: &mut [Chip], bytes: &[u8]) -> Answer {
+    let counted = known(part).and_then(|part| plain_counted(part, chips, bytes));
+    transfer_answer(part, counted)
+}
+
+fn plain_counted(part: Part, chips: &mut [Chip], bytes: &[u8]) -> Result<Counted, Refusal> {
+    check_plain(part, chips, bytes)?;
     let mut hearing: Vec<&mut Chip> = chips.iter_mut().filter(|c| c.hears(bytes)).collect();
     if hearing.is_empty() {
-        return Answer::taken([0; 3]).with_chip(None);
+        return Ok(([0; 3], None));
     }
     let mut acknowledged = 1;
     let mut last = None;
-    for part in parts(bytes) {
-        let chip = take_by_all(&mut hearing, part);
+    for role in roles(bytes) {
+        let chip = take_by_all(part, &mut hearing, role);
         acknowledged += chip.is_some() as usize;
-        if let Part::Data(_) = part {
+        if let Role::Data(_) = role {
             last = chip;
         }
     }
-    Answer::taken([acknowledged, 0, 0]).with_chip(last)
+    Ok(([acknowledged, 0, 0], last))
 }
 
 /// Power-on of one plain chip: its registers become the power-on ones, taken or refused.
-pub fn plain_power_on(chip: &mut Chip) -> Answer {
+pub fn plain_power_on(part: u8, chip: &mut Chip) -> Answer {
     chip.registers = Registers::power_on();
-    match refuse_if(!chip.body_in_range(), 11) {
-        Err(refusal) => refused(refusal),
-        Ok(()) => Answer::taken([0; 3]),
-    }
+    let checked = known(part).and_then(|part| refuse_if(!chip.body_in_range(part), 11));
+    answer(checked.map(|()| [0; 3]))
 }
 
-fn check_plain_picture(chip: &Chip, phase: u8, length: usize) -> Check {
-    refuse_if(!chip.in_range(), 11)?;
+fn check_plain_picture(part: Part, chip: &Chip, phase: u8, length: usize) -> Check {
+    refuse_if(!chip.in_range(part), 11)?;
     refuse_if(phase > 1, 8)?;
-    refuse_if(length != COLUMNS, 9)
+    refuse_if(length != part.columns(), 9)
 }
 
 /// The picture of one plain chip; the first count is the lit elements.
-pub fn plain_picture(chip: &Chip, phase: u8, out: &mut [u8]) -> Answer {
-    if let Err(refusal) = check_plain_picture(chip, phase, out.len()) {
-        return refused(refusal);
-    }
-    let lit = chip.registers.fill_picture(phase, &chip.columns, out);
-    Answer::taken([lit, 0, 0])
+pub fn plain_picture(part: u8, chip: &Chip, phase: u8, out: &mut [u8]) -> Answer {
+    answer(known(part).and_then(|part| shown_chip(part, chip, phase, out)))
+}
+
+fn shown_chip(part: Part, chip: &Chip, phase: u8, out: &mut [u8]) -> Result<[usize; 3], Refusal> {
+    check_plain_picture(part, chip, phase, out.len())?;
+    let columns = chip.own_columns(part);
+    Ok([chip.registers.fill_picture(phase, columns, out), 0, 0])
 }
 
 // ---- Bus logs --------------------------------------------------------------
+
+/// Logs stay with this part (paper 02, request 5).
+pub const LOG_PART: Part = Part::Pcf8532;
 
 /// A record of a log: the acknowledged bytes that the analyser saw, in version 2, and the transfer.
 struct Record<'a> {
@@ -624,11 +770,11 @@ struct Record<'a> {
 fn check_head(log: &[u8]) -> Check {
     refuse_if(log.len() > LOG_LIMIT, 14)?;
     refuse_if(log.len() < 3 || !matches!(log[0], 1 | 2), 12)?;
-    check_counts(log[1], log[2])
+    Bench::new(LOG_PART.number(), log[1], log[2])?.check_counts()
 }
 
 /// The records of a log, or the refusal of the whole log.
-fn records(log: &[u8]) -> Result<Vec<Record<'_>>, (usize, usize)> {
+fn records(log: &[u8]) -> Result<Vec<Record<'_>>, Refusal> {
     check_head(log)?;
     let mut records = Vec::new();
     let mut at = 3;
@@ -684,9 +830,9 @@ pub struct LogBus {
 
 impl LogBus {
     pub fn new(chips0: u8, chips1: u8) -> Self {
-        let ram = vec![0; COLUMNS * (chips0 + chips1) as usize];
+        let ram = vec![0; LOG_PART.columns() * (chips0 + chips1) as usize];
         let mut registers = [0; REGISTERS];
-        power_on(chips0, chips1, &ram, &mut registers);
+        power_on(LOG_PART.number(), chips0, chips1, &ram, &mut registers);
         LogBus {
             chips0,
             chips1,
@@ -696,12 +842,14 @@ impl LogBus {
     }
 
     pub fn send(&mut self, bytes: &[u8]) -> Answer {
+        let (chips0, chips1) = (self.chips0, self.chips1);
         let (registers, ram) = (&mut self.registers, &mut self.ram);
-        transfer(self.chips0, self.chips1, registers, ram, bytes)
+        transfer(LOG_PART.number(), chips0, chips1, registers, ram, bytes)
     }
 
     fn view(&self, group: u8) -> View<'_> {
         View {
+            part: LOG_PART.number(),
             chips0: self.chips0,
             chips1: self.chips1,
             registers: &self.registers,
@@ -741,7 +889,7 @@ fn record_lines(index: usize, answer: Answer, seen: Option<usize>) -> String {
 /// The S lines of a group, and its lit elements.
 fn shown_lines(view: View) -> (String, usize) {
     let chips = [view.chips0, view.chips1][view.group as usize];
-    let mut out = vec![0; COLUMNS * chips as usize];
+    let mut out = vec![0; LOG_PART.columns() * chips as usize];
     let answer = picture(view, &mut out);
     let mut lines = String::new();
     for (column, value) in out.iter().enumerate().filter(|(_, value)| **value != 0) {

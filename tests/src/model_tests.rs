@@ -4,6 +4,8 @@
 mod control;
 #[path = "last_chip_tests.rs"]
 mod last_chip;
+#[path = "part_tests.rs"]
+mod part;
 #[path = "rescue_tests.rs"]
 mod rescue;
 #[path = "seen_tests.rs"]
@@ -12,24 +14,42 @@ mod seen;
 use super::*;
 use crate::{generate, random::Random};
 
-/// A bus with chips in group 0 only, from power-on.
+/// The parts' numbers in a call.
+const PCF8532: u8 = 0;
+const PCA85133: u8 = 1;
+
+/// A bus with chips of one part in group 0 only, from power-on.
 struct Bus {
+    part: u8,
     chips: u8,
     registers: [u8; REGISTERS],
     ram: Vec<u8>,
 }
 
 impl Bus {
+    /// The PCF8532, of which paper 01 speaks.
     fn new(chips: u8, column: u8) -> Self {
+        Bus::of(PCF8532, chips, column)
+    }
+
+    fn of(part: u8, chips: u8, column: u8) -> Self {
         Bus {
+            part,
             chips,
             registers: [0; REGISTERS],
-            ram: vec![column; COLUMNS * chips as usize],
+            ram: vec![column; columns_of(part) * chips as usize],
         }
     }
 
+    /// The long account's answer; the same chips one by one give the same, and hold the same afterwards.
     fn answer(&mut self, bytes: &[u8]) -> Answer {
-        transfer(self.chips, 0, &mut self.registers, &mut self.ram, bytes)
+        let mut chips = self.plain_chips();
+        let (part, registers, ram) = (self.part, &mut self.registers, &mut self.ram);
+        let long = transfer(part, self.chips, 0, registers, ram, bytes);
+        let plain = plain_transfer(part, &mut chips, bytes);
+        assert_eq!(common(long), common(plain), "{bytes:02X?}");
+        assert_eq!(chips, self.plain_chips(), "{bytes:02X?}");
+        long
     }
 
     fn send(&mut self, bytes: &[u8]) -> [usize; ANSWER] {
@@ -55,9 +75,14 @@ impl Bus {
         (self.state().a, self.state().p)
     }
 
+    fn plain_chips(&self) -> Vec<Chip> {
+        plain_chips(self.part, [self.chips, 0], &self.registers, &self.ram)
+    }
+
     /// Shows the group in a buffer that was all 9.
     fn show(&self, phase: u8) -> ([usize; ANSWER], Vec<u8>) {
         let view = View {
+            part: self.part,
             chips0: self.chips,
             chips1: 0,
             registers: &self.registers,
@@ -71,12 +96,12 @@ impl Bus {
 
     /// Shows each chip alone, in buffers that were all 9.
     fn show_chips(&self, phase: u8) -> Vec<([usize; ANSWER], Vec<u8>)> {
-        let chips = plain_chips([self.chips, 0], &self.registers, &self.ram);
         let show = |chip| {
-            let mut out = vec![9; COLUMNS];
-            (plain_picture(chip, phase, &mut out).numbers(), out)
+            let mut out = vec![9; columns_of(self.part)];
+            let answer = plain_picture(self.part, chip, phase, &mut out);
+            (answer.numbers(), out)
         };
-        chips.iter().map(show).collect()
+        self.plain_chips().iter().map(show).collect()
     }
 }
 
@@ -158,7 +183,8 @@ fn edges_of_the_commands() {
         assert_eq!(bus.send(&[0x70, 0x00, refused]), [7, 2, 0, 0, 0, 4]);
         assert_eq!(bus.registers, before);
     }
-    assert_eq!((0..=255).filter(|byte| defined(*byte)).count(), 66);
+    let defined = (0..=255).filter(|byte| Part::Pcf8532.defines(*byte));
+    assert_eq!(defined.count(), 66);
 }
 
 #[test]
@@ -188,25 +214,27 @@ const MODE_2_BANK_1: Shown = ([0, 0, 0, 0, 1, 1, 1, 1, 2, 2, 2, 2, 3, 3, 3, 3], 
 const MODE_3: Shown = ([0, 1, 2, 3, 4, 5, 6, 7, 0, 1, 2, 3, 4, 5, 6, 7], 24);
 const MODE_4: Shown = ([0, 1, 2, 3, 4, 5, 6, 7, 8, 9, 10, 11, 12, 13, 14, 15], 32);
 
-/// Two chips with the values 0 to 15 over and over, after a mode-set, a bank-select and a blink-select:
+/// Two chips with the values 0 to 15 over and over, so many times each, after a mode-set, a bank-select and a blink-select:
 /// the group and each chip alone show `expected` at phases 0 and 1.
-fn hold_phases(commands: [u8; 3], expected: [Shown; 2]) {
-    let mut bus = Bus::new(2, 0);
-    bus.ram = (0..16).collect::<Vec<u8>>().repeat(20);
+fn hold_phases((part, times): (u8, usize), commands: [u8; 3], expected: [Shown; 2]) {
+    let mut bus = Bus::of(part, 2, 0);
+    bus.ram = (0..16).collect::<Vec<u8>>().repeat(2 * times);
     bus.set_and_send(&commands, &[]);
     for (phase, (columns, lit)) in [0, 1].into_iter().zip(expected) {
-        let group = ([0, 0, 20 * lit, 0, 0, 0], columns.repeat(20));
-        let chip = ([0, 0, 10 * lit, 0, 0, 0], columns.repeat(10));
+        let shown = |times| ([0, 0, times * lit, 0, 0, 0], columns.repeat(times));
+        let (group, chip) = (shown(2 * times), shown(times));
         assert_eq!(bus.show(phase), group, "{commands:02X?} phase {phase}");
         assert_eq!(bus.show_chips(phase), [chip.clone(), chip]);
     }
 }
 
-/// The same with B = 0 and 1; with E = 0 both phases are dark.
+/// The same of both parts with B = 0 and 1; with E = 0 both phases are dark.
 fn hold_blinking(mode: u8, bank: u8, blink: u8, expected: [Shown; 2]) {
-    for b in [0, 4] {
-        hold_phases([0xC0 | b | mode, bank, blink], [DARK, DARK]);
-        hold_phases([0xC8 | b | mode, bank, blink], expected);
+    for part in [(PCF8532, 10), (PCA85133, 5)] {
+        for b in [0, 4] {
+            hold_phases(part, [0xC0 | b | mode, bank, blink], [DARK, DARK]);
+            hold_phases(part, [0xC8 | b | mode, bank, blink], expected);
+        }
     }
 }
 
@@ -299,8 +327,8 @@ fn order_of_transfer_refusals() {
     let mut wrong = [0; REGISTERS];
     wrong[REGISTERS - 1] = 4;
     let number = |chips: u8, mut registers: [u8; REGISTERS], mut ram: Vec<u8>, bytes: &[u8]| {
-        let [number, place, ..] = transfer(chips, 0, &mut registers, &mut ram, bytes).numbers();
-        (number, place)
+        let answer = transfer(PCF8532, chips, 0, &mut registers, &mut ram, bytes);
+        (answer.number, answer.place)
     };
     assert_eq!(number(5, wrong, vec![16; 3], &[]), (3, 0));
     assert_eq!(number(1, wrong, vec![16; 3], &[]), (6, 0));
@@ -315,46 +343,46 @@ fn order_of_transfer_refusals() {
 
 #[test]
 fn order_of_plain_refusals() {
+    let sent = |chips: &[Chip], bytes: &[u8]| {
+        let answer = plain_transfer(PCF8532, &mut chips.to_vec(), bytes);
+        answer.numbers()
+    };
     let mut bad = Chip::new(0, 3);
     bad.registers.p = 160;
-    assert_eq!(plain_transfer(&mut [bad; 9], &[]).number, 10);
-    let mut chips = [Chip::new(0, 0), bad];
-    assert_eq!(
-        plain_transfer(&mut chips, &[]).numbers(),
-        [11, 1, 0, 0, 0, 4]
-    );
-    assert_eq!(plain_transfer(&mut [], &[]).number, 1);
-    assert_eq!(
-        plain_transfer(&mut [], &[0x70, 0, 0xFF]).numbers(),
-        [0, 0, 0, 0, 0, 4]
-    );
-    let mut chips = [Chip::new(1, 0)];
-    assert_eq!(plain_transfer(&mut chips, &[0x70, 0, 0xFF]).number, 0);
-    let refused = plain_transfer(&mut chips, &[0x72, 0, 0xFF]);
-    assert_eq!(refused.numbers(), [7, 2, 0, 0, 0, 4]);
+    assert_eq!(sent(&[bad; 9], &[])[0], 10);
+    assert_eq!(sent(&[Chip::new(0, 0), bad], &[]), [11, 1, 0, 0, 0, 4]);
+    assert_eq!(sent(&[], &[])[0], 1);
+    assert_eq!(sent(&[], &[0x70, 0, 0xFF]), [0, 0, 0, 0, 0, 4]);
+    let chips = [Chip::new(1, 0)];
+    assert_eq!(sent(&chips, &[0x70, 0, 0xFF])[0], 0);
+    assert_eq!(sent(&chips, &[0x72, 0, 0xFF]), [7, 2, 0, 0, 0, 4]);
 }
 
 #[test]
 fn one_plain_chip() {
+    let shown = |chip: &Chip, phase, length| {
+        let answer = plain_picture(PCF8532, chip, phase, &mut vec![0; length]);
+        (answer.number, answer.counts[0])
+    };
     let mut chip = Chip::new(0, 4);
     chip.registers.e = 9;
-    assert_eq!(plain_picture(&chip, 2, &mut []).number, 11);
-    assert_eq!(plain_power_on(&mut chip).number, 11);
+    assert_eq!(shown(&chip, 2, 0), (11, 0));
+    assert_eq!(plain_power_on(PCF8532, &mut chip).number, 11);
     assert_eq!(chip.registers, Registers::power_on());
     chip.subaddress = 3;
     chip.registers.e = 9;
-    assert_eq!(plain_power_on(&mut chip).number, 0);
-    assert_eq!(plain_picture(&chip, 2, &mut []).number, 8);
-    assert_eq!(plain_picture(&chip, 1, &mut [0; 159]).number, 9);
+    assert_eq!(plain_power_on(PCF8532, &mut chip).number, 0);
+    assert_eq!(shown(&chip, 2, 0), (8, 0));
+    assert_eq!(shown(&chip, 1, 159), (9, 0));
     chip.registers.e = 1;
     chip.columns[7] = 5;
-    assert_eq!(plain_picture(&chip, 1, &mut [0; 160]).counts, [2, 0, 0]);
+    assert_eq!(shown(&chip, 1, 160), (0, 2));
 }
 
 #[test]
 fn plain_acknowledgement_counts_once() {
     let mut chips = [Chip::new(0, 0), Chip::new(0, 0), Chip::new(0, 2)];
-    let answer = plain_transfer(&mut chips, &[0x70, 0x40, 0xFF, 0xFF]);
+    let answer = plain_transfer(PCF8532, &mut chips, &[0x70, 0x40, 0xFF, 0xFF]);
     assert_eq!(answer.numbers(), [0, 0, 4, 0, 0, 0]);
     assert_eq!(chips[1].columns[..5], [15, 15, 15, 15, 0]);
     assert_eq!(chips[2].columns, [0; COLUMNS]);
@@ -366,14 +394,23 @@ fn common(answer: Answer) -> [usize; 4] {
     [answer.number, answer.place, answer.counts[0], answer.chip]
 }
 
+/// Columns of a part's chip.
+fn columns_of(part: u8) -> usize {
+    [160, 80][part as usize]
+}
+
+/// What stands behind a PCA85133's columns in these tests; a column could not hold it.
+const BEHIND: u8 = 200;
+
 /// The chips of the plain account that stand for a long bus.
-fn plain_chips(counts: [u8; 2], registers: &[u8; REGISTERS], ram: &[u8]) -> Vec<Chip> {
+fn plain_chips(part: u8, counts: [u8; 2], registers: &[u8; REGISTERS], ram: &[u8]) -> Vec<Chip> {
     let mut chips = Vec::new();
+    let mut shares = ram.chunks(columns_of(part));
     for sa0 in 0..2 {
-        for subaddress in 0..counts[sa0] {
+        for (subaddress, columns) in (0..counts[sa0]).zip(&mut shares) {
             let mut chip = Chip::new(sa0 as u8, subaddress);
-            chip.columns
-                .copy_from_slice(&ram[COLUMNS * chips.len()..][..COLUMNS]);
+            chip.columns.fill(BEHIND);
+            chip.columns[..columns.len()].copy_from_slice(columns);
             chip.registers = Registers::from_bytes(&registers[SET * sa0..][..SET]);
             chips.push(chip);
         }
@@ -384,17 +421,20 @@ fn plain_chips(counts: [u8; 2], registers: &[u8; REGISTERS], ram: &[u8]) -> Vec<
 #[test]
 fn both_accounts_agree() {
     let mut random = Random::new(3);
-    for _ in 0..300 {
-        let counts = [random.below(5) as u8, random.below(5) as u8];
-        let mut ram = vec![0; COLUMNS * (counts[0] + counts[1]) as usize];
+    for round in 0..600 {
+        let part = [PCF8532, PCA85133][round % 2];
+        let most = [4, 8][round % 2];
+        let counts = [(); 2].map(|()| random.below(most + 1) as u8);
+        let mut ram = vec![0; columns_of(part) * (counts[0] + counts[1]) as usize];
         let mut registers = [0; REGISTERS];
-        let mut chips = plain_chips(counts, &registers, &ram);
+        let mut chips = plain_chips(part, counts, &registers, &ram);
         for _ in 0..20 {
-            let bytes = generate::transfer(&mut random);
-            let long = transfer(counts[0], counts[1], &mut registers, &mut ram, &bytes);
-            let plain = plain_transfer(&mut chips, &bytes);
+            let bytes = generate::transfer(&mut random, generate::shape(part));
+            let [chips0, chips1] = counts;
+            let long = transfer(part, chips0, chips1, &mut registers, &mut ram, &bytes);
+            let plain = plain_transfer(part, &mut chips, &bytes);
             assert_eq!(common(long), common(plain));
-            assert_eq!(chips, plain_chips(counts, &registers, &ram));
+            assert_eq!(chips, plain_chips(part, counts, &registers, &ram));
         }
     }
 }

@@ -1,20 +1,28 @@
 //! The checks that transfer and picture share, in the order 3, 6, 4, 5.
 
-use super::{Refusal, COLUMNS, SET};
+use super::part::Part;
+use super::{Refusal, SET};
 
 /// The highest value of each register, for both groups.
-const LIMITS: [u8; 2 * SET] = [1, 1, 3, 159, 4, 1, 1, 1, 3, 1, 1, 3, 159, 4, 1, 1, 1, 3];
+const fn limits<Chosen: Part>() -> [u8; 2 * SET] {
+    let (p, a) = (Chosen::COLUMNS as u8 - 1, Chosen::MOST as u8);
+    [1, 1, 3, p, a, 1, 1, 1, 3, 1, 1, 3, p, a, 1, 1, 1, 3]
+}
 
-pub fn check_state(chips: [u8; 2], registers: &[u8; 2 * SET], ram: &[u8]) -> Result<(), Refusal> {
-    if chips[0] > 4 || chips[1] > 4 {
+pub fn check_state<Chosen: Part>(
+    chips: [u8; 2],
+    registers: &[u8; 2 * SET],
+    ram: &[u8],
+) -> Result<(), Refusal> {
+    if chips[0] as usize > Chosen::MOST || chips[1] as usize > Chosen::MOST {
         return Err((3, 0));
     }
     // No branch leaves the walk, so that all registers are compared at once.
-    let pairs = registers.iter().zip(&LIMITS);
+    let pairs = registers.iter().zip(const { &limits::<Chosen>() });
     if pairs.fold(false, |outside, (x, limit)| outside | (x > limit)) {
         return Err((6, 0));
     }
-    if ram.len() != COLUMNS * (chips[0] as usize + chips[1] as usize) {
+    if ram.len() != Chosen::COLUMNS * (chips[0] as usize + chips[1] as usize) {
         return Err((4, 0));
     }
     check_columns(ram)

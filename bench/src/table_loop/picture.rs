@@ -1,6 +1,7 @@
 //! The picture of a group, in two ways: a count a column, and eight columns as one word.
 
-use super::{checks, group_range, refused, Refusal, AB, ANSWER, BF, COLUMNS, E, M, O, SET};
+use super::part::{Part, Pca85133, Pcf8532};
+use super::{checks, group_range, refused, Refusal, AB, ANSWER, BF, E, M, O, SET, UNKNOWN_PART};
 use humtrellis_tests::model::View;
 
 /// The rows that each mode shows, for eight columns at once.
@@ -16,11 +17,20 @@ type Show = fn(&[u8], u8, u64, &mut [u8]) -> usize;
 
 #[inline(always)]
 fn picture(view: View, out: &mut [u8], show: Show) -> [usize; ANSWER] {
-    if let Err(refusal) = check(view, out.len()) {
+    match view.part {
+        0 => picture_of::<Pcf8532>(view, out, show),
+        1 => picture_of::<Pca85133>(view, out, show),
+        _ => refused(UNKNOWN_PART, 0),
+    }
+}
+
+#[inline(always)]
+fn picture_of<Chosen: Part>(view: View, out: &mut [u8], show: Show) -> [usize; ANSWER] {
+    if let Err(refusal) = check::<Chosen>(view, out.len()) {
         return refused(refusal, 0);
     }
     let group = view.group as usize;
-    let columns = &view.ram[group_range([view.chips0, view.chips1], group)];
+    let columns = &view.ram[group_range::<Chosen>([view.chips0, view.chips1], group)];
     let set = &view.registers.as_chunks::<SET>().0[group];
     let (shift, rows) = shown(set, view.phase);
     [0, 0, show(columns, shift, rows, out), 0, 0, 0]
@@ -36,13 +46,13 @@ pub fn picture_by_words(view: View, out: &mut [u8]) -> [usize; ANSWER] {
     picture(view, out, show_words)
 }
 
-fn check(view: View, length: usize) -> Result<(), Refusal> {
+fn check<Chosen: Part>(view: View, length: usize) -> Result<(), Refusal> {
     let chips = [view.chips0, view.chips1];
-    checks::check_state(chips, view.registers, view.ram)?;
+    checks::check_state::<Chosen>(chips, view.registers, view.ram)?;
     if view.group > 1 || view.phase > 1 {
         return Err((8, 0));
     }
-    if length != COLUMNS * chips[view.group as usize] as usize {
+    if length != Chosen::COLUMNS * chips[view.group as usize] as usize {
         return Err((9, 0));
     }
     Ok(())
@@ -77,7 +87,7 @@ fn show_columns(columns: &[u8], shift: u8, rows: u64, out: &mut [u8]) -> usize {
     lit
 }
 
-/// Writes the picture and counts the lit elements; 160 columns a chip are whole words.
+/// Writes the picture and counts the lit elements; the columns of a chip of either part are whole words.
 #[inline(always)]
 fn show_words(columns: &[u8], shift: u8, rows: u64, out: &mut [u8]) -> usize {
     let mut lit = 0;

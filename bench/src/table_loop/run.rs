@@ -1,18 +1,19 @@
 //! A run of data bytes into a group's columns.
 
+use super::part::Part;
 use super::tables::{Table, FOUR, STATIC, THREE, TWO};
-use super::{A, COLUMNS, I, M, NONE, P, SET};
+use super::{A, I, M, P, SET};
 
 /// Stores a run of some bytes, moves the position, and adds to the counts acknowledged, stored and discarded.
 /// The chip that has the last byte's last column, if it is there.
-pub fn store(
+pub fn store<Chosen: Part>(
     set: &mut [u8; SET],
     columns: &mut [u8],
     data: &[u8],
     counts: &mut [usize; 3],
 ) -> usize {
     let (backplanes, width) = [(4, 2), (1, 8), (2, 4), (3, 3)][set[M] as usize & 3];
-    let position = COLUMNS * set[A] as usize + set[P] as usize;
+    let position = Chosen::COLUMNS * set[A] as usize + set[P] as usize;
     let start = position.min(columns.len());
     let left = &mut columns[start..];
     let whole = data.len().min(left.len() / width);
@@ -28,16 +29,17 @@ pub fn store(
     counts[1] += stored;
     counts[2] += 8 * data.len() - stored;
     let after = position + width * data.len();
-    set[P] = (after % COLUMNS) as u8;
-    set[A] = (after / COLUMNS).min(4) as u8;
+    set[P] = (after % Chosen::COLUMNS) as u8;
+    set[A] = (after / Chosen::COLUMNS).min(Chosen::MOST) as u8;
     if after <= columns.len() {
-        (after - 1) / COLUMNS
+        (after - 1) / Chosen::COLUMNS
     } else {
-        NONE
+        Chosen::MOST
     }
 }
 
-/// Bytes whose columns are all there.
+/// Bytes whose columns are all there; in line, so that it costs no call in either part's path.
+#[inline(always)]
 fn fill(set: &[u8; SET], columns: &mut [u8], data: &[u8]) {
     let shift = 2 * set[I];
     match set[M] {
@@ -83,18 +85,19 @@ fn fill_four(columns: &mut [u8], data: &[u8]) {
     }
 }
 
-/// The columns that are left for a byte that does not fit.
+/// The columns that are left for a byte that does not fit; in line too.
+#[inline(always)]
 fn fill_cut(set: &[u8; SET], columns: &mut [u8], byte: u8) {
     let shift = 2 * set[I];
     match set[M] {
-        1 => fill_part(columns, &STATIC, byte, shift),
-        2 => fill_part(columns, &TWO, byte, shift),
-        3 => fill_part(columns, &THREE, byte, 0),
-        _ => fill_part(columns, &FOUR, byte, 0),
+        1 => fill_entry(columns, &STATIC, byte, shift),
+        2 => fill_entry(columns, &TWO, byte, shift),
+        3 => fill_entry(columns, &THREE, byte, 0),
+        _ => fill_entry(columns, &FOUR, byte, 0),
     }
 }
 
-fn fill_part<const WIDTH: usize>(columns: &mut [u8], table: &Table<WIDTH>, byte: u8, shift: u8) {
+fn fill_entry<const WIDTH: usize>(columns: &mut [u8], table: &Table<WIDTH>, byte: u8, shift: u8) {
     let entries = table[byte as usize].iter().zip(&table[255]);
     for (column, (value, mask)) in columns.iter_mut().zip(entries) {
         *column = *column & !(mask << shift) | value << shift;

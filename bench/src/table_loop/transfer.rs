@@ -1,33 +1,49 @@
-//! A transfer: the checks, then its parts.
+//! A transfer: the checks, then its bytes.
 
-use super::{checks, commands, group_range, refused, run, Refusal, ANSWER, NONE, SET};
+use super::part::{Part, Pca85133, Pcf8532};
+use super::{checks, commands, group_range, refused, run, Refusal, ANSWER, SET, UNKNOWN_PART};
 
 #[inline(never)]
 pub fn transfer(
+    part: u8,
     chips: [u8; 2],
     registers: &mut [u8; 2 * SET],
     ram: &mut [u8],
     bytes: &[u8],
 ) -> [usize; ANSWER] {
-    let group = match hearing_group(chips, registers, ram, bytes) {
-        Err(refusal) => return refused(refusal, NONE),
-        Ok(None) => return [0, 0, 0, 0, 0, NONE],
+    match part {
+        0 => transfer_to::<Pcf8532>(chips, registers, ram, bytes),
+        1 => transfer_to::<Pca85133>(chips, registers, ram, bytes),
+        // Paper 02, request 5: the number for none is then the PCF8532's.
+        _ => refused(UNKNOWN_PART, Pcf8532::MOST),
+    }
+}
+
+fn transfer_to<Chosen: Part>(
+    chips: [u8; 2],
+    registers: &mut [u8; 2 * SET],
+    ram: &mut [u8],
+    bytes: &[u8],
+) -> [usize; ANSWER] {
+    let group = match hearing_group::<Chosen>(chips, registers, ram, bytes) {
+        Err(refusal) => return refused(refusal, Chosen::MOST),
+        Ok(None) => return [0, 0, 0, 0, 0, Chosen::MOST],
         Ok(Some(group)) => group,
     };
-    let columns = &mut ram[group_range(chips, group)];
+    let columns = &mut ram[group_range::<Chosen>(chips, group)];
     let set = &mut registers.as_chunks_mut::<SET>().0[group];
-    let ([acknowledged, stored, discarded], last) = carry_out(set, columns, bytes);
+    let ([acknowledged, stored, discarded], last) = carry_out::<Chosen>(set, columns, bytes);
     [0, 0, acknowledged, stored, discarded, last]
 }
 
 /// The group that hears a transfer, if one does, after all checks.
-fn hearing_group(
+fn hearing_group<Chosen: Part>(
     chips: [u8; 2],
     registers: &[u8; 2 * SET],
     ram: &[u8],
     bytes: &[u8],
 ) -> Result<Option<usize>, Refusal> {
-    checks::check_state(chips, registers, ram)?;
+    checks::check_state::<Chosen>(chips, registers, ram)?;
     let Some(address) = bytes.first() else {
         return Err((1, 0));
     };
@@ -39,14 +55,18 @@ fn hearing_group(
         114 if chips[1] > 0 => 1,
         _ => return Ok(None),
     };
-    commands::check_bytes(bytes)?;
+    commands::check_bytes(bytes, Chosen::DEFINED)?;
     Ok(Some(group))
 }
 
-/// Goes from control byte to control byte; every part but data bytes is acknowledged. The counts, and the chip of the last data byte.
-fn carry_out(set: &mut [u8; SET], columns: &mut [u8], bytes: &[u8]) -> ([usize; 3], usize) {
+/// Goes from control byte to control byte; every byte but a data byte is acknowledged. The counts, and the chip of the last data byte.
+fn carry_out<Chosen: Part>(
+    set: &mut [u8; SET],
+    columns: &mut [u8],
+    bytes: &[u8],
+) -> ([usize; 3], usize) {
     let mut counts = [1, 0, 0];
-    let mut last = NONE;
+    let mut last = Chosen::MOST;
     let mut rest = &bytes[1..];
     while let Some((control, after)) = rest.split_first() {
         counts[0] += 1;
@@ -54,12 +74,12 @@ fn carry_out(set: &mut [u8; SET], columns: &mut [u8], bytes: &[u8]) -> ([usize; 
             0 => after.len(),
             _ => after.len().min(1),
         };
-        let (part, next) = after.split_at(length);
+        let (some, next) = after.split_at(length);
         if control & 0x40 == 0 {
             counts[0] += length;
-            part.iter().for_each(|byte| commands::obey(set, *byte));
-        } else if !part.is_empty() {
-            last = run::store(set, columns, part, &mut counts);
+            some.iter().for_each(|byte| Chosen::obey(set, *byte));
+        } else if !some.is_empty() {
+            last = run::store::<Chosen>(set, columns, some, &mut counts);
         }
         rest = next;
     }

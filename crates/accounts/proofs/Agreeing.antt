@@ -2,23 +2,28 @@
 -- Assumes nothing.
 use mathlib.Core.Path.{_≡_, sym, ap, _∙_}
 use mathlib.Core.Logic.{⊎-elim}
-use mathlib.Core.List.{List, _++_, append-nil}
+use mathlib.Core.List.{List, _++_, map, append-nil}
 use Prim.Native.Nat.{ℕ, _≤_, _<_}
 use native.Mathlib.Omega.{arith}
-use lib.ListN.{length, take, drop, drop-of-length-le}
+use lib.ListN.{length, take, drop, drop-of-length-le, length-map}
 use lib.Seq.{take-at, take-all, length-take-le}
 use borrow.Author.Tests.{le-leb}
 use Rattle.lemmas.proofs.Order.{lt-or-le}
 use Rattle.sheet.specs.declared.Both.{Both}
 use Rattle.sheet.specs.declared.Chip.{Chip}
 use Rattle.sheet.specs.declared.Chips.{Chips}
+use Rattle.sheet.specs.declared.Check.{Check}
+use Rattle.sheet.specs.declared.Check.the-variants.{Passed}
 use Rattle.sheet.specs.declared.PlainAnswer.{PlainAnswer}
-use Rattle.sheet.specs.Parts.{pcf8532}
-use Rattle.sheet.specs.Long.{After, State, stateOf, transferCall, stateAfter}
-use Rattle.sheet.specs.Plain.{plainCall}
-use Rattle.sheet.specs.Agree.{chipsOf, Valid, plainly}
+use Rattle.sheet.specs.Parts.{Part, partOf}
+use Rattle.sheet.specs.Checks.{checkPart}
+use Rattle.sheet.specs.Long.{After, State, stateOf, answered, transferCall, stateAfter, transferPart}
+use Rattle.sheet.specs.Plain.{plainAnswered, plainCall, plainPart}
+use Rattle.sheet.specs.Agree.{chipsOf, Valid, plainly, trimmed}
 use Rattle.agreement.proofs.Checks.{length-chips}
-use Rattle.agreement.proofs.Demand.{pcf8532-agrees}
+use Rattle.laws.proofs.Kept.{part-keeps}
+use Rattle.agreement.proofs.Arrays.{past-stays}
+use Rattle.agreement.proofs.Demand.{part-agrees}
 use Rattle.plain.specs.declared.Bench.{Bench}
 use Rattle.plain.specs.declared.BenchTransferred.{BenchTransferred}
 use Rattle.plain.specs.Benches.{benchTransferred}
@@ -35,28 +40,64 @@ first-of k a l e =
     (λ (h : k ≤ length l). take-at a (drop k l) k (e ∙ length-take-le k l h))
     (lt-or-le (length l) k)
 
+-- as many chips as before, trimmed or not
+trimmed-length : (K : Part) (cs : List Chip) → length (map (trimmed K) cs) ≡ length cs
+trimmed-length K cs = length-map cs (trimmed K)
+
+-- what the two calls make of a list whose own columns are the state's
+record Together (K : Part) (n : Chips) (s : State) (bytes : List ℕ) (cs : List Chip) : Type 0 where
+  hold : map (trimmed K) (plainCall K cs bytes .chips) ≡ chipsOf K n (stateAfter K n s bytes)
+  acknowledge : plainCall K cs bytes .answer ≡ plainly (transferCall K n (s .registers) (s .ram) bytes .result .answer)
+  valid : Valid K n (stateAfter K n s bytes)
+  size : length (plainCall K cs bytes .chips) ≡ length cs
+
+together : (part : ℕ) (n : Chips) (s : State) (bytes : List ℕ) (cs : List Chip) → Valid (partOf part) n s → map (trimmed (partOf part)) cs ≡ chipsOf (partOf part) n s → Together (partOf part) n s bytes cs
+together part n s bytes cs v e =
+    let K = partOf part in
+    let agreed = part-agrees part .transfer n s bytes v in
+    let past = past-stays K (part-keeps part) cs bytes in
+    let hold = past .own ∙ ap (λ (ds : List Chip). plainCall K ds bytes .chips) e ∙ agreed .hold in
+    record {
+      hold = hold;
+      acknowledge = past .answer ∙ ap (λ (ds : List Chip). plainCall K ds bytes .answer) e ∙ agreed .acknowledge;
+      valid = agreed .valid;
+      size =
+          sym (trimmed-length K (plainCall K cs bytes .chips)) ∙ ap length hold ∙ length-chips K n (stateAfter K n s bytes)
+          ∙ sym (ap length e ∙ length-chips K n s) ∙ trimmed-length K cs;
+    }
+
+-- a known part's calls are the part's
+known-plain : (part : ℕ) (cs : List Chip) (bytes : List ℕ) → checkPart part ≡ Passed → plainPart part cs bytes ≡ plainCall (partOf part) cs bytes
+unfolding plainPart
+known-plain part cs bytes e = ap (λ (k : Check). plainAnswered k cs (plainCall (partOf part) cs bytes)) e
+
+known-long : (part : ℕ) (n : Chips) (r : Both) (ram bytes : List ℕ) → checkPart part ≡ Passed → transferPart part n r ram bytes ≡ transferCall (partOf part) n r ram bytes
+unfolding transferPart
+known-long part n r ram bytes e = ap (λ (k : Check). answered k r ram (transferCall (partOf part) n r ram bytes)) e
+
 -- what both functions ensure, put together
-pub sides-agree : (n : Chips) (r : Both) (ram : List ℕ) (b : Bench) (bytes : List ℕ) (long : After) (plain : BenchTransferred)
-    → Alike n r ram b → long ≡ transferCall pcf8532 n r ram bytes → plain ≡ benchTransferred b bytes
-    → Agreed n (long .ram) (record { long = long .result; plain = plain })
-sides-agree n r ram b bytes long plain like el ep =
-    let s = stateOf r ram in
-    let agreed = pcf8532-agrees .transfer n s bytes (like .valid) in
-    let held : plainCall pcf8532 (take (b .count) (b .chips)) bytes .chips ≡ chipsOf pcf8532 n (stateAfter pcf8532 n s bytes) =
-    ap (λ (cs : List Chip). plainCall pcf8532 cs bytes .chips) (like .chips) ∙ agreed .hold in
-    let size : length (plainCall pcf8532 (take (b .count) (b .chips)) bytes .chips) ≡ length (take (b .count) (b .chips)) =
-    ap length held ∙ length-chips pcf8532 n (stateAfter pcf8532 n s bytes) ∙ sym (ap length (like .chips) ∙ length-chips pcf8532 n s) in
-    rw (el, ep, le-leb (b .count) 8 (like .count))
+pub sides-agree : (part : ℕ) (n : Chips) (r : Both) (ram : List ℕ) (b : Bench) (bytes : List ℕ) (long : After) (plain : BenchTransferred)
+    → Alike part n r ram b → long ≡ transferPart part n r ram bytes → plain ≡ benchTransferred part b bytes
+    → Agreed part n (long .ram) (record { long = long .result; plain = plain })
+sides-agree part n r ram b bytes long plain like el ep =
+    let cs = take (b .count) (b .chips) in
+    let made = together part n (stateOf r ram) bytes cs (like .valid) (like .chips) in
+    rw (el, ep, le-leb (b .count) 16 (like .count), known-long part n r ram bytes (like .known), known-plain part cs bytes (like .known))
     (record {
-      alike = record { valid = agreed .valid; count = like .count; chips = first-of (b .count) _ (b .chips) size ∙ held };
-      answer = ap (λ (cs : List Chip). plainCall pcf8532 cs bytes .answer) (like .chips) ∙ agreed .acknowledge;
+      alike = record {
+        known = like .known;
+        valid = made .valid;
+        count = like .count;
+        chips = ap (map (trimmed (partOf part))) (first-of (b .count) (plainCall (partOf part) cs bytes .chips) (b .chips) (made .size)) ∙ made .hold;
+      };
+      answer = made .acknowledge;
     })
 
 -- the same of `plain::transfer`, over a lent list: what it ensures and what `long::transfer` ensures
-pub lists-agree : (n : Chips) (s : State) (bytes : List ℕ) (long : After) (before chips : List Chip) (answer : PlainAnswer)
-    → Valid pcf8532 n s → before ≡ chipsOf pcf8532 n s → long ≡ transferCall pcf8532 n (s .registers) (s .ram) bytes
-    → answer ≡ plainCall pcf8532 before bytes .answer → chips ≡ plainCall pcf8532 before bytes .chips
-    → (chips ≡ chipsOf pcf8532 n (stateOf (long .result .registers) (long .ram))) × (answer ≡ plainly (long .result .answer))
-lists-agree n s bytes long before chips answer v eb el ea ec =
-    let agreed = pcf8532-agrees .transfer n s bytes v in
-    rw (el, ea, ec, eb) (agreed .hold, agreed .acknowledge)
+pub lists-agree : (part : ℕ) (n : Chips) (s : State) (bytes : List ℕ) (long : After) (before chips : List Chip) (answer : PlainAnswer)
+    → checkPart part ≡ Passed → Valid (partOf part) n s → map (trimmed (partOf part)) before ≡ chipsOf (partOf part) n s → long ≡ transferPart part n (s .registers) (s .ram) bytes
+    → answer ≡ plainPart part before bytes .answer → chips ≡ plainPart part before bytes .chips
+    → (map (trimmed (partOf part)) chips ≡ chipsOf (partOf part) n (stateOf (long .result .registers) (long .ram))) × (answer ≡ plainly (long .result .answer))
+lists-agree part n s bytes long before chips answer known v eb el ea ec =
+    let made = together part n s bytes before v eb in
+    rw (el, ea, ec, known-long part n (s .registers) (s .ram) bytes known, known-plain part before bytes known) (made .hold, made .acknowledge)

@@ -9,6 +9,7 @@ use native.Mathlib.Nat.{add-zero}
 use native.Mathlib.Omega.{arith}
 use lib.Dec.{eqb, ltb}
 use lib.ListN.{length, getD, take, drop, length-append}
+use lib.Seq.{take-take}
 use borrow.Author.Tests.{eq-eqb, ne-eqb, lt-ltb, le-leb}
 use Rattle.lemmas.proofs.Order.{equal-or-not}
 use Rattle.sheet.specs.declared.Registers.{Registers}
@@ -39,7 +40,7 @@ module _ (K : Part) (g : ℕ) (r : Registers) (pg : g < 2) (h : InRange K r) whe
   unfolding misfitIn chipFits groupChips
   all-fit k zero i ram rest l w = rw (add-zero k)
   all-fit k (suc n) i ram rest l w =
-      rw (lt-ltb g 2 pg, lt-ltb i (K .limit) (omega arith), in-range K r h, check-nibbles 0 (take (K .columns) ram) (take-nibbles (K .columns) ram w))
+      rw (lt-ltb g 2 pg, lt-ltb i (K .limit) (omega arith), in-range K r h, take-take (K .columns) (K .columns) ram (omega arith), check-nibbles 0 (take (K .columns) ram) (take-nibbles (K .columns) ram w))
       (all-fit (suc k) n (suc i) (drop (K .columns) ram) rest (omega arith) (drop-nibbles (K .columns) ram w) ∙ ap (λ (j : ℕ). misfitIn K j rest) (omega arith))
 
 -- as many chips as the counts say

@@ -19,11 +19,11 @@ use Rattle.agreement.proofs.Chips.{chipAt}
 
 -- ---- a change, before and after a cut
 
-take-before : (C c : ℕ) (f : ℕ → ℕ) (columns : List ℕ) → c < C → take C (changed f c columns) ≡ changed f c (take C columns)
+pub take-before : (C c : ℕ) (f : ℕ → ℕ) (columns : List ℕ) → c < C → take C (changed f c columns) ≡ changed f c (take C columns)
 unfolding changed
 take-before C c f columns l = take-set-lt C columns c (f (getD columns c 0)) l ∙ ap (λ (q : ℕ). set (take C columns) c (f q)) (sym (getD-take C columns c 0 l))
 
-drop-before : (C c : ℕ) (f : ℕ → ℕ) (columns : List ℕ) → c < C → drop C (changed f c columns) ≡ drop C columns
+pub drop-before : (C c : ℕ) (f : ℕ → ℕ) (columns : List ℕ) → c < C → drop C (changed f c columns) ≡ drop C columns
 unfolding changed
 drop-before C c f columns l = drop-set-lt C columns c (f (getD columns c 0)) l
 

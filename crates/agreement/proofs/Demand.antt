@@ -1,10 +1,11 @@
--- Demand 3, wherever the commands keep the ranges, and for the PCF8532.
+-- Demand 3, wherever the commands keep the ranges, and so for each part.
 -- Assumes nothing.
-use native.Mathlib.Omega.{arith}
-use Rattle.sheet.specs.Parts.{pcf8532}
+use Prim.Native.Nat.{ℕ}
+use Rattle.sheet.specs.Parts.{partOf}
 use Rattle.sheet.specs.Long.{stateOf, bothOn, powerOnCall}
 use Rattle.sheet.specs.Agree.{Demand3, Claim}
-use Rattle.laws.proofs.Kept.{pcf8532-keeps}
+use Rattle.laws.proofs.Kept.{part-keeps}
+use Rattle.laws.proofs.Named.{has-columns}
 use Rattle.laws.proofs.Fits.{powered-passes}
 use Rattle.agreement.proofs.Transfer as transfers
 use Rattle.agreement.proofs.Sequence as sequences
@@ -18,6 +19,6 @@ demand3 K pc keeps = record {
   powered-on = λ n r ram ts e. rw (powers.power-on K n r ram) (sequences.sequence K keeps n (stateOf bothOn ram) ts (powered-passes K n ram pc e));
 }
 
--- the commands of the PCF8532 keep P below 160 and A at most 4
-pub pcf8532-agrees : Demand3 pcf8532
-pcf8532-agrees = demand3 pcf8532 (omega arith) pcf8532-keeps
+-- each part's commands keep P below its columns and A at most at its limit
+pub part-agrees : (part : ℕ) → Demand3 (partOf part)
+part-agrees part = demand3 (partOf part) (has-columns part) (part-keeps part)

@@ -1,5 +1,6 @@
 pub mod Chips
 pub mod Column
+pub mod Arrays
 pub mod Byte
 pub mod Data
 pub mod Acknowledge
@@ -12,4 +13,3 @@ pub mod Sequence
 pub mod Show
 pub mod Demand
 pub mod Power
-pub mod Small

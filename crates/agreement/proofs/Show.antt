@@ -7,6 +7,7 @@ use Prim.Native.Nat.{ℕ, zero, suc, _+_, _*_, _≤_, _<_}
 use native.Mathlib.Nat.{mul-zero, suc-ne-zero}
 use native.Mathlib.Omega.{arith}
 use lib.Dec.{eqb}
+use lib.Seq.{take-take}
 use lib.ListN.{length, take, drop, replicate, length-drop, length-replicate, take-append-drop}
 use lib.Seq.{length-take-le}
 use borrow.Author.Tests.{lt-ltb, eq-eqb}
@@ -43,10 +44,10 @@ module _ (K : Part) (g : ℕ) (r : Registers) (phase : ℕ) (pg : g < 2) (pp : p
   apart columns = sym (map-append _ (take (K .columns) columns) (drop (K .columns) columns)) ∙ ap (λ (c : List ℕ). pictureOf r phase c) (take-append-drop (K .columns) columns)
 
   -- no chip of the group is refused
-  seen-alone : (i : ℕ) (columns : List ℕ) → i < K .limit → Nibbles columns → chipSeen K phase (chipAt g i r columns) ≡ seenOf r phase columns
+  seen-alone : (i : ℕ) (columns : List ℕ) → i < K .limit → Nibbles columns → chipSeen K phase (chipAt g i r (take (K .columns) columns)) ≡ seenOf r phase (take (K .columns) columns)
   unfolding chipPictureCall checkChipPicture chipFits
   seen-alone i columns l w =
-      rw (lt-ltb g 2 pg, lt-ltb i (K .limit) l, in-range K r h, check-nibbles 0 columns w, lt-ltb phase 2 pp, eq-eqb (length {A = ℕ} (replicate (K .columns) 0)) (K .columns) (length-replicate (K .columns) 0)) refl
+      rw (lt-ltb g 2 pg, lt-ltb i (K .limit) l, in-range K r h, take-take (K .columns) (K .columns) columns (omega arith), check-nibbles 0 (take (K .columns) columns) (take-nibbles (K .columns) columns w), lt-ltb phase 2 pp, eq-eqb (length {A = ℕ} (replicate (K .columns) 0)) (K .columns) (length-replicate (K .columns) 0)) refl
 
   same-from : (n i : ℕ) (columns : List ℕ) → i + n ≤ K .limit → Nibbles columns → length columns ≡ K .columns * n → Same K phase (groupChips K n g i r columns) r columns
   unfolding groupChips pictureOf litIn
@@ -54,7 +55,7 @@ module _ (K : Part) (g : ℕ) (r : Registers) (phase : ℕ) (pg : g < 2) (pp : p
   same-from zero i (q ∷ qs) l w e = absurd (suc-ne-zero (length qs) (e ∙ mul-zero (K .columns)))
   same-from (suc n) i columns l w e =
       let rest = same-from n (suc i) (drop (K .columns) columns) (omega arith) (drop-nibbles (K .columns) columns w) (length-drop (K .columns) columns ∙ omega (arith, e)) in
-      let first = seen-alone i (take (K .columns) columns) (omega arith) (take-nibbles (K .columns) columns w) in
+      let first = seen-alone i columns (omega arith) w in
       record {
         picture = ap₂ (λ (k : Seen) (l : List ℕ). k .out ++ l) first (rest .picture) ∙ apart columns;
         lit =

@@ -11,8 +11,8 @@ use Rattle.sheet.specs.declared.Pictured.{Pictured}
 use Rattle.sheet.specs.declared.Rescued.{Rescued}
 use Rattle.sheet.specs.declared.Check.{Check}
 use Rattle.sheet.specs.declared.Refusal.{Refusal}
-use Rattle.sheet.specs.declared.Refusal.the-variants.{EmptyTransfer, LongTransfer, ChipCount, RamLength, RamByte, Register, UndefinedCommand, GroupOrPhase, OutputLength, ManyChips, ChipField, LogHead, CutRecord, LongLog, StrayBits, ShortBody}
-use Rattle.sheet.specs.Parts.{pcf8532}
+use Rattle.sheet.specs.declared.Refusal.the-variants.{EmptyTransfer, LongTransfer, ChipCount, RamLength, RamByte, Register, UndefinedCommand, GroupOrPhase, OutputLength, ManyChips, ChipField, LogHead, CutRecord, LongLog, UnknownPart, StrayBits, ShortBody}
+use Rattle.sheet.specs.Parts.{Part}
 use Rattle.sheet.specs.Refusals.{numberOf, numbers, plainNumbers, pictureNumbers, rescuedNumbers, checkNumbers}
 
 small : (r : Refusal) → numberOf r < 256
@@ -30,17 +30,18 @@ small (ChipField at) = omega arith
 small LogHead = omega arith
 small (CutRecord at) = omega arith
 small LongLog = omega arith
+small UnknownPart = omega arith
 small (StrayBits at) = omega arith
 small (ShortBody at) = omega arith
 
 module _ {l : List ℕ} where
-  pub answer-small : (a : Answer) → l ≡ numbers pcf8532 a → getD l 0 0 < 256
-  answer-small (Answer.Taken t last) e = rw e (omega arith)
-  answer-small (Answer.Refused r) e = rw e (small r)
+  pub answer-small : (K : Part) (a : Answer) → l ≡ numbers K a → getD l 0 0 < 256
+  answer-small K (Answer.Taken t last) e = rw e (omega arith)
+  answer-small K (Answer.Refused r) e = rw e (small r)
 
-  pub plain-small : (a : PlainAnswer) → l ≡ plainNumbers pcf8532 a → getD l 0 0 < 256
-  plain-small (PlainAnswer.Acknowledged n last) e = rw e (omega arith)
-  plain-small (PlainAnswer.Refused r) e = rw e (small r)
+  pub plain-small : (K : Part) (a : PlainAnswer) → l ≡ plainNumbers K a → getD l 0 0 < 256
+  plain-small K (PlainAnswer.Acknowledged n last) e = rw e (omega arith)
+  plain-small K (PlainAnswer.Refused r) e = rw e (small r)
 
   pub picture-small : (p : Pictured) → l ≡ pictureNumbers p → getD l 0 0 < 256
   picture-small (Pictured.Lit n) e = rw e (omega arith)

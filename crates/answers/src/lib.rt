@@ -7,7 +7,7 @@ use sheet::PlainAnswer;
 use sheet::Refusal;
 use sheet::Rescued;
 ghost use mathlib.Core.Path.{_≡_};
-ghost use Rattle.sheet.specs.Parts.{pcf8532};
+ghost use Rattle.sheet.specs.Parts.{partOf};
 ghost use Rattle.sheet.specs.Logs.{modelled};
 ghost use Rattle.sheet.specs.Refusals.{numberOf, placeOf, lastNumber, refusalNumbers, numbers, plainNumbers, pictureNumbers, rescuedNumbers, checkNumbers};
 
@@ -30,6 +30,7 @@ pub fn number_of(refusal: Refusal) -> usize
         Refusal::LogHead => 12,
         Refusal::CutRecord(_) => 13,
         Refusal::LongLog => 14,
+        Refusal::UnknownPart => 16,
         Refusal::StrayBits(_) => 17,
         Refusal::ShortBody(_) => 20,
     }
@@ -56,6 +57,7 @@ pub fn place_of(refusal: Refusal) -> usize
         Refusal::ManyChips => 0,
         Refusal::LogHead => 0,
         Refusal::LongLog => 0,
+        Refusal::UnknownPart => 0,
     }
 }
 
@@ -69,13 +71,13 @@ pub fn modelled(answer: Answer) -> usize
     }
 }
 
-// The subaddress that acknowledged the last data byte, or 4.
-fn last_number(last: Acknowledger) -> usize
-    ensures { λ r. ⌜ r ≡ lastNumber pcf8532 last ⌝ }
+// The subaddress that acknowledged the last data byte, or where the part's counter rests.
+fn last_number(part: u8, last: Acknowledger) -> usize
+    ensures { λ r. ⌜ r ≡ lastNumber (partOf part) last ⌝ }
 {
     match last {
         Acknowledger::Subaddress(subaddress) => subaddress,
-        Acknowledger::None => 4,
+        Acknowledger::None => arithmetic::limit(part),
     }
 }
 
@@ -87,8 +89,8 @@ fn refusal_numbers(refusal: Refusal, last: usize) -> [usize; 6]
 }
 
 // Of a transfer: acknowledged, stored, discarded, and who acknowledged its last data byte.
-pub fn numbers(answer: Answer) -> [usize; 6]
-    ensures { λ r. ⌜ r ≡ numbers pcf8532 answer ⌝ }
+pub fn numbers(part: u8, answer: Answer) -> [usize; 6]
+    ensures { λ r. ⌜ r ≡ numbers (partOf part) answer ⌝ }
 {
     match answer {
         Answer::Taken { counts, last } => [
@@ -97,19 +99,22 @@ pub fn numbers(answer: Answer) -> [usize; 6]
             counts.acknowledged,
             counts.stored,
             counts.discarded,
-            last_number(last),
+            last_number(part, last),
         ],
-        Answer::Refused(refusal) => refusal_numbers(refusal, last_number(Acknowledger::None)),
+        Answer::Refused(refusal) => refusal_numbers(refusal, last_number(part, Acknowledger::None)),
     }
 }
 
 // Of a transfer in the plain account: acknowledged only, and the same of its last data byte.
-pub fn plain_numbers(answer: PlainAnswer) -> [usize; 6]
-    ensures { λ r. ⌜ r ≡ plainNumbers pcf8532 answer ⌝ }
+pub fn plain_numbers(part: u8, answer: PlainAnswer) -> [usize; 6]
+    ensures { λ r. ⌜ r ≡ plainNumbers (partOf part) answer ⌝ }
 {
     match answer {
-        PlainAnswer::Acknowledged { bytes, last } => [0, 0, bytes, 0, 0, last_number(last)],
-        PlainAnswer::Refused(refusal) => refusal_numbers(refusal, last_number(Acknowledger::None)),
+        PlainAnswer::Acknowledged { bytes, last } => [0, 0, bytes, 0, 0, last_number(part, last)],
+        PlainAnswer::Refused(refusal) => refusal_numbers(
+            refusal,
+            last_number(part, Acknowledger::None),
+        ),
     }
 }
 

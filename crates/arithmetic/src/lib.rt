@@ -1,12 +1,61 @@
-// The small arithmetic that several rooms share: modes and banks, places, bits and rows.
+// The small arithmetic that several rooms share: the numbers of a part, modes and banks, places, bits and rows.
 use sheet::Registers;
 ghost use mathlib.Core.Bool.{true};
 ghost use mathlib.Core.Path.{_≡_};
-ghost use Prim.Native.Nat.{_-_, _<_, min};
-ghost use Rattle.sheet.specs.Parts.{pcf8532};
+ghost use Prim.Native.Nat.{_-_, _*_, _/_, _%_, _<_, min};
+ghost use Rattle.sheet.specs.Parts.{partOf};
 ghost use Rattle.sheet.specs.Registers.{inRange, backplanes, bankRow};
 ghost use Rattle.sheet.specs.Places.{position, atPosition};
 ghost use Rattle.sheet.specs.Data.{bitOf, withRow, widthOf};
+
+// ---- a part by its number. Only here is it told apart: a division is by a literal on either side
+
+// The columns of a chip.
+pub fn columns(part: u8) -> usize
+    ensures { λ r. ⌜ r ≡ partOf part .columns ⌝ }
+{
+    if part == sheet::PCA85133 { 80 } else { 160 }
+}
+
+// The subaddresses of a group, and where its counter rests.
+pub fn limit(part: u8) -> usize
+    ensures { λ r. ⌜ r ≡ partOf part .limit ⌝ }
+{
+    if part == sheet::PCA85133 { 8 } else { 4 }
+}
+
+// The columns of so many chips.
+pub fn columns_in(part: u8, chips: u16) -> usize
+    ensures { λ r. ⌜ r ≡ partOf part .columns * chips ⌝ }
+{
+    if part == sheet::PCA85133 {
+        80 * (chips as usize)
+    } else {
+        160 * (chips as usize)
+    }
+}
+
+// The chip that has a column of the group.
+pub fn chip_of(part: u8, v: usize) -> usize
+    ensures { λ r. ⌜ r ≡ v / partOf part .columns ⌝ }
+{
+    if part == sheet::PCA85133 {
+        v / 80
+    } else {
+        v / 160
+    }
+}
+
+// Which of its columns that is.
+pub fn column_of(part: u8, v: usize) -> usize
+    ensures { λ r. ⌜ r ≡ v % partOf part .columns ⌝ }
+{
+    if part == sheet::PCA85133 {
+        v % 80
+    } else {
+        v % 160
+    }
+}
 
 // ---- modes and banks
 
@@ -39,26 +88,20 @@ pub fn width(m: usize) -> usize
 }
 
 // Pointer and counter as one position.
-pub fn position(registers: Registers) -> usize
-    requires { ⌜ inRange pcf8532 registers ≡ true ⌝ }
-    ensures { λ r. ⌜ r ≡ position pcf8532 registers ⌝ }
+pub fn position(part: u8, registers: Registers) -> usize
+    requires { ⌜ inRange (partOf part) registers ≡ true ⌝ }
+    ensures { λ r. ⌜ r ≡ position (partOf part) registers ⌝ }
 {
-    160 * registers.a + registers.p
+    columns(part) * registers.a + registers.p
 }
 
 // The registers at a position.
-pub fn at_position(mut registers: Registers, v: usize) -> Registers
-    ensures { λ r. ⌜ r ≡ atPosition pcf8532 registers v ⌝ }
+pub fn at_position(part: u8, mut registers: Registers, v: usize) -> Registers
+    ensures { λ r. ⌜ r ≡ atPosition (partOf part) registers v ⌝ }
 {
-    let a = v / 160;
-    registers.p = v % 160;
-    if a < 4 {
-        registers.a = a;
-        registers
-    } else {
-        registers.a = 4;
-        registers
-    }
+    registers.p = column_of(part, v);
+    registers.a = least(limit(part), chip_of(part, v));
+    registers
 }
 
 // The lesser of two numbers.

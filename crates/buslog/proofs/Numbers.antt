@@ -20,7 +20,7 @@ use Rattle.sheet.specs.declared.Refusal.the-variants.{EmptyTransfer, LongTransf
 use Rattle.sheet.specs.declared.Check.{Check}
 use Rattle.sheet.specs.declared.Check.the-variants.{Passed, Refused}
 use Rattle.sheet.specs.Refusals.{numberOf, placeOf, lastNumber, numbers}
-use Rattle.sheet.specs.Parts.{commandOf, pcf8532}
+use Rattle.sheet.specs.Parts.{pcf8532}
 use Rattle.sheet.specs.Commands.{defined}
 use Rattle.sheet.specs.Protocol.{heardBy, chipsIn, next}
 use Rattle.sheet.specs.Checks.{unless, orElse, checkChips, checkLength, faultOf, fault, faultIn, checkBytes, checkTransfer}
@@ -56,7 +56,7 @@ unless-few false r s = s
 
 -- the place of a fault, of bytes from place i on
 kind-few : (k : Kind) (i x : ℕ) → i ≤ 99999 → Few (faultOf pcf8532 k i x)
-kind-few Kind.Command i x h = unless-few (defined (commandOf x)) (UndefinedCommand i) (omega arith)
+kind-few Kind.Command i x h = unless-few (defined (pcf8532 .command x)) (UndefinedCommand i) (omega arith)
 kind-few Kind.Data i x h = tt
 
 fault-few : (e : Expect) (i x : ℕ) → i ≤ 99999 → Few (fault pcf8532 e i x)

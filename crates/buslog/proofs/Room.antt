@@ -28,7 +28,8 @@ use Rattle.sheet.specs.Logs.{logChips, seenBytes, logRecords, logTransfers, che
 use Rattle.sheet.specs.Agree.{Valid}
 use Rattle.laws.proofs.Nibbles.{Nibbles, take-nibbles, drop-nibbles}
 use Rattle.laws.proofs.Fits.{fits-of}
-use Rattle.agreement.proofs.Demand.{pcf8532-agrees}
+use Rattle.agreement.proofs.Demand.{demand3}
+use Rattle.laws.proofs.Kept.{pcf8532-keeps}
 use Rattle.laws.proofs.Lens.{few-chips-in, length-columns}
 use Rattle.records.specs.Found.{AllCounted}
 use Rattle.buslog.specs.Replays.{room}
@@ -99,7 +100,7 @@ transfers-few two n i s (body ∷ bodies) v h b c =
       arith,
       length-append lines (transferLines seen n (suc i) after bodies),
       record-lines two n i s body v (omega arith) (omega arith) (c .0) (b .0),
-      transfers-few two n (suc i) after bodies (pcf8532-agrees .transfer n s (drop seen body) v .valid) (omega arith) (b .1) (c .1),
+      transfers-few two n (suc i) after bodies (demand3 pcf8532 (omega arith) pcf8532-keeps .transfer n s (drop seen body) v .valid) (omega arith) (b .1) (c .1),
     )
 
 -- ---- pictures
@@ -177,7 +178,7 @@ lines-few log e counted =
       arith,
       length-append (transferLines seen n 0 (logStart n) bodies) (endLines n end),
       transfers-few (eqb (getD log 0 0) 2) n 0 (logStart n) bodies v (omega (arith, b .weigh)) (b .begun) counted,
-      end-few n end (pcf8532-agrees .sequence n (logStart n) (logTransfers log) v .valid),
+      end-few n end (demand3 pcf8532 (omega arith) pcf8532-keeps .sequence n (logStart n) (logTransfers log) v .valid),
       b .weigh,
     )
 

@@ -54,7 +54,7 @@ fn put_transfers(log: &[u8], chips: Chips, initial: Both, ram: &mut [u8], out: &
     while let Record::Body { start, size, count } = cursor.read(log) {
         let end = start + size;
         let from = start + seen;
-        let done = long::transfer(chips, registers, ram, &log[from..end]);
+        let done = long::transfer(sheet::PCF8532, chips, registers, ram, &log[from..end]);
         registers = done.registers;
         let answer = done.answer;
         at = lines::put_record(out, at, seen, index, count, answer);
@@ -92,7 +92,15 @@ fn put_group(
     ensures { λ r. ⌜ r .lit ≡ litIn (shownAt chips (stateOf registers (now (ram .entry))) group) ⌝ }
 {
     let mut picture = blank_picture();
-    match long::picture(chips, registers, ram, group, 0, &mut picture[..size]) {
+    match long::picture(
+        sheet::PCF8532,
+        chips,
+        registers,
+        ram,
+        group,
+        0,
+        &mut picture[..size],
+    ) {
         Pictured::Lit(lit) => {
             let after = lines::put_columns(out, at, group as usize, &picture[..size]);
             Listed { at: after, lit }
@@ -120,7 +128,7 @@ fn play(log: &[u8], chips: Chips, ram: &mut [u8], out: &mut [u8]) -> usize
     requires { ⌜ Playable (now log) chips (now ram) (now out) ⌝ }
     ensures { λ r. ⌜ Puts 0 (logLines (seenBytes (now (log .entry))) chips (logRecords (now (log .entry)) .bodies)) (now (out .entry)) (now (out .exit)) r ⌝ }
 {
-    let start = long::power_on(chips, ram);
+    let start = long::power_on(sheet::PCF8532, chips, ram);
     let played = put_transfers(log, chips, start.registers, ram, out);
     let registers = played.registers;
     put_end(chips, registers, ram, out, played.at)

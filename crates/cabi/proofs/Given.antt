@@ -15,21 +15,21 @@ use Rattle.sheet.specs.declared.PlainAnswer.{PlainAnswer}
 use Rattle.sheet.specs.declared.Check.{Check}
 use Rattle.sheet.specs.declared.Check.the-variants.{Passed, Refused}
 use Rattle.sheet.specs.declared.Refusal.{Refusal}
-use Rattle.sheet.specs.Parts.{Part, pcf8532}
+use Rattle.sheet.specs.Parts.{Part, partOf}
 use Rattle.sheet.specs.Registers.{powerOn}
 use Rattle.sheet.specs.Protocol.{heardBy}
-use Rattle.sheet.specs.Checks.{checkTransfer}
-use Rattle.sheet.specs.Long.{taken, answered, transferCall}
-use Rattle.sheet.specs.Plain.{chipPowerOn}
+use Rattle.sheet.specs.Checks.{checkPart, checkTransfer}
+use Rattle.sheet.specs.Long.{taken, answered, transferCall, transferPart}
+use Rattle.sheet.specs.Plain.{chipPowerOnPart}
 use Rattle.lent.specs.Lent.{lentCall}
 use Rattle.wire.specs.Bytes.{bytesOf, bothOf, bothBytes}
 use Rattle.wire.proofs.Given.{Bytes, both-back, unwritten}
 use Rattle.cabi.specs.Calls.{chipsOf, transferC, chipPowerOnC, plainC}
 
 -- power-on of a chip writes its registers only, taken or refused
-pub powered-chip : (chip answer : List ℕ) → length chip ≡ 171 → length answer ≡ 6 → chipPowerOnC chip answer .buffer ≡ take 162 chip ++ bytesOf powerOn
-unfolding chipPowerOnC chipPowerOn
-powered-chip chip answer e six = rw (eq-eqb (length chip) 171 e, eq-eqb (length answer) 6 six) (unwritten chip (bytesOf powerOn) e)
+pub powered-chip : (part : ℕ) (chip answer : List ℕ) → length chip ≡ 171 → length answer ≡ 6 → chipPowerOnC part chip answer .buffer ≡ take 162 chip ++ bytesOf powerOn
+unfolding chipPowerOnC chipPowerOnPart
+powered-chip part chip answer e six = rw (eq-eqb (length chip) 171 e, eq-eqb (length answer) 6 six) (unwritten chip (bytesOf powerOn) e)
 
 -- ---- refused
 
@@ -44,17 +44,27 @@ refused K n r ram bytes x = by (checkTransfer K n r ram bytes) (heardBy n (getD 
     by Passed (To g) e = let z : _≡_ {A = ℕ} 0 1 = cc in absurd (omega arith)
     by Passed Nobody e = let z : _≡_ {A = ℕ} 0 1 = cc in absurd (omega arith)
 
+-- of an unknown part too
+refused-part : (part : ℕ) (n : Chips) (r : Both) (ram bytes : List ℕ) (x : Refusal) → transferPart part n r ram bytes .result .answer ≡ Answer.Refused x
+    → (transferPart part n r ram bytes .result .registers ≡ r) × (transferPart part n r ram bytes .ram ≡ ram)
+unfolding transferPart
+refused-part part n r ram bytes x = by (checkPart part)
+  where
+    by : (k : Check) → let a = answered k r ram (transferCall (partOf part) n r ram bytes) in a .result .answer ≡ Answer.Refused x → (a .result .registers ≡ r) × (a .ram ≡ ram)
+    by Passed e = refused (partOf part) n r ram bytes x e
+    by (Refused y) e = (refl, refl)
+
 -- a refused transfer gives C back the registers byte for byte, and the RAM
-pub refused-transfer : (z o : ℕ) (registers ram bytes answer : List ℕ) (x : Refusal) → length registers ≡ 18 → Bytes registers → length answer ≡ 6
-    → transferCall pcf8532 (chipsOf z o) (bothOf registers) ram bytes .result .answer ≡ Answer.Refused x
-    → let t = transferC z o registers ram bytes answer in (t .registers ≡ registers) × (t .buffer ≡ ram)
+pub refused-transfer : (part z o : ℕ) (registers ram bytes answer : List ℕ) (x : Refusal) → length registers ≡ 18 → Bytes registers → length answer ≡ 6
+    → transferPart part (chipsOf z o) (bothOf registers) ram bytes .result .answer ≡ Answer.Refused x
+    → let t = transferC part z o registers ram bytes answer in (t .registers ≡ registers) × (t .buffer ≡ ram)
 unfolding transferC
-refused-transfer z o registers ram bytes answer x e w six h =
-    let t = refused pcf8532 (chipsOf z o) (bothOf registers) ram bytes x h in
+refused-transfer part z o registers ram bytes answer x e w six h =
+    let t = refused-part part (chipsOf z o) (bothOf registers) ram bytes x h in
     rw (eq-eqb (length registers) 18 e, eq-eqb (length answer) 6 six) (ap bothBytes (t .0) ∙ both-back registers e w, t .1)
 
 -- and one of the plain account gives back the chips
-pub refused-plain : (chips bytes answer : List ℕ) (x : Refusal) → length chips % 171 ≡ 0 → length answer ≡ 6 → lentCall chips bytes .answer ≡ PlainAnswer.Refused x
-    → plainC chips bytes answer .buffer ≡ chips
+pub refused-plain : (part : ℕ) (chips bytes answer : List ℕ) (x : Refusal) → length chips % 171 ≡ 0 → length answer ≡ 6 → lentCall part chips bytes .answer ≡ PlainAnswer.Refused x
+    → plainC part chips bytes answer .buffer ≡ chips
 unfolding plainC lentCall
-refused-plain chips bytes answer x e six h = rw (eq-eqb (length chips % 171) 0 e, eq-eqb (length answer) 6 six, h) refl
+refused-plain part chips bytes answer x e six h = rw (eq-eqb (length chips % 171) 0 e, eq-eqb (length answer) 6 six, h) refl

@@ -6,10 +6,10 @@ use lib.Dec.{eqb}
 use lib.ListN.{length, getD}
 use Rattle.sheet.specs.declared.Chips.{Chips}
 use Rattle.sheet.specs.Refusals.{numbers, plainNumbers, pictureNumbers, rescuedNumbers, checkNumbers}
-use Rattle.sheet.specs.Parts.{pcf8532}
+use Rattle.sheet.specs.Parts.{partOf}
 use Rattle.sheet.specs.Pictures.{Seen}
-use Rattle.sheet.specs.Long.{powerOnCall, transferCall, pictureCall}
-use Rattle.sheet.specs.Plain.{chipPowerOn, chipPictureCall}
+use Rattle.sheet.specs.Long.{powerOnPart, transferPart, picturePart}
+use Rattle.sheet.specs.Plain.{chipPowerOnPart, chipPicturePart}
 use Rattle.sheet.specs.Rescue.{rescueCall}
 use Rattle.buslog.specs.declared.Replayed.{Replayed}
 use Rattle.lent.specs.Lent.{lentCall}
@@ -31,16 +31,16 @@ abbrev pub sized : List ℕ → List ℕ → List ℕ → Called → Called
 sized registers buffer answer c =
     cond (eqb (length registers) 18 && eqb (length answer) 6) c (record { number = 255; registers = registers; buffer = buffer; answer = answer })
 
-unfoldable pub powerOnC : ℕ → ℕ → List ℕ → List ℕ → List ℕ → Called
-powerOnC z o ram registers answer =
-    let p = powerOnCall pcf8532 (chipsOf z o) ram in
+unfoldable pub powerOnC : ℕ → ℕ → ℕ → List ℕ → List ℕ → List ℕ → Called
+powerOnC part z o ram registers answer =
+    let p = powerOnPart part (chipsOf z o) ram in
     let k = checkNumbers (p .check) in
     sized registers ram answer (record { number = getD k 0 0; registers = bothBytes (p .registers); buffer = ram; answer = k })
 
-unfoldable pub transferC : ℕ → ℕ → List ℕ → List ℕ → List ℕ → List ℕ → Called
-transferC z o registers ram bytes answer =
-    let t = transferCall pcf8532 (chipsOf z o) (bothOf registers) ram bytes in
-    let k = numbers pcf8532 (t .result .answer) in
+unfoldable pub transferC : ℕ → ℕ → ℕ → List ℕ → List ℕ → List ℕ → List ℕ → Called
+transferC part z o registers ram bytes answer =
+    let t = transferPart part (chipsOf z o) (bothOf registers) ram bytes in
+    let k = numbers (partOf part) (t .result .answer) in
     sized registers ram answer (record { number = getD k 0 0; registers = bothBytes (t .result .registers); buffer = t .ram; answer = k })
 
 -- ---- calls that lend one buffer to write, a picture or chips
@@ -61,25 +61,25 @@ seenC whole s out answer =
     filled whole out answer (record { number = getD k 0 0; buffer = s .out; answer = k })
 
 -- of a group, and of one chip
-unfoldable pub pictureC : ℕ → ℕ → List ℕ → List ℕ → ℕ → ℕ → List ℕ → List ℕ → Filled
-pictureC z o registers ram group phase out answer =
-    seenC (eqb (length registers) 18) (pictureCall pcf8532 (chipsOf z o) (bothOf registers) ram group phase out) out answer
+unfoldable pub pictureC : ℕ → ℕ → ℕ → List ℕ → List ℕ → ℕ → ℕ → List ℕ → List ℕ → Filled
+pictureC part z o registers ram group phase out answer =
+    seenC (eqb (length registers) 18) (picturePart part (chipsOf z o) (bothOf registers) ram group phase out) out answer
 
-unfoldable pub chipPictureC : List ℕ → ℕ → List ℕ → List ℕ → Filled
-chipPictureC chip phase out answer = seenC (eqb (length chip) 171) (chipPictureCall pcf8532 (chipIn chip) phase out) out answer
+unfoldable pub chipPictureC : ℕ → List ℕ → ℕ → List ℕ → List ℕ → Filled
+chipPictureC part chip phase out answer = seenC (eqb (length chip) 171) (chipPicturePart part (chipIn chip) phase out) out answer
 
 -- one chip, 171 bytes: taken or refused, only the registers are new
-unfoldable pub chipPowerOnC : List ℕ → List ℕ → Filled
-chipPowerOnC chip answer =
-    let p = chipPowerOn pcf8532 (chipIn chip) in
+unfoldable pub chipPowerOnC : ℕ → List ℕ → List ℕ → Filled
+chipPowerOnC part chip answer =
+    let p = chipPowerOnPart part (chipIn chip) in
     let k = checkNumbers (p .check) in
     filled (eqb (length chip) 171) chip answer (record { number = getD k 0 0; buffer = chipBytes (p .chip); answer = k })
 
 -- a list of chips, 171 bytes each
-unfoldable pub plainC : List ℕ → List ℕ → List ℕ → Filled
-plainC chips bytes answer =
-    let s = lentCall chips bytes in
-    let k = plainNumbers pcf8532 (s .answer) in
+unfoldable pub plainC : ℕ → List ℕ → List ℕ → List ℕ → Filled
+plainC part chips bytes answer =
+    let s = lentCall part chips bytes in
+    let k = plainNumbers (partOf part) (s .answer) in
     filled (eqb (length chips % 171) 0) chips answer (record { number = getD k 0 0; buffer = s .chips; answer = k })
 
 -- what is whole of a torn log

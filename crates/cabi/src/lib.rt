@@ -1,4 +1,4 @@
-// The model for C and Rust: numbers and lent buffers only. Registers are 18 bytes, group 0's nine and then group 1's, in the order E B M P A I O AB BF;
+// The model for C and Rust: numbers and lent buffers only. A part is its number, 0 the PCF8532 and 1 the PCA85133. Registers are 18 bytes, group 0's nine and then group 1's, in the order E B M P A I O AB BF;
 // a chip is 171 bytes (`wire`); an answer is six numbers: answer, place, acknowledged, stored, discarded, and who acknowledged the last data byte. A buffer of another size is answered 255 and nothing is written.
 use buslog::Replayed;
 use sheet::Chips;
@@ -6,23 +6,24 @@ ghost use mathlib.Core.Path.{_≡_};
 ghost use Rattle.buslog.specs.Replays.{replayCall};
 ghost use Rattle.cabi.specs.Calls.{powerOnC, transferC, pictureC, chipPowerOnC, chipPictureC, plainC, rescueC, replayNumber};
 
-// Power-on of the long account, taken or refused by 3, 4, 5.
+// Power-on of the long account, taken or refused by 16, 3, 4, 5.
 #[no_mangle]
 pub extern "C" fn humtrellis_power_on(
+    part: u8,
     chips0: u8,
     chips1: u8,
     ram: &[u8],
     registers: &mut [u8],
     answer: &mut [usize],
 ) -> u8
-    ensures { λ r. ⌜ powerOnC chips0 chips1 (now (ram .entry)) (now (registers .entry)) (now (answer .entry)) ≡ record { number = r; registers = now (registers .exit); buffer = now (ram .entry); answer = now (answer .exit) } ⌝ }
+    ensures { λ r. ⌜ powerOnC part chips0 chips1 (now (ram .entry)) (now (registers .entry)) (now (answer .entry)) ≡ record { number = r; registers = now (registers .exit); buffer = now (ram .entry); answer = now (answer .exit) } ⌝ }
 {
     if (registers.len() == 18) & (answer.len() == 6) {
         let chips = Chips {
             zero: chips0,
             one: chips1,
         };
-        let done = long::power_on(chips, ram);
+        let done = long::power_on(part, chips, ram);
         let after = done.registers;
         let check = done.check;
         wire::put_both(after, registers);
@@ -32,9 +33,10 @@ pub extern "C" fn humtrellis_power_on(
     }
 }
 
-// A transfer of the long account, taken or refused by 3, 6, 4, 5, 1, 2, then 7 and 17.
+// A transfer of the long account, taken or refused by 16, 3, 6, 4, 5, 1, 2, then 7 and 17.
 #[no_mangle]
 pub extern "C" fn humtrellis_transfer(
+    part: u8,
     chips0: u8,
     chips1: u8,
     registers: &mut [u8],
@@ -42,7 +44,7 @@ pub extern "C" fn humtrellis_transfer(
     bytes: &[u8],
     answer: &mut [usize],
 ) -> u8
-    ensures { λ r. ⌜ transferC chips0 chips1 (now (registers .entry)) (now (ram .entry)) (now (bytes .entry)) (now (answer .entry)) ≡ record { number = r; registers = now (registers .exit); buffer = now (ram .exit); answer = now (answer .exit) } ⌝ }
+    ensures { λ r. ⌜ transferC part chips0 chips1 (now (registers .entry)) (now (ram .entry)) (now (bytes .entry)) (now (answer .entry)) ≡ record { number = r; registers = now (registers .exit); buffer = now (ram .exit); answer = now (answer .exit) } ⌝ }
 {
     if (registers.len() == 18) & (answer.len() == 6) {
         let chips = Chips {
@@ -50,19 +52,20 @@ pub extern "C" fn humtrellis_transfer(
             one: chips1,
         };
         let before = wire::both_of(registers);
-        let done = long::transfer(chips, before, ram, bytes);
+        let done = long::transfer(part, chips, before, ram, bytes);
         let after = done.registers;
         let said = done.answer;
         wire::put_both(after, registers);
-        wire::put_numbers(answers::numbers(said), answer)
+        wire::put_numbers(answers::numbers(part, said), answer)
     } else {
         255
     }
 }
 
-// The picture of a group at a blink phase, or a refusal by 3, 6, 4, 5, 8, 9.
+// The picture of a group at a blink phase, or a refusal by 16, 3, 6, 4, 5, 8, 9.
 #[no_mangle]
 pub extern "C" fn humtrellis_picture(
+    part: u8,
     chips0: u8,
     chips1: u8,
     registers: &[u8],
@@ -72,7 +75,7 @@ pub extern "C" fn humtrellis_picture(
     out: &mut [u8],
     answer: &mut [usize],
 ) -> u8
-    ensures { λ r. ⌜ pictureC chips0 chips1 (now (registers .entry)) (now (ram .entry)) group phase (now (out .entry)) (now (answer .entry)) ≡ record { number = r; buffer = now (out .exit); answer = now (answer .exit) } ⌝ }
+    ensures { λ r. ⌜ pictureC part chips0 chips1 (now (registers .entry)) (now (ram .entry)) group phase (now (out .entry)) (now (answer .entry)) ≡ record { number = r; buffer = now (out .exit); answer = now (answer .exit) } ⌝ }
 {
     if (registers.len() == 18) & (answer.len() == 6) {
         let chips = Chips {
@@ -80,21 +83,21 @@ pub extern "C" fn humtrellis_picture(
             one: chips1,
         };
         let before = wire::both_of(registers);
-        let shown = long::picture(chips, before, ram, group, phase, out);
+        let shown = long::picture(part, chips, before, ram, group, phase, out);
         wire::put_numbers(answers::picture_numbers(shown), answer)
     } else {
         255
     }
 }
 
-// Power-on of one chip, taken or refused by 11: only its registers are new.
+// Power-on of one chip, taken or refused by 16, 11: only its registers are new.
 #[no_mangle]
-pub extern "C" fn humtrellis_chip_power_on(chip: &mut [u8], answer: &mut [usize]) -> u8
-    ensures { λ r. ⌜ chipPowerOnC (now (chip .entry)) (now (answer .entry)) ≡ record { number = r; buffer = now (chip .exit); answer = now (answer .exit) } ⌝ }
+pub extern "C" fn humtrellis_chip_power_on(part: u8, chip: &mut [u8], answer: &mut [usize]) -> u8
+    ensures { λ r. ⌜ chipPowerOnC part (now (chip .entry)) (now (answer .entry)) ≡ record { number = r; buffer = now (chip .exit); answer = now (answer .exit) } ⌝ }
 {
     if (chip.len() == 171) & (answer.len() == 6) {
         let before = wire::chip_of(chip);
-        let done = chip::power_on(before);
+        let done = chip::power_on(part, before);
         let after = done.chip;
         let check = done.check;
         wire::put_chip(after, chip);
@@ -104,37 +107,39 @@ pub extern "C" fn humtrellis_chip_power_on(chip: &mut [u8], answer: &mut [usize]
     }
 }
 
-// The picture of one chip, or a refusal by 11, 8, 9.
+// The picture of one chip, or a refusal by 16, 11, 8, 9.
 #[no_mangle]
 pub extern "C" fn humtrellis_chip_picture(
+    part: u8,
     chip: &[u8],
     phase: u8,
     out: &mut [u8],
     answer: &mut [usize],
 ) -> u8
-    ensures { λ r. ⌜ chipPictureC (now (chip .entry)) phase (now (out .entry)) (now (answer .entry)) ≡ record { number = r; buffer = now (out .exit); answer = now (answer .exit) } ⌝ }
+    ensures { λ r. ⌜ chipPictureC part (now (chip .entry)) phase (now (out .entry)) (now (answer .entry)) ≡ record { number = r; buffer = now (out .exit); answer = now (answer .exit) } ⌝ }
 {
     if (chip.len() == 171) & (answer.len() == 6) {
         let before = wire::chip_of(chip);
-        let shown = chip::picture(before, phase, out);
+        let shown = chip::picture(part, before, phase, out);
         wire::put_numbers(answers::picture_numbers(shown), answer)
     } else {
         255
     }
 }
 
-// A transfer to a list of chips, taken or refused by 10, 11, 1, 2, then 7 and 17.
+// A transfer to a list of chips, taken or refused by 16, 10, 11, 1, 2, then 7 and 17.
 #[no_mangle]
 pub extern "C" fn humtrellis_plain_transfer(
+    part: u8,
     chips: &mut [u8],
     bytes: &[u8],
     answer: &mut [usize],
 ) -> u8
-    ensures { λ r. ⌜ plainC (now (chips .entry)) (now (bytes .entry)) (now (answer .entry)) ≡ record { number = r; buffer = now (chips .exit); answer = now (answer .exit) } ⌝ }
+    ensures { λ r. ⌜ plainC part (now (chips .entry)) (now (bytes .entry)) (now (answer .entry)) ≡ record { number = r; buffer = now (chips .exit); answer = now (answer .exit) } ⌝ }
 {
     if (chips.len() % 171 == 0) & (answer.len() == 6) {
-        let said = lent::transfer(chips, bytes);
-        wire::put_numbers(answers::plain_numbers(said), answer)
+        let said = lent::transfer(part, chips, bytes);
+        wire::put_numbers(answers::plain_numbers(part, said), answer)
     } else {
         255
     }

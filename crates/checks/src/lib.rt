@@ -6,8 +6,8 @@ ghost use mathlib.Core.Path.{_≡_};
 ghost use Prim.Native.Nat.{max};
 ghost use lib.ListN.{getD};
 ghost use Rattle.checks.specs.Highest.{highestOf};
-ghost use Rattle.sheet.specs.Parts.{pcf8532};
-ghost use Rattle.sheet.specs.Checks.{unless, overIn, checkChips, checkLength, passed};
+ghost use Rattle.sheet.specs.Parts.{partOf};
+ghost use Rattle.sheet.specs.Checks.{unless, overIn, checkPart, checkChips, checkLength, passed};
 
 // Refused unless a test holds.
 pub fn unless(holds: bool, refusal: Refusal) -> Check
@@ -37,11 +37,22 @@ pub fn byte_at(bytes: &[u8], i: usize) -> u8
     if i < bytes.len() { bytes[i] } else { 0 }
 }
 
-// The chip counts: 3.
-pub fn check_chips(chips: Chips) -> Check
-    ensures { λ r. ⌜ r ≡ checkChips pcf8532 chips ⌝ }
+// The part: 16.
+pub fn check_part(part: u8) -> Check
+    ensures { λ r. ⌜ r ≡ checkPart part ⌝ }
 {
-    unless((chips.zero <= 4) & (chips.one <= 4), Refusal::ChipCount)
+    unless(part <= 1, Refusal::UnknownPart)
+}
+
+// The chip counts: 3.
+pub fn check_chips(part: u8, chips: Chips) -> Check
+    ensures { λ r. ⌜ r ≡ checkChips (partOf part) chips ⌝ }
+{
+    let limit = arithmetic::limit(part);
+    unless(
+        (chips.zero as usize <= limit) & (chips.one as usize <= limit),
+        Refusal::ChipCount,
+    )
 }
 
 // The higher of two columns.

@@ -10,92 +10,94 @@ use sheet::Registers;
 ghost use mathlib.Core.Path.{_≡_};
 ghost use mathlib.Core.Bool.{true};
 ghost use Prim.Native.Nat.{_+_, _*_, _<_};
+ghost use lib.ListN.{length, take};
 ghost use Rattle.sheet.specs.Refusals.{pictureNumbers, checkNumbers};
-ghost use Rattle.sheet.specs.Parts.{commandOf, pcf8532};
+ghost use Rattle.sheet.specs.Parts.{partOf};
 ghost use Rattle.sheet.specs.Registers.{inRange};
 ghost use Rattle.sheet.specs.Commands.{obeyed};
-ghost use Rattle.sheet.specs.Checks.{overIn, passed};
-ghost use Rattle.sheet.specs.Plain.{withRegisters, chipByteOf, chipByte, acknowledgesOf, acknowledgesByte, chipStepped, chipAnswers, hears, chipFits, chipPowerOn, checkChipPicture, chipPictureCall};
+ghost use Rattle.sheet.specs.Checks.{orElse, checkPart, overIn, passed};
+ghost use Rattle.sheet.specs.Pictures.{pictureOf, litIn};
+ghost use Rattle.sheet.specs.Plain.{withRegisters, chipByteOf, chipByte, acknowledgesOf, acknowledgesByte, chipStepped, chipAnswers, hears, chipFits, chipPowerOn, checkChipPicture, chipPowerOnPart, chipPicturePart};
 
 // The chip's registers after a command byte: it obeys every command, selected or not.
-fn obey(chip: Chip, byte: u8) -> Registers
-    ensures { λ r. ⌜ r ≡ obeyed (chip .registers) (commandOf byte) ⌝ }
+fn obey(part: u8, chip: Chip, byte: u8) -> Registers
+    ensures { λ r. ⌜ r ≡ obeyed (chip .registers) ((partOf part .command) byte) ⌝ }
 {
-    command::obey(chip.registers, byte)
+    command::obey(part, chip.registers, byte)
 }
 
 // The chip after a command byte.
-fn take_command(mut chip: Chip, byte: u8) -> Chip
-    ensures { λ r. ⌜ r ≡ withRegisters (obeyed (chip .registers) (commandOf byte)) chip ⌝ }
+fn take_command(part: u8, mut chip: Chip, byte: u8) -> Chip
+    ensures { λ r. ⌜ r ≡ withRegisters (obeyed (chip .registers) ((partOf part .command) byte)) chip ⌝ }
 {
-    let registers = obey(chip, byte);
+    let registers = obey(part, chip, byte);
     chip.registers = registers;
     chip
 }
 
 // The chip, its registers in range, after a byte of a kind.
-fn take_byte(chip: Chip, kind: Kind, byte: u8) -> Chip
-    requires { ⌜ inRange pcf8532 (chip .registers) ≡ true ⌝ }
-    ensures { λ r. ⌜ r ≡ chipByteOf pcf8532 kind byte chip ⌝ }
+fn take_byte(part: u8, chip: Chip, kind: Kind, byte: u8) -> Chip
+    requires { ⌜ inRange (partOf part) (chip .registers) ≡ true ⌝ }
+    ensures { λ r. ⌜ r ≡ chipByteOf (partOf part) kind byte chip ⌝ }
 {
     match kind {
-        Kind::Command => take_command(chip, byte),
-        Kind::Data => columns::take_data(chip, byte),
+        Kind::Command => take_command(part, chip, byte),
+        Kind::Data => columns::take_data(part, chip, byte),
     }
 }
 
 // The chip, its registers in range, after a byte, by what the byte is.
-fn follow(chip: Chip, expect: Expect, byte: u8) -> Chip
-    requires { ⌜ inRange pcf8532 (chip .registers) ≡ true ⌝ }
-    ensures { λ r. ⌜ r ≡ chipByte pcf8532 expect byte chip ⌝ }
+fn follow(part: u8, chip: Chip, expect: Expect, byte: u8) -> Chip
+    requires { ⌜ inRange (partOf part) (chip .registers) ≡ true ⌝ }
+    ensures { λ r. ⌜ r ≡ chipByte (partOf part) expect byte chip ⌝ }
 {
     match expect {
         Expect::Control => chip,
-        Expect::One(kind) => take_byte(chip, kind, byte),
-        Expect::All(kind) => take_byte(chip, kind, byte),
+        Expect::One(kind) => take_byte(part, chip, kind, byte),
+        Expect::All(kind) => take_byte(part, chip, kind, byte),
     }
 }
 
 // The chip after a byte. With a register out of range it stays as it is.
-pub fn step(chip: Chip, expect: Expect, byte: u8) -> Chip
-    ensures { λ r. ⌜ r ≡ chipStepped pcf8532 expect byte chip ⌝ }
+pub fn step(part: u8, chip: Chip, expect: Expect, byte: u8) -> Chip
+    ensures { λ r. ⌜ r ≡ chipStepped (partOf part) expect byte chip ⌝ }
 {
-    if command::in_range(chip.registers) {
-        follow(chip, expect, byte)
+    if command::in_range(part, chip.registers) {
+        follow(part, chip, expect, byte)
     } else {
         chip
     }
 }
 
 // Whether the chip, its registers in range, acknowledges a byte of a kind.
-fn answers_byte(chip: Chip, kind: Kind, byte: u8) -> bool
-    requires { ⌜ inRange pcf8532 (chip .registers) ≡ true ⌝ }
-    ensures { λ r. ⌜ r ≡ acknowledgesOf pcf8532 kind byte chip ⌝ }
+fn answers_byte(part: u8, chip: Chip, kind: Kind, byte: u8) -> bool
+    requires { ⌜ inRange (partOf part) (chip .registers) ≡ true ⌝ }
+    ensures { λ r. ⌜ r ≡ acknowledgesOf (partOf part) kind byte chip ⌝ }
 {
     match kind {
         Kind::Command => true,
-        Kind::Data => columns::acknowledges_data(chip, byte),
+        Kind::Data => columns::acknowledges_data(part, chip, byte),
     }
 }
 
 // Whether the chip, its registers in range, acknowledges a byte.
-fn answers(chip: Chip, expect: Expect, byte: u8) -> bool
-    requires { ⌜ inRange pcf8532 (chip .registers) ≡ true ⌝ }
-    ensures { λ r. ⌜ r ≡ acknowledgesByte pcf8532 expect byte chip ⌝ }
+fn answers(part: u8, chip: Chip, expect: Expect, byte: u8) -> bool
+    requires { ⌜ inRange (partOf part) (chip .registers) ≡ true ⌝ }
+    ensures { λ r. ⌜ r ≡ acknowledgesByte (partOf part) expect byte chip ⌝ }
 {
     match expect {
         Expect::Control => true,
-        Expect::One(kind) => answers_byte(chip, kind, byte),
-        Expect::All(kind) => answers_byte(chip, kind, byte),
+        Expect::One(kind) => answers_byte(part, chip, kind, byte),
+        Expect::All(kind) => answers_byte(part, chip, kind, byte),
     }
 }
 
 // Whether the chip acknowledges a byte. With a register out of range it acknowledges none.
-pub fn acknowledges(chip: Chip, expect: Expect, byte: u8) -> bool
-    ensures { λ r. ⌜ r ≡ chipAnswers pcf8532 expect byte chip ⌝ }
+pub fn acknowledges(part: u8, chip: Chip, expect: Expect, byte: u8) -> bool
+    ensures { λ r. ⌜ r ≡ chipAnswers (partOf part) expect byte chip ⌝ }
 {
-    if command::in_range(chip.registers) {
-        answers(chip, expect, byte)
+    if command::in_range(part, chip.registers) {
+        answers(part, chip, expect, byte)
     } else {
         false
     }
@@ -108,43 +110,56 @@ pub fn hears(chip: Chip, address: u8) -> bool
     address as usize == 112 + 2 * (chip.sa0 as usize)
 }
 
-// Whether no column is over 15.
-fn columns_fit(columns: [u8; 160]) -> bool
-    ensures { λ r. ⌜ r ≡ passed (overIn 0 columns) ⌝ }
+// Whether no column of the part is over 15. What stands behind them is not looked at.
+fn columns_fit(part: u8, columns: [u8; 160]) -> bool
+    ensures { λ r. ⌜ r ≡ passed (overIn 0 (take (partOf part .columns) columns)) ⌝ }
 {
-    checks::passes(checks::first_over(&columns))
+    let own = arithmetic::columns(part);
+    checks::passes(checks::first_over(&columns[..own]))
 }
 
 // Whether every field and column of the chip is in range.
-pub fn fits(chip: Chip) -> bool
-    ensures { λ r. ⌜ r ≡ chipFits pcf8532 chip ⌝ }
+pub fn fits(part: u8, chip: Chip) -> bool
+    ensures { λ r. ⌜ r ≡ chipFits (partOf part) chip ⌝ }
 {
     let columns = chip.columns;
+    let below = (chip.subaddress as usize) < arithmetic::limit(part);
     (chip.sa0 < 2)
-        & ((chip.subaddress < 4) & (command::in_range(chip.registers) & columns_fit(columns)))
+        & (below & (command::in_range(part, chip.registers) & columns_fit(part, columns)))
 }
 
-// Power-on, taken or refused by 11: the registers become the power-on ones and the rest stays.
-pub fn power_on(mut chip: Chip) -> ChipPowerOn
-    ensures { λ r. ⌜ r ≡ chipPowerOn pcf8532 chip ⌝ }
-    ensures { λ r. ⌜ checkNumbers (r .check) ≡ checkNumbers (chipPowerOn pcf8532 chip .check) ⌝ }
+// Whether a power-on is refused: 16, 11.
+fn check_power_on(part: u8, chip: Chip) -> Check
+    ensures { λ r. ⌜ r ≡ orElse (checkPart part) (chipPowerOn (partOf part) chip .check) ⌝ }
 {
-    let columns = chip.columns;
-    let fits = (chip.sa0 < 2) & ((chip.subaddress < 4) & columns_fit(columns));
-    chip.registers = command::power_on();
-    ChipPowerOn {
-        check: checks::unless(fits, Refusal::ChipField(0)),
-        chip,
+    match checks::check_part(part) {
+        Check::Refused(refusal) => Check::Refused(refusal),
+        Check::Passed => {
+            let columns = chip.columns;
+            let below = (chip.subaddress as usize) < arithmetic::limit(part);
+            let fits = (chip.sa0 < 2) & (below & columns_fit(part, columns));
+            checks::unless(fits, Refusal::ChipField(0))
+        }
     }
 }
 
-// Whether a picture of the chip into a buffer of this size is refused.
-fn check_picture(chip: Chip, phase: u8, size: usize) -> Check
-    ensures { λ r. ⌜ r ≡ checkChipPicture pcf8532 chip phase size ⌝ }
+// Power-on, taken or refused: the registers become the power-on ones and the rest stays.
+pub fn power_on(part: u8, mut chip: Chip) -> ChipPowerOn
+    ensures { λ r. ⌜ r ≡ chipPowerOnPart part chip ⌝ }
+    ensures { λ r. ⌜ checkNumbers (r .check) ≡ checkNumbers (chipPowerOnPart part chip .check) ⌝ }
 {
-    if fits(chip) {
+    let check = check_power_on(part, chip);
+    chip.registers = command::power_on();
+    ChipPowerOn { check, chip }
+}
+
+// Whether a picture of the chip into a buffer of this size is refused, the part being known.
+fn check_shown(part: u8, chip: Chip, phase: u8, size: usize) -> Check
+    ensures { λ r. ⌜ r ≡ checkChipPicture (partOf part) chip phase size ⌝ }
+{
+    if fits(part, chip) {
         if phase < 2 {
-            checks::unless(size == 160, Refusal::OutputLength)
+            checks::unless(size == arithmetic::columns(part), Refusal::OutputLength)
         } else {
             Check::Refused(Refusal::GroupOrPhase)
         }
@@ -153,16 +168,36 @@ fn check_picture(chip: Chip, phase: u8, size: usize) -> Check
     }
 }
 
-// The picture of the chip alone and its lit elements, or a refusal by 11, 8, 9.
-pub fn picture(chip: Chip, phase: u8, out: &mut [u8]) -> Pictured
-    ensures { λ r. ⌜ record { result = r; out = now (out .exit) } ≡ chipPictureCall pcf8532 chip phase (now (out .entry)) ⌝ }
-    ensures { λ r. ⌜ pictureNumbers r ≡ pictureNumbers (chipPictureCall pcf8532 chip phase (now (out .entry)) .result) ⌝ }
+// Whether a picture is refused: 16, 11, 8, 9.
+fn check_picture(part: u8, chip: Chip, phase: u8, size: usize) -> Check
+    ensures { λ r. ⌜ r ≡ orElse (checkPart part) (checkChipPicture (partOf part) chip phase size) ⌝ }
 {
-    match check_picture(chip, phase, out.len()) {
+    match checks::check_part(part) {
+        Check::Refused(refusal) => Check::Refused(refusal),
+        Check::Passed => check_shown(part, chip, phase, size),
+    }
+}
+
+// What the part's columns show. What stands behind them is not looked at.
+fn show_own(part: u8, columns: [u8; 160], registers: Registers, phase: u8, out: &mut [u8]) -> usize
+    requires { ⌜ (length (now out) ≡ partOf part .columns) × (registers .m < 4) × (registers .o < 2) ⌝ }
+    ensures { λ _. ⌜ now (out .exit) ≡ pictureOf registers phase (take (partOf part .columns) columns) ⌝ }
+    ensures { λ r. ⌜ r ≡ litIn (pictureOf registers phase (take (partOf part .columns) columns)) ⌝ }
+{
+    let own = arithmetic::columns(part);
+    picture::show(&columns[..own], registers, phase, out)
+}
+
+// The picture of the chip alone, of the part's columns, and its lit elements, or a refusal.
+pub fn picture(part: u8, chip: Chip, phase: u8, out: &mut [u8]) -> Pictured
+    ensures { λ r. ⌜ record { result = r; out = now (out .exit) } ≡ chipPicturePart part chip phase (now (out .entry)) ⌝ }
+    ensures { λ r. ⌜ pictureNumbers r ≡ pictureNumbers (chipPicturePart part chip phase (now (out .entry)) .result) ⌝ }
+{
+    match check_picture(part, chip, phase, out.len()) {
         Check::Refused(refusal) => Pictured::Refused(refusal),
         Check::Passed => {
             let columns = chip.columns;
-            Pictured::Lit(picture::show(&columns, chip.registers, phase, out))
+            Pictured::Lit(show_own(part, columns, chip.registers, phase, out))
         }
     }
 }

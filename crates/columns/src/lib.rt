@@ -5,7 +5,7 @@ ghost use mathlib.Core.Path.{_≡_};
 ghost use mathlib.Core.Bool.{cond, true};
 ghost use Prim.Native.Nat.{_+_, _*_, _≤_, _<_};
 ghost use lib.Dec.{ltb};
-ghost use Rattle.sheet.specs.Parts.{pcf8532};
+ghost use Rattle.sheet.specs.Parts.{partOf};
 ghost use Rattle.sheet.specs.Registers.{inRange, backplanes};
 ghost use Rattle.sheet.specs.Plain.{putRows, afterColumn, chipData, acknowledgesData};
 ghost use Rattle.sheet.specs.Places.{advanced};
@@ -36,14 +36,14 @@ fn put_rows(m: usize, b: usize, k: usize, byte: u8, column: u8) -> u8
     put
 }
 
-// A column on: P rises by 1; at 160 it becomes 0 and A rises by 1, stopping at 4.
-fn advance(mut registers: Registers) -> Registers
-    requires { ⌜ (registers .p < 160) × (registers .a ≤ 4) ⌝ }
-    ensures { λ r. ⌜ r ≡ advanced pcf8532 registers ⌝ }
+// A column on: P rises by 1; at the part's columns it becomes 0 and A rises by 1, stopping at the limit.
+fn advance(part: u8, mut registers: Registers) -> Registers
+    requires { ⌜ (registers .p < partOf part .columns) × (registers .a ≤ partOf part .limit) ⌝ }
+    ensures { λ r. ⌜ r ≡ advanced (partOf part) registers ⌝ }
 {
-    if registers.p + 1 == 160 {
+    if registers.p + 1 == arithmetic::columns(part) {
         registers.p = 0;
-        registers.a = arithmetic::least(4, registers.a + 1);
+        registers.a = arithmetic::least(arithmetic::limit(part), registers.a + 1);
         registers
     } else {
         registers.p = registers.p + 1;
@@ -52,9 +52,9 @@ fn advance(mut registers: Registers) -> Registers
 }
 
 // The chip's columns after column j of a byte: stored if A is the chip's subaddress.
-fn stored(chip: Chip, byte: u8, j: usize) -> [u8; 160]
-    requires { ⌜ (inRange pcf8532 (chip .registers) ≡ true) × (backplanes (chip .registers) * j < 8) ⌝ }
-    ensures { λ r. ⌜ r ≡ afterColumn pcf8532 byte j chip .columns ⌝ }
+fn stored(part: u8, chip: Chip, byte: u8, j: usize) -> [u8; 160]
+    requires { ⌜ (inRange (partOf part) (chip .registers) ≡ true) × (backplanes (chip .registers) * j < 8) ⌝ }
+    ensures { λ r. ⌜ r ≡ afterColumn (partOf part) byte j chip .columns ⌝ }
 {
     let registers = chip.registers;
     let mut columns = chip.columns;
@@ -70,29 +70,29 @@ fn stored(chip: Chip, byte: u8, j: usize) -> [u8; 160]
 }
 
 // The chip after column j of a byte: P and A move, stored or not.
-fn column(chip: Chip, byte: u8, j: usize) -> Chip
-    requires { ⌜ (inRange pcf8532 (chip .registers) ≡ true) × (backplanes (chip .registers) * j < 8) ⌝ }
-    ensures { λ r. ⌜ r ≡ afterColumn pcf8532 byte j chip ⌝ }
+fn column(part: u8, chip: Chip, byte: u8, j: usize) -> Chip
+    requires { ⌜ (inRange (partOf part) (chip .registers) ≡ true) × (backplanes (chip .registers) * j < 8) ⌝ }
+    ensures { λ r. ⌜ r ≡ afterColumn (partOf part) byte j chip ⌝ }
 {
-    let columns = stored(chip, byte, j);
+    let columns = stored(part, chip, byte, j);
     Chip {
         columns,
         sa0: chip.sa0,
         subaddress: chip.subaddress,
-        registers: advance(chip.registers),
+        registers: advance(part, chip.registers),
     }
 }
 
 // The chip after a data byte: all its columns, one after the other.
-pub fn take_data(chip: Chip, byte: u8) -> Chip
-    requires { ⌜ inRange pcf8532 (chip .registers) ≡ true ⌝ }
-    ensures { λ r. ⌜ r ≡ chipData pcf8532 byte chip ⌝ }
+pub fn take_data(part: u8, chip: Chip, byte: u8) -> Chip
+    requires { ⌜ inRange (partOf part) (chip .registers) ≡ true ⌝ }
+    ensures { λ r. ⌜ r ≡ chipData (partOf part) byte chip ⌝ }
 {
     let width = arithmetic::width(arithmetic::backplanes(chip.registers));
     let mut moved = chip;
     let mut j = 0;
     while j < width {
-        let next = column(moved, byte, j);
+        let next = column(part, moved, byte, j);
         moved = next;
         j += 1;
     }
@@ -100,12 +100,13 @@ pub fn take_data(chip: Chip, byte: u8) -> Chip
 }
 
 // Whether the chip acknowledges a data byte, whatever it holds: A is its subaddress at the byte's last column.
-pub fn acknowledges_data(chip: Chip, byte: u8) -> bool
-    requires { ⌜ inRange pcf8532 (chip .registers) ≡ true ⌝ }
-    ensures { λ r. ⌜ r ≡ acknowledgesData pcf8532 byte chip ⌝ }
+pub fn acknowledges_data(part: u8, chip: Chip, byte: u8) -> bool
+    requires { ⌜ inRange (partOf part) (chip .registers) ≡ true ⌝ }
+    ensures { λ r. ⌜ r ≡ acknowledgesData (partOf part) byte chip ⌝ }
 {
     let registers = chip.registers;
     let width = arithmetic::width(arithmetic::backplanes(registers));
-    let last = arithmetic::position(registers) + width - 1;
-    arithmetic::least(4, last / 160) == chip.subaddress as usize
+    let last = arithmetic::position(part, registers) + width - 1;
+    let a = arithmetic::least(arithmetic::limit(part), arithmetic::chip_of(part, last));
+    a == chip.subaddress as usize
 }

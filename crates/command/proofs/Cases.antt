@@ -9,26 +9,29 @@ use types.Run.{OneOf, miss}
 use denote.Enum.Declared.{tagOf}
 use Rattle.sheet.proofs.Command.{the-type}
 use Rattle.sheet.specs.declared.Command.{Command}
-use Rattle.sheet.specs.declared.Command.the-variants.{PointerHigh, PointerLow, ModeSet, DeviceSelect, FrequencyCtrl, BlinkSelect, BankSelect, Undefined}
-use Rattle.sheet.specs.Parts.{pcf8532Ranges, commandOf}
+use Rattle.sheet.specs.declared.Command.the-variants.{PointerHigh, PointerLow, Pointer, ModeSet, DeviceSelect, FrequencyCtrl, BlinkSelect, BankSelect, Undefined}
+use Rattle.sheet.specs.Parts.{partOf, pcf8532Ranges, pca85133Ranges}
 use Rattle.sheet.specs.Commands.{defined}
 use Rattle.laws.proofs.Ranges.{by-range}
+use Rattle.laws.proofs.Named.{of-both}
 
--- a command that is none of the first seven is undefined
-pub none-else : (c : Command) → OneOf (0 ∷ 1 ∷ 2 ∷ 3 ∷ 4 ∷ 5 ∷ 6 ∷ []) (tagOf the-type c) → true ≡ defined c
+-- a command that is none of the first eight is undefined
+pub none-else : (c : Command) → OneOf (0 ∷ 1 ∷ 2 ∷ 3 ∷ 4 ∷ 5 ∷ 6 ∷ 7 ∷ []) (tagOf the-type c) → true ≡ defined c
 none-else (PointerHigh n) h = refl
 none-else (PointerLow n) h = refl
+none-else (Pointer p) h = refl
 none-else (ModeSet s) h = refl
 none-else (DeviceSelect n) h = refl
 none-else FrequencyCtrl h = refl
 none-else (BlinkSelect ab bf) h = refl
 none-else (BankSelect i o) h = refl
-none-else Undefined h = absurd (miss (0 ∷ 1 ∷ 2 ∷ 3 ∷ 4 ∷ 5 ∷ 6 ∷ []) 7 tt h)
+none-else Undefined h = absurd (miss (0 ∷ 1 ∷ 2 ∷ 3 ∷ 4 ∷ 5 ∷ 6 ∷ 7 ∷ []) 8 tt h)
 
 -- the nibble of a pointer low
 abbrev lowOf : Command → ℕ
 lowOf (PointerHigh n) = 0
 lowOf (PointerLow n) = n
+lowOf (Pointer p) = 0
 lowOf (ModeSet s) = 0
 lowOf (DeviceSelect n) = 0
 lowOf FrequencyCtrl = 0
@@ -37,10 +40,13 @@ lowOf (BankSelect i o) = 0
 lowOf Undefined = 0
 
 -- a pointer low carries a nibble
-pub low-nibble : (x n : ℕ) → commandOf x ≡ PointerLow n → n < 16
-unfolding commandOf
-low-nibble x n e =
+pub low-nibble : (part x n : ℕ) → (partOf part .command) x ≡ PointerLow n → n < 16
+low-nibble part x n e =
     subst (λ (k : ℕ). k < 16) (ap lowOf e)
+    (of-both (λ K. lowOf ((K .command) x) < 16) part
     (by-range (λ c. lowOf c < 16) x pcf8532Ranges
     ((λ l m. omega arith), ((λ l m. omega arith), ((λ l m. omega arith), ((λ l m. omega arith), ((λ l m. omega arith), ((λ l m. omega arith), ((λ l m. omega arith), tt)))))))
     (omega arith))
+    (by-range (λ c. lowOf c < 16) x pca85133Ranges
+    ((λ l m. omega arith), ((λ l m. omega arith), ((λ l m. omega arith), ((λ l m. omega arith), ((λ l m. omega arith), tt)))))
+    (omega arith)))

@@ -52,9 +52,13 @@ abbrev pub told : List Range → ℕ → ℕ → Command
 told [] a n = Undefined
 told (t ∷ ts) a n = cond (within (t .first) (t .last) a) (t .is n) (told ts a n)
 
-pub as-first : (ts : List Range) (a b n : ℕ) → a ≤ n → n ≤ b → whole ts a b ≡ true → commandIn ts n ≡ told ts a n
+as-first : (ts : List Range) (a b n : ℕ) → a ≤ n → n ≤ b → whole ts a b ≡ true → commandIn ts n ≡ told ts a n
 unfolding commandIn
 as-first [] a b n l h w = refl
 as-first (t ∷ ts) a b n l h w =
     let v = both-true (uncut (t .first) (t .last) a b) (whole ts a b) w in
     rw (same (t .first) (t .last) a b n l h (v .0), as-first ts a b n l h (v .1))
+
+-- from a to b
+pub stretch : (ts : List Range) (a b n : ℕ) → a ≤ n → n ≤ b → whole ts a b ≡ true → told ts a n ≡ commandIn ts n
+stretch ts a b n l h w = sym (as-first ts a b n l h w)

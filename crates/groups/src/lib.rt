@@ -4,7 +4,7 @@ use sheet::Both;
 use sheet::Chips;
 use sheet::Registers;
 ghost use mathlib.Core.Path.{_≡_};
-ghost use Rattle.sheet.specs.Parts.{pcf8532};
+ghost use Rattle.sheet.specs.Parts.{partOf};
 ghost use Rattle.sheet.specs.Protocol.{heardBy, chipsIn};
 ghost use Rattle.sheet.specs.Long.{registersOf, replaced, startOf, endOf};
 
@@ -51,19 +51,19 @@ pub fn replaced(group: u8, after: Registers, registers: Both) -> Both
 }
 
 // Where a group's columns begin in the RAM.
-pub fn start_of(chips: Chips, group: u8) -> usize
-    ensures { λ r. ⌜ r ≡ startOf pcf8532 chips group ⌝ }
+pub fn start_of(part: u8, chips: Chips, group: u8) -> usize
+    ensures { λ r. ⌜ r ≡ startOf (partOf part) chips group ⌝ }
 {
     if group == 0 {
         0
     } else {
-        160 * (chips.zero as usize)
+        arithmetic::columns_in(part, chips.zero as u16)
     }
 }
 
 // And where they end.
-pub fn end_of(chips: Chips, group: u8) -> usize
-    ensures { λ r. ⌜ r ≡ endOf pcf8532 chips group ⌝ }
+pub fn end_of(part: u8, chips: Chips, group: u8) -> usize
+    ensures { λ r. ⌜ r ≡ endOf (partOf part) chips group ⌝ }
 {
-    start_of(chips, group) + 160 * (chips_in(group, chips) as usize)
+    start_of(part, chips, group) + arithmetic::columns_in(part, chips_in(group, chips) as u16)
 }

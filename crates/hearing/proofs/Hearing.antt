@@ -2,7 +2,7 @@
 -- Assumes nothing.
 use mathlib.Core.Path.{_≡_, refl, sym, ap, ap₂, _∙_, subst}
 use mathlib.Core.List.{List, [], _∷_, _++_}
-use Prim.Native.Nat.{ℕ, _+_, _-_, _≤_, _<_}
+use Prim.Native.Nat.{ℕ, _+_, _-_, _*_, _≤_, _<_}
 use native.Mathlib.Nat.{le-of-lt}
 use native.Mathlib.Omega.{arith}
 use lib.ListN.{length, getD, take, drop, drop-of-length-le, length-drop, length-take, take-append-drop}
@@ -12,27 +12,28 @@ use Rattle.sheet.specs.declared.Registers.{Registers}
 use Rattle.sheet.specs.declared.Kind.{Kind}
 use Rattle.sheet.specs.declared.Expect.{Expect}
 use Rattle.sheet.specs.declared.Expect.the-variants.{Control, One, All}
-use Rattle.sheet.specs.Parts.{pcf8532}
+use Rattle.sheet.specs.Parts.{Part}
 use Rattle.sheet.specs.Protocol.{next}
 use Rattle.sheet.specs.Long.{Group, begun, byte, heard}
 use Rattle.sheet.specs.Runs.{writtenBy}
+use Rattle.sheet.specs.Agree.{Keeps}
 use Rattle.laws.proofs.Runs.{run-at-once}
-use Rattle.laws.proofs.Kept.{Kept, heard-keeps, pcf8532-keeps}
+use Rattle.laws.proofs.Kept.{Kept, heard-keeps}
 use Rattle.laws.proofs.Sums.{Few, heard-few}
 use Rattle.laws.proofs.Joined.{nextAfter, heard-joined}
 use Rattle.protocol.specs.declared.Listener.{Listener}
 use Rattle.protocol.specs.Listeners.{groupOf, dataEnd, stepped, ran}
 
-pub record Hearing (ram₀ bytes : List ℕ) (r : Registers) (ram : List ℕ) (l : Listener) (i : ℕ) : Type 0 where
-  pub rest : heard pcf8532 (l .expect) (drop i bytes) (groupOf l ram) ≡ heard pcf8532 Control (drop 1 bytes) (begun r ram₀)
-  pub kept : Kept pcf8532 (length ram₀) (groupOf l ram)
+pub record Hearing (K : Part) (ram₀ bytes : List ℕ) (r : Registers) (ram : List ℕ) (l : Listener) (i : ℕ) : Type 0 where
+  pub rest : heard K (l .expect) (drop i bytes) (groupOf l ram) ≡ heard K Control (drop 1 bytes) (begun r ram₀)
+  pub kept : Kept K (length ram₀) (groupOf l ram)
   pub few : Few i (l .counts)
   pub most : i ≤ length bytes
 
 -- past the last byte nothing is heard
-pub at-end : (e : Expect) (bytes : List ℕ) (n : ℕ) → length bytes ≤ n → (g : Group) → heard pcf8532 e (drop n bytes) g ≡ g
+pub at-end : (K : Part) (e : Expect) (bytes : List ℕ) (n : ℕ) → length bytes ≤ n → (g : Group) → heard K e (drop n bytes) g ≡ g
 unfolding heard
-at-end e bytes n m g = rw (drop-of-length-le bytes m)
+at-end K e bytes n m g = rw (drop-of-length-le bytes m)
 
 -- the part of a list from i to end, and the rest
 parts : (bytes : List ℕ) (i end : ℕ) → i ≤ end → drop i bytes ≡ take (end - i) (drop i bytes) ++ drop end bytes
@@ -57,65 +58,65 @@ all-next : (k : Kind) (xs : List ℕ) → nextAfter (All k) xs ≡ All k
 all-next k [] = refl
 all-next k (x ∷ xs) = all-next k xs
 
-record IsRun (e : Expect) (xs : List ℕ) : Type 0 where
+record IsRun (K : Part) (e : Expect) (xs : List ℕ) : Type 0 where
   then : nextAfter e xs ≡ next e 0
-  alike : (g : Group) → heard pcf8532 e xs g ≡ heard pcf8532 (All Kind.Data) xs g
+  alike : (g : Group) → heard K e xs g ≡ heard K (All Kind.Data) xs g
 
-run-of : (bytes : List ℕ) (i : ℕ) → i < length bytes → (e : Expect) → i < dataEnd e i (length bytes) → IsRun e (take (dataEnd e i (length bytes) - i) (drop i bytes))
+run-of : (K : Part) (bytes : List ℕ) (i : ℕ) → i < length bytes → (e : Expect) → i < dataEnd e i (length bytes) → IsRun K e (take (dataEnd e i (length bytes) - i) (drop i bytes))
 unfolding heard
-run-of bytes i h Control some = absurd (omega arith)
-run-of bytes i h (One Kind.Command) some = absurd (omega arith)
-run-of bytes i h (One Kind.Data) some = rw (part-one bytes i h) (record { then = refl; alike = λ g. refl })
-run-of bytes i h (All Kind.Command) some = absurd (omega arith)
-run-of bytes i h (All Kind.Data) some = record { then = all-next Kind.Data (take (length bytes - i) (drop i bytes)); alike = λ g. refl }
+run-of K bytes i h Control some = absurd (omega arith)
+run-of K bytes i h (One Kind.Command) some = absurd (omega arith)
+run-of K bytes i h (One Kind.Data) some = rw (part-one bytes i h) (record { then = refl; alike = λ g. refl })
+run-of K bytes i h (All Kind.Command) some = absurd (omega arith)
+run-of K bytes i h (All Kind.Data) some = record { then = all-next Kind.Data (take (length bytes - i) (drop i bytes)); alike = λ g. refl }
 
 -- ---- a turn
 
-module _ (ram₀ bytes : List ℕ) (r : Registers) (ram : List ℕ) (l : Listener) (i : ℕ) (h : i < length bytes) (inv : Hearing ram₀ bytes r ram l i) where
+module _ (K : Part) (keeps : Keeps K) (ram₀ bytes : List ℕ) (r : Registers) (ram : List ℕ) (l : Listener) (i : ℕ) (h : i < length bytes) (inv : Hearing K ram₀ bytes r ram l i) where
   -- bytes i to end heard at once
   turn : (end : ℕ) → i ≤ end → end ≤ length bytes → (after : List ℕ) (l′ : Listener)
-      → let xs = take (end - i) (drop i bytes) in l′ .expect ≡ nextAfter (l .expect) xs → groupOf l′ after ≡ heard pcf8532 (l .expect) xs (groupOf l ram) → Hearing ram₀ bytes r after l′ end
+      → let xs = take (end - i) (drop i bytes) in l′ .expect ≡ nextAfter (l .expect) xs → groupOf l′ after ≡ heard K (l .expect) xs (groupOf l ram) → Hearing K ram₀ bytes r after l′ end
   turn end le most after l′ then g =
       let xs = take (end - i) (drop i bytes) in
       record {
         rest =
-            ap₂ (λ (e : Expect) (k : Group). heard pcf8532 e (drop end bytes) k) then g
-            ∙ sym (heard-joined pcf8532 (l .expect) xs (drop end bytes) (groupOf l ram))
-            ∙ ap (λ (ys : List ℕ). heard pcf8532 (l .expect) ys (groupOf l ram)) (sym (parts bytes i end le))
+            ap₂ (λ (e : Expect) (k : Group). heard K e (drop end bytes) k) then g
+            ∙ sym (heard-joined K (l .expect) xs (drop end bytes) (groupOf l ram))
+            ∙ ap (λ (ys : List ℕ). heard K (l .expect) ys (groupOf l ram)) (sym (parts bytes i end le))
             ∙ inv .rest;
-        kept = subst (Kept pcf8532 (length ram₀)) (sym g) (heard-keeps pcf8532 (length ram₀) pcf8532-keeps xs (l .expect) (groupOf l ram) (inv .kept));
+        kept = subst (Kept K (length ram₀)) (sym g) (heard-keeps K (length ram₀) keeps xs (l .expect) (groupOf l ram) (inv .kept));
         few =
             subst (λ (n : ℕ). Few n (l′ .counts)) {x = i + length xs} (omega (arith, part-length bytes i end most))
-            (subst (λ (k : Group). Few (i + length xs) (k .counts)) (sym g) (heard-few pcf8532 (l .expect) xs (groupOf l ram) i (inv .few)));
+            (subst (λ (k : Group). Few (i + length xs) (k .counts)) (sym g) (heard-few K (l .expect) xs (groupOf l ram) i (inv .few)));
         most = most;
       }
 
   -- a byte that is no data
-  step-at : (e : Expect) → l .expect ≡ e → dataEnd e i (length bytes) ≤ i → groupOf (stepped l (getD bytes i 0)) ram ≡ byte pcf8532 e (getD bytes i 0) (groupOf l ram)
+  step-at : (e : Expect) → l .expect ≡ e → dataEnd e i (length bytes) ≤ i → groupOf (stepped K l (getD bytes i 0)) ram ≡ byte K e (getD bytes i 0) (groupOf l ram)
   step-at Control told none = rw told
   step-at (One Kind.Command) told none = rw told
   step-at (One Kind.Data) told none = absurd (omega arith)
   step-at (All Kind.Command) told none = rw told
   step-at (All Kind.Data) told none = absurd (omega arith)
 
-  pub step-turn : dataEnd (l .expect) i (length bytes) ≤ i → (l′ : Listener) → l′ ≡ stepped l (getD bytes i 0) → Hearing ram₀ bytes r ram l′ (i + 1)
+  pub step-turn : dataEnd (l .expect) i (length bytes) ≤ i → (l′ : Listener) → l′ ≡ stepped K l (getD bytes i 0) → Hearing K ram₀ bytes r ram l′ (i + 1)
   unfolding heard
   step-turn none l′ el =
       let one = part-one bytes i h in
       turn (i + 1) (omega arith) (omega arith) ram l′
       (ap (λ (k : Listener). k .expect) el ∙ sym (ap (nextAfter (l .expect)) one))
-      (ap (λ (k : Listener). groupOf k ram) el ∙ step-at (l .expect) refl none ∙ sym (ap (λ (xs : List ℕ). heard pcf8532 (l .expect) xs (groupOf l ram)) one))
+      (ap (λ (k : Listener). groupOf k ram) el ∙ step-at (l .expect) refl none ∙ sym (ap (λ (xs : List ℕ). heard K (l .expect) xs (groupOf l ram)) one))
 
   -- data, one byte or all that are left
-  pub data-turn : length ram₀ ≤ 640 → (end : ℕ) → end ≡ dataEnd (l .expect) i (length bytes) → i < end → (after : List ℕ) (l′ : Listener)
-      → after ≡ writtenBy pcf8532 (l .registers) (take (end - i) (drop i bytes)) ram → l′ ≡ ran l (end - i) (length ram₀) → Hearing ram₀ bytes r after l′ end
+  pub data-turn : length ram₀ ≤ K .columns * K .limit → (end : ℕ) → end ≡ dataEnd (l .expect) i (length bytes) → i < end → (after : List ℕ) (l′ : Listener)
+      → after ≡ writtenBy K (l .registers) (take (end - i) (drop i bytes)) ram → l′ ≡ ran K l (end - i) (length ram₀) → Hearing K ram₀ bytes r after l′ end
   data-turn small end ends some after l′ er el =
       let xs = take (end - i) (drop i bytes) in
       let most : end ≤ length bytes = rw ends (ends-in (l .expect) i (length bytes) h .1) in
-      let run : IsRun (l .expect) xs = subst (λ (k : ℕ). IsRun (l .expect) (take (k - i) (drop i bytes))) (sym ends) (run-of bytes i h (l .expect) (rw (sym ends) some)) in
+      let run : IsRun K (l .expect) xs = subst (λ (k : ℕ). IsRun K (l .expect) (take (k - i) (drop i bytes))) (sym ends) (run-of K bytes i h (l .expect) (rw (sym ends) some)) in
       turn end (le-of-lt some) most after l′
       (ap (λ (k : Listener). k .expect) el ∙ sym (run .then))
       ((λ j. record { registers = el j .registers; ram = er j; counts = el j .counts; last = el j .last })
-      ∙ ap₂ (λ (n size : ℕ). groupOf (ran l n size) (writtenBy pcf8532 (l .registers) xs ram)) (sym (part-length bytes i end most)) (sym (inv .kept .columns))
-      ∙ sym (run-at-once pcf8532 xs (groupOf l ram) (inv .kept .range .p-in) (inv .kept .range .a-in) (rw (inv .kept .columns) small))
+      ∙ ap₂ (λ (n size : ℕ). groupOf (ran K l n size) (writtenBy K (l .registers) xs ram)) (sym (part-length bytes i end most)) (sym (inv .kept .columns))
+      ∙ sym (run-at-once K xs (groupOf l ram) (inv .kept .range .p-in) (inv .kept .range .a-in) (rw (inv .kept .columns) small))
       ∙ sym (run .alike (groupOf l ram)))

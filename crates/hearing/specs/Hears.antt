@@ -6,12 +6,12 @@ use mathlib.Core.List.{List}
 use lib.ListN.{length}
 use Rattle.sheet.specs.declared.Registers.{Registers}
 use Rattle.sheet.specs.declared.Check.the-variants.{Passed}
-use Rattle.sheet.specs.Parts.{pcf8532}
+use Rattle.sheet.specs.Parts.{Part}
 use Rattle.sheet.specs.Registers.{inRange}
 use Rattle.sheet.specs.Checks.{overIn}
 
-pub record Hears (ram : List ℕ) (r : Registers) (bytes : List ℕ) : Type 0 where
-  pub range : inRange pcf8532 r ≡ true
+pub record Hears (K : Part) (ram : List ℕ) (r : Registers) (bytes : List ℕ) : Type 0 where
+  pub range : inRange K r ≡ true
   pub few : length ram ≤ 640
   pub nibbles : overIn 0 ram ≡ Passed
   pub some : 0 < length bytes

@@ -4,15 +4,15 @@ use sheet::Registers;
 ghost use mathlib.Core.Path.{_≡_};
 ghost use lib.ListN.{drop};
 ghost use Rattle.sheet.specs.declared.Expect.the-variants.{Control};
-ghost use Rattle.sheet.specs.Parts.{pcf8532};
+ghost use Rattle.sheet.specs.Parts.{partOf};
 ghost use Rattle.sheet.specs.Long.{begun, heard};
 ghost use Rattle.protocol.specs.Listeners.{groupOf};
 ghost use Rattle.hearing.specs.Hears.{Hears};
 
 // What a group makes of a transfer that is for it. A run is handed on as a part of the bytes, from one place, so that the call is inlined.
-pub fn hear(ram: &mut [u8], registers: Registers, bytes: &[u8]) -> Listener
-    requires { ⌜ Hears (now ram) registers (now bytes) ⌝ }
-    ensures { λ r. ⌜ groupOf r (now (ram .exit)) ≡ heard pcf8532 Control (drop 1 (now (bytes .entry))) (begun registers (now (ram .entry))) ⌝ }
+pub fn hear(part: u8, ram: &mut [u8], registers: Registers, bytes: &[u8]) -> Listener
+    requires { ⌜ Hears (partOf part) (now ram) registers (now bytes) ⌝ }
+    ensures { λ r. ⌜ groupOf r (now (ram .exit)) ≡ heard (partOf part) Control (drop 1 (now (bytes .entry))) (begun registers (now (ram .entry))) ⌝ }
 {
     let n = bytes.len();
     let size = ram.len();
@@ -23,11 +23,11 @@ pub fn hear(ram: &mut [u8], registers: Registers, bytes: &[u8]) -> Listener
         let end = protocol::data_end(expect, i, n);
         if i < end {
             let place = listener.registers;
-            ram::write(ram, place, &bytes[i..end]);
-            listener = listener.run(end - i, size);
+            ram::write(part, ram, place, &bytes[i..end]);
+            listener = listener.run(part, end - i, size);
             i = end;
         } else {
-            listener = listener.step(bytes[i]);
+            listener = listener.step(part, bytes[i]);
             i += 1;
         }
     }

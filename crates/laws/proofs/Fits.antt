@@ -1,9 +1,9 @@
 -- What a state that passes the checks 3, 6, 4 and 5 is known to be, and back.
 -- Assumes nothing.
 use mathlib.Core.Path.{_≡_, refl, sym, subst}
-use mathlib.Core.Bool.{Bool, true, false, _&&_}
-use mathlib.Core.List.{List}
-use Prim.Native.Nat.{ℕ, _+_, _*_, _≤_, _<_, zero-le, suc-le-suc}
+use mathlib.Core.Bool.{Bool, true, false, cond, _&&_}
+use mathlib.Core.List.{List, [], _∷_}
+use Prim.Native.Nat.{ℕ, suc, _+_, _*_, _≤_, _<_, zero-le, suc-le-suc}
 use native.Mathlib.Omega.{arith}
 use lib.Dec.{T, eqb, leb, ltb}
 use lib.ListN.{length}
@@ -20,7 +20,8 @@ use Rattle.sheet.specs.Parts.{Part}
 use Rattle.sheet.specs.Registers.{inRange, powerOn}
 use Rattle.sheet.specs.Protocol.{chipsIn}
 use Rattle.sheet.specs.Checks.{unless, orElse, overIn, checkChips, checkRegisters, checkRam, checkLength, checkState, checkPowerOn, checkTransfer, checkPicture, passed}
-use Rattle.sheet.specs.Plain.{chipFits, checkChipPicture}
+use Rattle.sheet.specs.Plain.{chipFits, checkChipPicture, misfitIn}
+use Rattle.sheet.specs.Agree.{AllIn}
 use Rattle.sheet.specs.Long.{bothOn}
 use Rattle.laws.proofs.Ranges.{InRange, range-of, in-range}
 use Rattle.laws.proofs.Nibbles.{Nibbles, nibbles-of, check-nibbles}
@@ -118,6 +119,16 @@ registers-in K c t =
     let s = both-true (ltb (c .sa0) 2) _ t in
     let u = both-true (ltb (c .subaddress) (K .limit)) _ (s .1) in
     both-true (inRange K (c .registers)) _ (u .1) .0
+
+-- where no chip is a misfit, all are in range
+pub all-in : (K : Part) (i : ℕ) (cs : List Chip) → misfitIn K i cs ≡ Passed → AllIn K cs
+unfolding misfitIn
+all-in K i [] e = tt
+all-in K i (c ∷ cs) e = by-test (chipFits K c) refl (all-in K (suc i) cs) e
+  where
+    by-test : (t : Bool) → chipFits K c ≡ t → (misfitIn K (suc i) cs ≡ Passed → AllIn K cs) → cond t (misfitIn K (suc i) cs) (Refused (ChipField i)) ≡ Passed → AllIn K (c ∷ cs)
+    by-test true f rest e = (registers-in K c f, rest e)
+    by-test false f rest e = absurd (subst (λ (k : Check). T (passed k)) (sym e) tt)
 
 -- and so has one whose picture is taken, into a buffer of its columns
 pub chip-picture-passed : (K : Part) (c : Chip) (phase size : ℕ) → checkChipPicture K c phase size ≡ Passed → (inRange K (c .registers) ≡ true) × (size ≡ K .columns)

@@ -1,4 +1,4 @@
--- What the bytes of a transfer keep of a group, if the commands keep registers in range; those of the PCF8532 do.
+-- What the bytes of a transfer keep of a group, if the commands keep registers in range; those of both parts do.
 -- Assumes nothing.
 use mathlib.Core.Path.{_≡_, _∙_}
 use mathlib.Core.List.{List, [], _∷_}
@@ -9,7 +9,7 @@ use Rattle.sheet.specs.declared.Registers.{Registers}
 use Rattle.sheet.specs.declared.Expect.{Expect}
 use Rattle.sheet.specs.declared.Kind.{Kind}
 use Rattle.sheet.specs.declared.Expect.the-variants.{Control, One, All}
-use Rattle.sheet.specs.Parts.{Part, commandOf, pcf8532}
+use Rattle.sheet.specs.Parts.{Part, partOf, pcf8532, pca85133}
 use Rattle.sheet.specs.Registers.{backplanes, bankRow}
 use Rattle.sheet.specs.Commands.{obeyed}
 use Rattle.sheet.specs.Protocol.{next}
@@ -17,7 +17,8 @@ use Rattle.sheet.specs.Long.{Group, byteOf, byte, dataByte, heard}
 use Rattle.sheet.specs.Places.{position, atPosition}
 use Rattle.sheet.specs.Data.{widthOf}
 use Rattle.sheet.specs.Agree.{Keeps}
-use Rattle.laws.proofs.Ranges.{InRange, range-of, in-range, kept, rows-fit}
+use Rattle.laws.proofs.Ranges.{InRange, range-of, in-range, pcf8532-kept, pca85133-kept, rows-fit}
+use Rattle.laws.proofs.Named.{of-both}
 use Rattle.laws.proofs.Steps.{stays-in}
 use Rattle.laws.proofs.Runs.{length-bits}
 use Rattle.laws.proofs.Nibbles.{Nibbles, bits-nibbles}
@@ -62,4 +63,11 @@ module _ (K : Part) (n : ℕ) (keeps : Keeps K) where
 
 -- P stays below 160 and A at most 4
 pub pcf8532-keeps : Keeps pcf8532
-pcf8532-keeps r x h = in-range pcf8532 (obeyed r (commandOf x)) (kept r x (range-of pcf8532 r h))
+pcf8532-keeps r x h = in-range pcf8532 (obeyed r (pcf8532 .command x)) (pcf8532-kept r x (range-of pcf8532 r h))
+
+-- below 80, and at most 8
+pub pca85133-keeps : Keeps pca85133
+pca85133-keeps r x h = in-range pca85133 (obeyed r (pca85133 .command x)) (pca85133-kept r x (range-of pca85133 r h))
+
+pub part-keeps : (part : ℕ) → Keeps (partOf part)
+part-keeps part = of-both Keeps part pcf8532-keeps pca85133-keeps

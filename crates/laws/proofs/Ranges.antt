@@ -12,12 +12,12 @@ use Rattle.lemmas.proofs.Tests.{and-left, and-right, both-true, all, all-at}
 use Rattle.sheet.specs.declared.Registers.{Registers}
 use Rattle.sheet.specs.declared.Command.{Command}
 use Rattle.sheet.specs.declared.Command.the-variants.{Undefined}
-use Rattle.sheet.specs.Parts.{Part, within, Range, commandIn, pcf8532Ranges, commandOf, pcf8532}
+use Rattle.sheet.specs.Parts.{Part, within, Range, commandIn, pcf8532Ranges, pcf8532, pca85133Ranges, pca85133}
 use Rattle.sheet.specs.Registers.{atPlace, inRange, backplanes, bankRow}
 use Rattle.sheet.specs.Commands.{obeyed}
 use Rattle.sheet.specs.Places.{position}
 
--- every register in its range, for chips of C columns and the subaddress limit L
+-- every register in its range, for chips of the part
 pub record InRange (K : Part) (r : Registers) : Type 0 where
   pub e-in : r .e < 2
   pub b-in : r .b < 2
@@ -86,15 +86,23 @@ by-range P x (t ∷ ts) each none = go (within (t .first) (t .last) x) (hit (t .
     go false h rest = rest
 
 -- pointer high ends at 09 and 16 × 9 + 15 is 159; device-select ends at E3
-pub kept : (r : Registers) (x : ℕ) → InRange pcf8532 r → InRange pcf8532 (obeyed r (commandOf x))
-unfolding commandOf
-kept r x h =
+pub pcf8532-kept : (r : Registers) (x : ℕ) → InRange pcf8532 r → InRange pcf8532 (obeyed r (pcf8532 .command x))
+pcf8532-kept r x h =
     by-range (λ c. InRange pcf8532 (obeyed r c)) x pcf8532Ranges (
       (λ l m. placed-in pcf8532 r (16 * (x % 16) + r .p % 16) (r .a) h (omega arith) (h .a-in)),
       (
         (λ l m. placed-in pcf8532 r (r .p - r .p % 16 + x % 16) (r .a) h (omega (arith, h .p-in)) (h .a-in)),
         ((λ l m. omega arith), ((λ l m. placed-in pcf8532 r (r .p) (x % 4) h (h .p-in) (omega arith)), ((λ l m. h), ((λ l m. omega arith), ((λ l m. omega arith), tt))))),
       ),
+    )
+    h
+
+-- the pointer ends at 4F, which is 79; device-select ends at E7
+pub pca85133-kept : (r : Registers) (x : ℕ) → InRange pca85133 r → InRange pca85133 (obeyed r (pca85133 .command x))
+pca85133-kept r x h =
+    by-range (λ c. InRange pca85133 (obeyed r c)) x pca85133Ranges (
+      (λ l m. placed-in pca85133 r x (r .a) h (omega (m, arith)) (h .a-in)),
+      ((λ l m. omega arith), ((λ l m. placed-in pca85133 r (r .p) (x % 8) h (h .p-in) (omega arith)), ((λ l m. omega arith), ((λ l m. omega arith), tt)))),
     )
     h
 

@@ -3,23 +3,26 @@
 use mathlib.Core.Path.{_≡_, refl, sym, ap, _∙_}
 use mathlib.Core.Bool.{Bool, true, false, cond}
 use mathlib.Core.List.{List, [], _∷_}
-use Prim.Native.Nat.{ℕ, zero, suc, _<_}
+use Prim.Native.Nat.{ℕ, zero, suc, _*_, _<_}
 use native.Mathlib.Omega.{arith}
 use lib.ListN.{length, getD, drop, length-append, length-drop, length-map}
 use lib.Seq.{take-at, length-take-le}
+use lib.Dec.{leb}
 use borrow.Author.Tests.{le-leb, lt-leb}
 use Rattle.sheet.specs.declared.Chip.{Chip}
 use Rattle.sheet.specs.declared.Check.{Check}
 use Rattle.sheet.specs.declared.Check.the-variants.{Passed, Refused}
 use Rattle.sheet.specs.declared.Expect.{Expect}
 use Rattle.sheet.specs.declared.PlainAnswer.{PlainAnswer}
-use Rattle.sheet.specs.declared.Refusal.the-variants.{ManyChips}
-use Rattle.sheet.specs.Parts.{Part, pcf8532}
+use Rattle.sheet.specs.declared.Refusal.the-variants.{ManyChips, UnknownPart}
+use Rattle.sheet.specs.Parts.{Part, partOf}
 use Rattle.sheet.specs.Protocol.{next}
-use Rattle.sheet.specs.Plain.{begunBy, Plain, takes, any, hears, plainHeard, plainSaid, plainTaken, plainAnswered, checkPlain, plainCall}
+use Rattle.sheet.specs.Checks.{unless, checkPart}
+use Rattle.sheet.specs.Plain.{begunBy, Plain, takes, any, hears, plainHeard, plainSaid, plainTaken, plainAnswered, checkPlain, plainCall, plainPart}
+use Rattle.laws.proofs.Named.{limit-small}
 use Rattle.plain.specs.declared.Bench.{Bench}
 use Rattle.plain.specs.declared.BenchTransferred.{BenchTransferred}
-use Rattle.plain.specs.Benches.{benchTransferred}
+use Rattle.plain.specs.Benches.{tooMany, benchTransferred}
 use Rattle.wire.specs.Benches.{Holds}
 use Rattle.wire.specs.Bytes.{listIn}
 
@@ -42,24 +45,36 @@ length-plain K cs bytes = go (checkPlain K cs bytes)
     go Passed = taken (any (hears (getD bytes 0 0)) cs)
     go (Refused r) = refl
 
+length-part : (part : ℕ) (cs : List Chip) (bytes : List ℕ) → length (plainPart part cs bytes .chips) ≡ length cs
+unfolding plainPart
+length-part part cs bytes = go (checkPart part)
+  where
+    go : (k : Check) → length (plainAnswered k cs (plainCall (partOf part) cs bytes) .chips) ≡ length cs
+    go Passed = length-plain (partOf part) cs bytes
+    go (Refused r) = refl
+
 -- ---- the bench's transfer is the list's
 
-pub followed : {b : Bench} {n : ℕ} {cs : List Chip} {done : BenchTransferred} (bytes : List ℕ) → Holds n cs b → done ≡ benchTransferred b bytes
-    → let s = plainCall pcf8532 cs bytes in (done .answer ≡ s .answer) × Holds n (s .chips) (done .bench)
-followed {b} {n} {cs} bytes h e =
-    let after = plainCall pcf8532 cs bytes .chips in
+pub followed : {b : Bench} {n : ℕ} {cs : List Chip} {done : BenchTransferred} (part : ℕ) (bytes : List ℕ) → Holds n cs b → done ≡ benchTransferred part b bytes
+    → let s = plainPart part cs bytes in (done .answer ≡ s .answer) × Holds n (s .chips) (done .bench)
+followed {b} {n} {cs} part bytes h e =
+    let after = plainPart part cs bytes .chips in
     let rest = drop n (b .chips) in
-    let long : length after ≡ n = length-plain pcf8532 cs bytes ∙ ap length (sym (h .first)) ∙ length-take-le n (b .chips) (omega arith) in
-    rw (e, h .count, le-leb n 8 (h .few), h .first)
+    let long : length after ≡ n = length-part part cs bytes ∙ ap length (sym (h .first)) ∙ length-take-le n (b .chips) (omega arith) in
+    rw (e, h .count, le-leb n 16 (h .few), h .first)
     (refl, record { count = refl; few = h .few; size = length-append after rest ∙ omega (arith, length-drop n (b .chips)); first = take-at after rest n long })
 
--- more than eight chips are refused
+-- more than sixteen chips are refused
 
 list-length : (n : ℕ) (l : List ℕ) → length (listIn n l) ≡ n
 unfolding listIn
 list-length zero l = refl
 list-length (suc n) l = ap suc (list-length n (drop 171 l))
 
-pub many : (n : ℕ) (chips bytes : List ℕ) → 8 < n → plainCall pcf8532 (listIn n chips) bytes ≡ record { answer = PlainAnswer.Refused ManyChips; chips = listIn n chips }
-unfolding plainCall checkPlain
-many n chips bytes h = rw (list-length n chips, lt-leb n 8 h) refl
+pub many : (part n : ℕ) (chips bytes : List ℕ) → 16 < n → plainPart part (listIn n chips) bytes ≡ record { answer = PlainAnswer.Refused (tooMany part); chips = listIn n chips }
+unfolding plainPart checkPart plainCall checkPlain
+many part n chips bytes h = rw (list-length n chips, lt-leb n (2 * partOf part .limit) (omega (arith, limit-small part))) (by-test (leb part 1))
+  where
+    by-test : (t : Bool) → plainAnswered (unless t UnknownPart) (listIn n chips) (record { answer = PlainAnswer.Refused ManyChips; chips = listIn n chips }) ≡ record { answer = PlainAnswer.Refused (cond t ManyChips UnknownPart); chips = listIn n chips }
+    by-test true = refl
+    by-test false = refl

@@ -5,8 +5,7 @@ use Prim.Native.Nat.{ℕ, _/_, _%_, _≤_}
 use lib.ListN.{length}
 use Rattle.sheet.specs.declared.Chip.{Chip}
 use Rattle.sheet.specs.declared.PlainAnswer.{PlainAnswer}
-use Rattle.sheet.specs.Parts.{pcf8532}
-use Rattle.sheet.specs.Plain.{plainCall}
+use Rattle.sheet.specs.Plain.{plainPart}
 use Rattle.wire.specs.Bytes.{listIn, listBytes}
 
 pub record Lent : Type 0 where
@@ -18,12 +17,12 @@ abbrev pub written : PlainAnswer → List Chip → List ℕ → List ℕ
 written (PlainAnswer.Acknowledged n last) after given = listBytes after
 written (PlainAnswer.Refused r) after given = given
 
-unfoldable pub lentCall : List ℕ → List ℕ → Lent
-lentCall chips bytes =
-    let s = plainCall pcf8532 (listIn (length chips / 171) chips) bytes in
+unfoldable pub lentCall : ℕ → List ℕ → List ℕ → Lent
+lentCall part chips bytes =
+    let s = plainPart part (listIn (length chips / 171) chips) bytes in
     record { answer = s .answer; chips = written (s .answer) (s .chips) chips }
 
--- whole chips, at most eight: what a bench has room for
+-- whole chips, at most sixteen: what a bench has room for
 pub record Few (chips : List ℕ) : Type 0 where
   pub whole : length chips % 171 ≡ 0
-  pub few : length chips / 171 ≤ 8
+  pub few : length chips / 171 ≤ 16

@@ -1,18 +1,17 @@
 // A transfer to chips that C lends as bytes, 171 a chip.
 use sheet::PlainAnswer;
-use sheet::Refusal;
 ghost use mathlib.Core.Path.{_≡_};
 ghost use Prim.Native.Nat.{_%_};
 ghost use lib.ListN.{length};
 ghost use Rattle.lent.specs.Lent.{Few, lentCall};
 
-// Of at most eight chips: they are read, follow the transfer, and are written if it is taken.
-fn transfer_few(chips: &mut [u8], bytes: &[u8]) -> PlainAnswer
+// Of at most sixteen chips: they are read, follow the transfer, and are written if it is taken.
+fn transfer_few(part: u8, chips: &mut [u8], bytes: &[u8]) -> PlainAnswer
     requires { ⌜ Few (now chips) ⌝ }
-    ensures { λ r. ⌜ lentCall (now (chips .entry)) (now (bytes .entry)) ≡ record { answer = r; chips = now (chips .exit) } ⌝ }
+    ensures { λ r. ⌜ lentCall part (now (chips .entry)) (now (bytes .entry)) ≡ record { answer = r; chips = now (chips .exit) } ⌝ }
 {
     let before = wire::bench_of(chips, chips.len() / 171);
-    let done = plain::transfer_bench(before, bytes);
+    let done = plain::transfer_bench(part, before, bytes);
     let after = done.bench;
     let said = done.answer;
     match said {
@@ -24,14 +23,14 @@ fn transfer_few(chips: &mut [u8], bytes: &[u8]) -> PlainAnswer
     }
 }
 
-// More than eight are refused by 10, and no byte is written.
-pub fn transfer(chips: &mut [u8], bytes: &[u8]) -> PlainAnswer
+// More than sixteen are refused, and no byte is written.
+pub fn transfer(part: u8, chips: &mut [u8], bytes: &[u8]) -> PlainAnswer
     requires { ⌜ length (now chips) % 171 ≡ 0 ⌝ }
-    ensures { λ r. ⌜ lentCall (now (chips .entry)) (now (bytes .entry)) ≡ record { answer = r; chips = now (chips .exit) } ⌝ }
+    ensures { λ r. ⌜ lentCall part (now (chips .entry)) (now (bytes .entry)) ≡ record { answer = r; chips = now (chips .exit) } ⌝ }
 {
-    if chips.len() / 171 <= 8 {
-        transfer_few(chips, bytes)
+    if chips.len() / 171 <= 16 {
+        transfer_few(part, chips, bytes)
     } else {
-        PlainAnswer::Refused(Refusal::ManyChips)
+        PlainAnswer::Refused(plain::too_many(part))
     }
 }

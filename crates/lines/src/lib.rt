@@ -6,12 +6,12 @@ ghost use lib.ListN.{length};
 ghost use Rattle.sheet.specs.Logs.{transferLine, seenLine, recordLines, columnLine, columnLines, refusalLine};
 ghost use Rattle.text.specs.Texts.{Puts};
 
-// A transfer's line.
+// A transfer's line. Logs are the PCF8532's.
 fn put_transfer(out: &mut [u8], at: usize, index: usize, answer: Answer) -> usize
     requires { ⌜ at + length (transferLine index answer) ≤ length (now out) ⌝ }
     ensures { λ r. ⌜ Puts at (transferLine index answer) (now (out .entry)) (now (out .exit)) r ⌝ }
 {
-    let n = answers::numbers(answer);
+    let n = answers::numbers(sheet::PCF8532, answer);
     text::put_line(out, at, b'T', &[index, n[0], n[1], n[2], n[3], n[4], n[5]])
 }
 

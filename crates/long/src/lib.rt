@@ -13,16 +13,16 @@ ghost use mathlib.Core.Path.{_≡_};
 ghost use Prim.Native.Nat.{_<_};
 ghost use lib.ListN.{length};
 ghost use Rattle.sheet.specs.Refusals.{numbers, pictureNumbers, checkNumbers};
-ghost use Rattle.sheet.specs.Parts.{pcf8532};
+ghost use Rattle.sheet.specs.Parts.{partOf};
 ghost use Rattle.sheet.specs.Checks.{checkState};
-ghost use Rattle.sheet.specs.Long.{noCounts, replaced, taken, powerOnCall, transferCall, pictureCall};
+ghost use Rattle.sheet.specs.Long.{noCounts, replaced, taken, powerOnPart, transferPart, picturePart};
 
-// Power-on: the power-on registers, taken or refused by 3, 4, 5; the RAM is only read.
-pub fn power_on(chips: Chips, ram: &[u8]) -> PowerOn
-    ensures { λ r. ⌜ r ≡ powerOnCall pcf8532 chips (now (ram .entry)) ⌝ }
-    ensures { λ r. ⌜ checkNumbers (r .check) ≡ checkNumbers (powerOnCall pcf8532 chips (now (ram .entry)) .check) ⌝ }
+// Power-on: the power-on registers, taken or refused by 16, 3, 4, 5; the RAM is only read.
+pub fn power_on(part: u8, chips: Chips, ram: &[u8]) -> PowerOn
+    ensures { λ r. ⌜ r ≡ powerOnPart part chips (now (ram .entry)) ⌝ }
+    ensures { λ r. ⌜ checkNumbers (r .check) ≡ checkNumbers (powerOnPart part chips (now (ram .entry)) .check) ⌝ }
 {
-    let check = refused::check_power_on(chips, ram);
+    let check = refused::check_power_on(part, chips, ram);
     let registers = Both {
         zero: command::power_on(),
         one: command::power_on(),
@@ -31,14 +31,21 @@ pub fn power_on(chips: Chips, ram: &[u8]) -> PowerOn
 }
 
 // A transfer that passed its checks, at the group that hears it.
-fn deliver(chips: Chips, registers: Both, ram: &mut [u8], bytes: &[u8], group: u8) -> Transferred
-    requires { ⌜ (checkState pcf8532 chips registers (now ram) ≡ Check.Passed) × (0 < length (now bytes)) × (length (now bytes) < 4097) ⌝ }
-    ensures { λ r. ⌜ record { result = r; ram = now (ram .exit) } ≡ taken pcf8532 chips registers (now (ram .entry)) (now (bytes .entry)) (Addressed.To group) ⌝ }
+fn deliver(
+    part: u8,
+    chips: Chips,
+    registers: Both,
+    ram: &mut [u8],
+    bytes: &[u8],
+    group: u8,
+) -> Transferred
+    requires { ⌜ (checkState (partOf part) chips registers (now ram) ≡ Check.Passed) × (0 < length (now bytes)) × (length (now bytes) < 4097) ⌝ }
+    ensures { λ r. ⌜ record { result = r; ram = now (ram .exit) } ≡ taken (partOf part) chips registers (now (ram .entry)) (now (bytes .entry)) (Addressed.To group) ⌝ }
 {
-    let start = groups::start_of(chips, group);
-    let end = groups::end_of(chips, group);
+    let start = groups::start_of(part, chips, group);
+    let end = groups::end_of(part, chips, group);
     let before = groups::registers_of(group, registers);
-    let heard = hearing::hear(&mut ram[start..end], before, bytes);
+    let heard = hearing::hear(part, &mut ram[start..end], before, bytes);
     let after = heard.registers;
     let counts = heard.counts;
     let last = heard.last;
@@ -65,25 +72,32 @@ fn unheard(registers: Both) -> Transferred
     }
 }
 
-// A transfer, START to STOP, taken or refused by 3, 6, 4, 5, 1, 2, then 7 and 17.
-pub fn transfer(chips: Chips, registers: Both, ram: &mut [u8], bytes: &[u8]) -> Transferred
-    ensures { λ r. ⌜ record { result = r; ram = now (ram .exit) } ≡ transferCall pcf8532 chips registers (now (ram .entry)) (now (bytes .entry)) ⌝ }
-    ensures { λ r. ⌜ numbers pcf8532 (r .answer) ≡ numbers pcf8532 (transferCall pcf8532 chips registers (now (ram .entry)) (now (bytes .entry)) .result .answer) ⌝ }
+// A transfer, START to STOP, taken or refused by 16, 3, 6, 4, 5, 1, 2, then 7 and 17.
+pub fn transfer(
+    part: u8,
+    chips: Chips,
+    registers: Both,
+    ram: &mut [u8],
+    bytes: &[u8],
+) -> Transferred
+    ensures { λ r. ⌜ record { result = r; ram = now (ram .exit) } ≡ transferPart part chips registers (now (ram .entry)) (now (bytes .entry)) ⌝ }
+    ensures { λ r. ⌜ numbers (partOf part) (r .answer) ≡ numbers (partOf part) (transferPart part chips registers (now (ram .entry)) (now (bytes .entry)) .result .answer) ⌝ }
 {
-    match refused::check_transfer(chips, registers, ram, bytes) {
+    match refused::check_transfer(part, chips, registers, ram, bytes) {
         Check::Refused(refusal) => Transferred {
             answer: Answer::Refused(refusal),
             registers,
         },
         Check::Passed => match groups::heard_by(chips, checks::byte_at(bytes, 0)) {
-            Addressed::To(group) => deliver(chips, registers, ram, bytes, group),
+            Addressed::To(group) => deliver(part, chips, registers, ram, bytes, group),
             Addressed::Nobody => unheard(registers),
         },
     }
 }
 
-// The picture of a group at a blink phase and its lit elements, or a refusal by 3, 6, 4, 5, 8, 9.
+// The picture of a group at a blink phase and its lit elements, or a refusal by 16, 3, 6, 4, 5, 8, 9.
 pub fn picture(
+    part: u8,
     chips: Chips,
     registers: Both,
     ram: &[u8],
@@ -91,14 +105,14 @@ pub fn picture(
     phase: u8,
     out: &mut [u8],
 ) -> Pictured
-    ensures { λ r. ⌜ record { result = r; out = now (out .exit) } ≡ pictureCall pcf8532 chips registers (now (ram .entry)) group phase (now (out .entry)) ⌝ }
-    ensures { λ r. ⌜ pictureNumbers r ≡ pictureNumbers (pictureCall pcf8532 chips registers (now (ram .entry)) group phase (now (out .entry)) .result) ⌝ }
+    ensures { λ r. ⌜ record { result = r; out = now (out .exit) } ≡ picturePart part chips registers (now (ram .entry)) group phase (now (out .entry)) ⌝ }
+    ensures { λ r. ⌜ pictureNumbers r ≡ pictureNumbers (picturePart part chips registers (now (ram .entry)) group phase (now (out .entry)) .result) ⌝ }
 {
-    match refused::check_picture(chips, registers, ram, group, phase, out.len()) {
+    match refused::check_picture(part, chips, registers, ram, group, phase, out.len()) {
         Check::Refused(refusal) => Pictured::Refused(refusal),
         Check::Passed => {
-            let start = groups::start_of(chips, group);
-            let end = groups::end_of(chips, group);
+            let start = groups::start_of(part, chips, group);
+            let end = groups::end_of(part, chips, group);
             let shown = groups::registers_of(group, registers);
             Pictured::Lit(picture::show(&ram[start..end], shown, phase, out))
         }

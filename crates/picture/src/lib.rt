@@ -2,11 +2,9 @@
 use sheet::Registers;
 use sheet::Shown;
 ghost use mathlib.Core.Path.{_≡_};
-ghost use mathlib.Core.Bool.{cond, true};
+ghost use mathlib.Core.Bool.{cond};
 ghost use Prim.Native.Nat.{_-_, _≤_, _<_};
 ghost use lib.ListN.{length};
-ghost use Rattle.sheet.specs.Parts.{pcf8532};
-ghost use Rattle.sheet.specs.Registers.{inRange};
 ghost use Rattle.sheet.specs.Pictures.{shown, lit, pictureOf, litIn};
 ghost use Rattle.picture.specs.Drawn.{drawn, Few, Drawable};
 
@@ -73,7 +71,7 @@ fn draw(columns: &[u8], first: usize, height: usize, out: &mut [u8]) -> usize
 
 // The picture is written, a byte a column, and counted in one walk. Dark is a picture of no rows.
 pub fn show(columns: &[u8], registers: Registers, phase: u8, out: &mut [u8]) -> usize
-    requires { ⌜ (length (now out) ≡ length (now columns)) × (length (now out) ≤ 1280) × (inRange pcf8532 registers ≡ true) ⌝ }
+    requires { ⌜ (length (now out) ≡ length (now columns)) × (length (now out) ≤ 1280) × (registers .m < 4) × (registers .o < 2) ⌝ }
     ensures { λ _. ⌜ now (out .exit) ≡ pictureOf registers phase (now (columns .entry)) ⌝ }
     ensures { λ r. ⌜ r ≡ litIn (pictureOf registers phase (now (columns .entry))) ⌝ }
 {

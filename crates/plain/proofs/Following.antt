@@ -8,12 +8,13 @@ use lib.ListN.{length, drop, drop-of-length-le, length-map}
 use Rattle.lemmas.proofs.Lists.{next as next-of}
 use Rattle.sheet.specs.declared.Chip.{Chip}
 use Rattle.sheet.specs.declared.Acknowledger.{Acknowledger}
-use Rattle.sheet.specs.Parts.{within, pcf8532}
+use Rattle.sheet.specs.Parts.{within, partOf}
 use Rattle.sheet.specs.Protocol.{next}
 use Rattle.sheet.specs.Plain.{smallest, once, lastAfter, Plain, plainHeard}
+use Rattle.sheet.specs.Agree.{AllIn}
 use Rattle.plain.specs.declared.Turn.{Turn}
 use Rattle.plain.specs.Asking.{answers, taken}
-use Rattle.plain.specs.Turns.{turnAfter, plainAt, tallyOf, followed, AllIn, Ready}
+use Rattle.plain.specs.Turns.{turnAfter, plainAt, tallyOf, followed, Ready}
 use Rattle.plain.proofs.Agreeing.{asked, all-taken, all-kept}
 
 -- from the chips cs₀ in the turn t₀, the transfer has come to cs in the turn t
@@ -32,7 +33,7 @@ module _ (cs₀ : List Chip) (bytes : List ℕ) (t₀ t : Turn) (cs : List Chip)
   unfolding plainHeard
   ended l =
       let all : plainAt (t .tally) cs ≡ followed cs₀ bytes t₀ =
-      sym (ap (λ (l : List ℕ). plainHeard pcf8532 (t .heard .address) (t .heard .expect) l (plainAt (t .tally) cs)) (drop-of-length-le bytes l)) ∙ s .left in
+      sym (ap (λ (l : List ℕ). plainHeard (partOf (t .heard .part)) (t .heard .address) (t .heard .expect) l (plainAt (t .tally) cs)) (drop-of-length-le bytes l)) ∙ s .left in
       (ap tallyOf all, ap (λ (p : Plain). p .chips) all)
 
   -- who acknowledges the turn's byte
@@ -44,10 +45,10 @@ module _ (cs₀ : List Chip) (bytes : List ℕ) (t₀ t : Turn) (cs : List Chip)
   unfolding plainHeard
   stepped l =
       let h = t .heard in
-      let i : AllIn cs = s .ready .right l in
-      ap (λ (l : List ℕ). plainHeard pcf8532 (h .address) (h .expect) l (plainAt (t .tally) cs)) (next-of bytes (t .at) l ∙ ap (λ (x : ℕ). x ∷ drop (t .at + 1) bytes) (sym (s .ready .byte)))
+      let i : AllIn (partOf (h .part)) cs = s .ready .right l in
+      ap (λ (l : List ℕ). plainHeard (partOf (h .part)) (h .address) (h .expect) l (plainAt (t .tally) cs)) (next-of bytes (t .at) l ∙ ap (λ (x : ℕ). x ∷ drop (t .at + 1) bytes) (sym (s .ready .byte)))
       ∙ (λ j. let by = asked h cs i j in
-      plainHeard pcf8532 (h .address) (next (h .expect) (h .byte)) (drop (t .at + 1) bytes) (record { acknowledged = t .tally .acknowledged + once by; last = lastAfter (h .expect) by (t .tally .last); chips = all-taken h cs i j }))
+      plainHeard (partOf (h .part)) (h .address) (next (h .expect) (h .byte)) (drop (t .at + 1) bytes) (record { acknowledged = t .tally .acknowledged + once by; last = lastAfter (h .expect) by (t .tally .last); chips = all-taken h cs i j }))
 
   pub turn-more : t .at < length bytes → Following cs₀ bytes t₀ (turnAfter bytes t who) (map (taken (t .heard)) cs)
   turn-more l = record {

@@ -3,23 +3,23 @@ use Prim.Native.Nat.{ℕ, suc}
 use mathlib.Core.Bool.{Bool, cond, _&&_, not}
 use mathlib.Core.List.{List, [], _∷_}
 use Rattle.sheet.specs.declared.Chip.{Chip}
-use Rattle.sheet.specs.Parts.{pcf8532}
+use Rattle.sheet.specs.Parts.{partOf}
 use Rattle.sheet.specs.Plain.{hears, chipFits, chipStepped, chipAnswers}
 use Rattle.plain.specs.declared.BusByte.{BusByte}
 use Rattle.plain.specs.declared.Question.{Question}
 use Rattle.plain.specs.declared.Question.the-variants.{Misfit, Hears}
 
 abbrev pub yes : Question → Chip → Bool
-yes Misfit c = not (chipFits pcf8532 c)
+yes (Misfit part) c = not (chipFits (partOf part) c)
 yes (Hears address) c = hears address c
 
 -- whether it hears and acknowledges a byte
 abbrev pub answers : BusByte → Chip → Bool
-answers h c = hears (h .address) c && chipAnswers pcf8532 (h .expect) (h .byte) c
+answers h c = hears (h .address) c && chipAnswers (partOf (h .part)) (h .expect) (h .byte) c
 
 -- the chip after a byte
 abbrev pub taken : BusByte → Chip → Chip
-taken h c = cond (hears (h .address) c) (chipStepped pcf8532 (h .expect) (h .byte) c) c
+taken h c = cond (hears (h .address) c) (chipStepped (partOf (h .part)) (h .expect) (h .byte) c) c
 
 -- the place of the first chip of which f holds, or the count
 unfoldable pub firstYes : (Chip → Bool) → List Chip → ℕ

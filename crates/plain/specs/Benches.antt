@@ -1,14 +1,14 @@
--- A transfer to a bench: of its eight chips the first `count` take part. A count over eight is refused, and the bench is as given.
+-- A transfer to a bench: of its sixteen chips the first `count` take part. A count over sixteen is refused, and the bench is as given.
 use Prim.Native.Nat.{ℕ}
 use mathlib.Core.Bool.{cond}
 use mathlib.Core.List.{List, _++_}
 use lib.Dec.{leb}
 use lib.ListN.{take, drop}
 use Rattle.sheet.specs.declared.Chip.{Chip}
-use Rattle.sheet.specs.declared.Refusal.the-variants.{ManyChips}
+use Rattle.sheet.specs.declared.Refusal.{Refusal}
+use Rattle.sheet.specs.declared.Refusal.the-variants.{ManyChips, UnknownPart}
 use Rattle.sheet.specs.declared.PlainAnswer.{PlainAnswer}
-use Rattle.sheet.specs.Parts.{pcf8532}
-use Rattle.sheet.specs.Plain.{plainCall}
+use Rattle.sheet.specs.Plain.{plainPart}
 use Rattle.plain.specs.declared.Bench.{Bench}
 use Rattle.plain.specs.declared.BenchTransferred.{BenchTransferred}
 
@@ -16,10 +16,14 @@ use Rattle.plain.specs.declared.BenchTransferred.{BenchTransferred}
 abbrev pub withFirst : Bench → List Chip → Bench
 withFirst b cs = record { chips = cs ++ drop (b .count) (b .chips); count = b .count }
 
-abbrev pub firstTransferred : Bench → List ℕ → BenchTransferred
-firstTransferred b bytes =
-    let a = plainCall pcf8532 (take (b .count) (b .chips)) bytes in
+abbrev pub firstTransferred : ℕ → Bench → List ℕ → BenchTransferred
+firstTransferred part b bytes =
+    let a = plainPart part (take (b .count) (b .chips)) bytes in
     record { answer = a .answer; bench = withFirst b (a .chips) }
 
-abbrev pub benchTransferred : Bench → List ℕ → BenchTransferred
-benchTransferred b bytes = cond (leb (b .count) 8) (firstTransferred b bytes) (record { answer = PlainAnswer.Refused ManyChips; bench = b })
+-- 16, or else 10
+abbrev pub tooMany : ℕ → Refusal
+tooMany part = cond (leb part 1) ManyChips UnknownPart
+
+abbrev pub benchTransferred : ℕ → Bench → List ℕ → BenchTransferred
+benchTransferred part b bytes = cond (leb (b .count) 16) (firstTransferred part b bytes) (record { answer = PlainAnswer.Refused (tooMany part); bench = b })

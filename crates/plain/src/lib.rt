@@ -1,4 +1,4 @@
-// THE PLAIN ACCOUNT: a lent list of at most eight chips, each of which follows every byte by itself. Every input gets an answer; a refused call changes nothing.
+// THE PLAIN ACCOUNT: a lent list of chips of one part, each of which follows every byte by itself. Every input gets an answer; a refused call changes nothing.
 // What is decided and done is decided and done by value. The functions over the list only go along it, and are proved by hand.
 use sheet::Acknowledger;
 use sheet::Check;
@@ -13,26 +13,27 @@ ghost use mathlib.Core.List.{map};
 ghost use Prim.Native.Nat.{_+_, _≤_, _<_, _^_};
 ghost use lib.ListN.{length, getD, drop};
 ghost use Rattle.sheet.specs.Refusals.{plainNumbers};
-ghost use Rattle.sheet.specs.Parts.{pcf8532};
+ghost use Rattle.sheet.specs.Parts.{partOf};
 ghost use Rattle.sheet.specs.Checks.{faultIn};
-ghost use Rattle.sheet.specs.Plain.{lower, smallest, once, lastOf, lastAfter, plainCall};
+ghost use Rattle.sheet.specs.Plain.{lower, smallest, once, lastOf, lastAfter, plainPart};
 ghost use Rattle.plain.specs.Asking.{yes, answers, taken, firstYes};
 ghost use Rattle.plain.specs.Turns.{turnAfter, followed, tallyOf, Ready};
-ghost use Rattle.plain.specs.Starts.{checkOf, turnAt, startOf, answerOf};
-ghost use Rattle.plain.specs.Benches.{firstTransferred, benchTransferred};
+ghost use Rattle.plain.specs.Starts.{checkBench, checkList, checkOf, turnAt, startOf, answerOf};
+ghost use Rattle.plain.specs.Benches.{tooMany, firstTransferred, benchTransferred};
 
 // ---- one chip, by value
 
-// A byte after the address: to whom it goes, what it is, and its value.
+// A byte after the address: the part of the chips, to whom it goes, what it is, and its value.
 struct BusByte {
+    part: u8,
     address: u8,
     expect: Expect,
     byte: u8,
 }
 
-// What a chip is asked.
+// What a chip is asked: whether it is no chip of a part, or hears an address.
 enum Question {
-    Misfit,
+    Misfit(u8),
     Hears(u8),
 }
 
@@ -40,7 +41,7 @@ fn says_yes(chip: Chip, question: Question) -> bool
     ensures { λ r. ⌜ r ≡ yes question chip ⌝ }
 {
     match question {
-        Question::Misfit => !chip::fits(chip),
+        Question::Misfit(part) => !chip::fits(part, chip),
         Question::Hears(address) => chip::hears(chip, address),
     }
 }
@@ -50,7 +51,7 @@ fn acknowledges(chip: Chip, heard: BusByte) -> bool
     ensures { λ r. ⌜ r ≡ answers heard chip ⌝ }
 {
     let expect = heard.expect;
-    chip::hears(chip, heard.address) & chip::acknowledges(chip, expect, heard.byte)
+    chip::hears(chip, heard.address) & chip::acknowledges(heard.part, chip, expect, heard.byte)
 }
 
 // A subaddress and the smallest of the others.
@@ -83,7 +84,7 @@ fn take(chip: Chip, heard: BusByte) -> Chip
 {
     let expect = heard.expect;
     if chip::hears(chip, heard.address) {
-        chip::step(chip, expect, heard.byte)
+        chip::step(heard.part, chip, expect, heard.byte)
     } else {
         chip
     }
@@ -192,6 +193,7 @@ fn next(bytes: &[u8], turn: Turn, who: Acknowledger) -> Turn
             last: last_after(expect, who, last),
         },
         heard: BusByte {
+            part: heard.part,
             address: heard.address,
             expect: protocol::follow(expect, heard.byte),
             byte: checks::byte_at(bytes, at),
@@ -223,32 +225,51 @@ fn hail(bytes: &[u8]) -> Question
     Question::Hears(checks::byte_at(bytes, 0))
 }
 
-fn check_bytes(bytes: &[u8], heard: bool) -> Check
-    ensures { λ r. ⌜ r ≡ cond heard (faultIn pcf8532 Expect.Control 1 (drop 1 (now (bytes .entry)))) Check.Passed ⌝ }
+fn check_bytes(part: u8, bytes: &[u8], heard: bool) -> Check
+    ensures { λ r. ⌜ r ≡ cond heard (faultIn (partOf part) Expect.Control 1 (drop 1 (now (bytes .entry)))) Check.Passed ⌝ }
 {
     if heard {
-        protocol::first_fault(bytes)
+        protocol::first_fault(part, bytes)
     } else {
         Check::Passed
     }
 }
 
-// Of `count` chips the first misfit stands at `misfit` and the first that hears at `hearer`, or else there is none.
-fn check_transfer(bytes: &[u8], count: usize, misfit: usize, hearer: usize) -> Check
-    ensures { λ r. ⌜ r ≡ checkOf (now (bytes .entry)) count misfit hearer ⌝ }
+// The part, and how many chips there are: 16, 10.
+fn check_bench(part: u8, count: usize) -> Check
+    ensures { λ r. ⌜ r ≡ checkBench part count ⌝ }
+{
+    match checks::check_part(part) {
+        Check::Refused(refusal) => Check::Refused(refusal),
+        Check::Passed => checks::unless(count <= 2 * arithmetic::limit(part), Refusal::ManyChips),
+    }
+}
+
+// Of `count` chips the first misfit stands at `misfit` and the first that hears at `hearer`, or else there is none: 11, 1, 2, then 7 and 17.
+fn check_chips(part: u8, bytes: &[u8], count: usize, misfit: usize, hearer: usize) -> Check
+    ensures { λ r. ⌜ r ≡ checkList part (now (bytes .entry)) count misfit hearer ⌝ }
 {
     if count <= misfit {
         match checks::check_length(bytes.len()) {
             Check::Refused(refusal) => Check::Refused(refusal),
-            Check::Passed => check_bytes(bytes, hearer < count),
+            Check::Passed => check_bytes(part, bytes, hearer < count),
         }
     } else {
         Check::Refused(Refusal::ChipField(misfit))
     }
 }
 
-fn turn_at(bytes: &[u8], at: usize, acknowledged: usize) -> Turn
-    ensures { λ r. ⌜ r ≡ turnAt (now (bytes .entry)) at acknowledged ⌝ }
+fn check_transfer(part: u8, bytes: &[u8], count: usize, misfit: usize, hearer: usize) -> Check
+    ensures { λ r. ⌜ r ≡ checkOf part (now (bytes .entry)) count misfit hearer ⌝ }
+{
+    match check_bench(part, count) {
+        Check::Refused(refusal) => Check::Refused(refusal),
+        Check::Passed => check_chips(part, bytes, count, misfit, hearer),
+    }
+}
+
+fn turn_at(part: u8, bytes: &[u8], at: usize, acknowledged: usize) -> Turn
+    ensures { λ r. ⌜ r ≡ turnAt part (now (bytes .entry)) at acknowledged ⌝ }
 {
     Turn {
         at,
@@ -257,6 +278,7 @@ fn turn_at(bytes: &[u8], at: usize, acknowledged: usize) -> Turn
             last: Acknowledger::None,
         },
         heard: BusByte {
+            part,
             address: checks::byte_at(bytes, 0),
             expect: Expect::Control,
             byte: checks::byte_at(bytes, at),
@@ -271,19 +293,19 @@ struct Start {
 }
 
 // The address is acknowledged, and the chips follow from the next byte on. Of a transfer that is refused, or that none hears, nothing is left to follow.
-fn begin(bytes: &[u8], count: usize, misfit: usize, hearer: usize) -> Start
-    ensures { λ r. ⌜ r ≡ startOf (now (bytes .entry)) count misfit hearer ⌝ }
+fn begin(bytes: &[u8], part: u8, count: usize, misfit: usize, hearer: usize) -> Start
+    ensures { λ r. ⌜ r ≡ startOf part (now (bytes .entry)) count misfit hearer ⌝ }
 {
-    let check = check_transfer(bytes, count, misfit, hearer);
+    let check = check_transfer(part, bytes, count, misfit, hearer);
     if checks::passes(check) & (hearer < count) {
         Start {
             check,
-            turn: turn_at(bytes, 1, 1),
+            turn: turn_at(part, bytes, 1, 1),
         }
     } else {
         Start {
             check,
-            turn: turn_at(bytes, bytes.len(), 0),
+            turn: turn_at(part, bytes, bytes.len(), 0),
         }
     }
 }
@@ -299,40 +321,23 @@ fn answer(check: Check, tally: Tally) -> PlainAnswer
     }
 }
 
-// A transfer to at most eight chips.
-fn transfer_few(chips: &mut [Chip], bytes: &[u8]) -> PlainAnswer
-    requires { ⌜ length (now chips) ≤ 8 ⌝ }
-    ensures { λ r. ⌜ r ≡ plainCall pcf8532 (now (chips .entry)) (now (bytes .entry)) .answer ⌝ }
-    ensures { λ _. ⌜ now (chips .exit) ≡ plainCall pcf8532 (now (chips .entry)) (now (bytes .entry)) .chips ⌝ }
+// A transfer, START to STOP, taken or refused by 16, 10, 11, 1, 2, then 7 and 17. The list and the bytes come first, as in every walk by hand.
+pub fn transfer(chips: &mut [Chip], bytes: &[u8], part: u8) -> PlainAnswer
+    ensures { λ r. ⌜ (r ≡ plainPart part (now (chips .entry)) (now (bytes .entry)) .answer) × (plainNumbers (partOf part) r ≡ plainNumbers (partOf part) (plainPart part (now (chips .entry)) (now (bytes .entry)) .answer)) ⌝ }
+    ensures { λ _. ⌜ now (chips .exit) ≡ plainPart part (now (chips .entry)) (now (bytes .entry)) .chips ⌝ }
 {
-    let misfit = first(chips, Question::Misfit);
+    let misfit = first(chips, Question::Misfit(part));
     let hearer = first(chips, hail(bytes));
-    let start = begin(bytes, chips.len(), misfit, hearer);
+    let start = begin(bytes, part, chips.len(), misfit, hearer);
     let tally = follow(chips, bytes, start.turn);
     answer(start.check, tally)
 }
 
-fn many_chips() -> PlainAnswer
-    ensures { λ r. ⌜ r ≡ PlainAnswer.Refused Refusal.ManyChips ⌝ }
-{
-    PlainAnswer::Refused(Refusal::ManyChips)
-}
-
-// A transfer, START to STOP, taken or refused by 10, 11, 1, 2, then 7 and 17. Of more than eight chips none is looked at.
-pub fn transfer(chips: &mut [Chip], bytes: &[u8]) -> PlainAnswer
-    ensures { λ r. ⌜ (r ≡ plainCall pcf8532 (now (chips .entry)) (now (bytes .entry)) .answer) × (plainNumbers pcf8532 r ≡ plainNumbers pcf8532 (plainCall pcf8532 (now (chips .entry)) (now (bytes .entry)) .answer)) ⌝ }
-    ensures { λ _. ⌜ now (chips .exit) ≡ plainCall pcf8532 (now (chips .entry)) (now (bytes .entry)) .chips ⌝ }
-{
-    if 8 < chips.len() {
-        return many_chips();
-    }
-    transfer_few(chips, bytes)
-}
-
 // ---- by value, for a caller that has its chips in a local
 
+// As many chips as the smaller part can have on a bus.
 pub struct Bench {
-    pub chips: [Chip; 8],
+    pub chips: [Chip; 16],
     pub count: usize,
 }
 
@@ -342,29 +347,40 @@ pub struct BenchTransferred {
 }
 
 // The first `count` chips take part, the others stay.
-fn transfer_first(bytes: &[u8], bench: Bench) -> BenchTransferred
-    requires { ⌜ bench .count ≤ 8 ⌝ }
-    ensures { λ r. ⌜ r ≡ firstTransferred bench (now (bytes .entry)) ⌝ }
+fn transfer_first(bytes: &[u8], bench: Bench, part: u8) -> BenchTransferred
+    requires { ⌜ bench .count ≤ 16 ⌝ }
+    ensures { λ r. ⌜ r ≡ firstTransferred part bench (now (bytes .entry)) ⌝ }
 {
     let count = bench.count;
     let mut chips = bench.chips;
-    let answer = transfer(&mut chips[..count], bytes);
+    let answer = transfer(&mut chips[..count], bytes, part);
     BenchTransferred {
         answer,
         bench: Bench { chips, count },
     }
 }
 
-// The same, taken or refused by 10, 11, 1, 2, then 7 and 17; a count over eight is refused by 10.
-pub fn transfer_bench(bench: Bench, bytes: &[u8]) -> BenchTransferred
-    ensures { λ r. ⌜ r ≡ benchTransferred bench (now (bytes .entry)) ⌝ }
-    ensures { λ r. ⌜ plainNumbers pcf8532 (r .answer) ≡ plainNumbers pcf8532 (benchTransferred bench (now (bytes .entry)) .answer) ⌝ }
+// Why more chips than a bench has are refused: 16, 10.
+pub fn too_many(part: u8) -> Refusal
+    ensures { λ r. ⌜ r ≡ tooMany part ⌝ }
 {
-    if bench.count <= 8 {
-        transfer_first(bytes, bench)
+    if part <= 1 {
+        Refusal::ManyChips
+    } else {
+        Refusal::UnknownPart
+    }
+}
+
+// The same, taken or refused by 16, 10, 11, 1, 2, then 7 and 17.
+pub fn transfer_bench(part: u8, bench: Bench, bytes: &[u8]) -> BenchTransferred
+    ensures { λ r. ⌜ r ≡ benchTransferred part bench (now (bytes .entry)) ⌝ }
+    ensures { λ r. ⌜ plainNumbers (partOf part) (r .answer) ≡ plainNumbers (partOf part) (benchTransferred part bench (now (bytes .entry)) .answer) ⌝ }
+{
+    if bench.count <= 16 {
+        transfer_first(bytes, bench, part)
     } else {
         BenchTransferred {
-            answer: PlainAnswer::Refused(Refusal::ManyChips),
+            answer: PlainAnswer::Refused(too_many(part)),
             bench,
         }
     }

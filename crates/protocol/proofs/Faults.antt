@@ -12,33 +12,33 @@ use Rattle.sheet.specs.declared.Expect.{Expect}
 use Rattle.sheet.specs.declared.Expect.the-variants.{Control, One, All}
 use Rattle.sheet.specs.declared.Refusal.{Refusal}
 use Rattle.sheet.specs.declared.Check.the-variants.{Passed, Refused}
-use Rattle.sheet.specs.Parts.{pcf8532}
+use Rattle.sheet.specs.Parts.{Part}
 use Rattle.sheet.specs.Checks.{fault, faultIn}
 use Rattle.sheet.specs.Protocol as protocol
 use Rattle.protocol.specs.Listeners.{onlyData}
 
-module _ (e : Expect) (bytes : List ℕ) (i : ℕ) (h : i < length bytes) where
-  pub found : (r : Refusal) → fault pcf8532 e i (getD bytes i 0) ≡ Refused r → faultIn pcf8532 e i (drop i bytes) ≡ Refused r
+module _ (K : Part) (e : Expect) (bytes : List ℕ) (i : ℕ) (h : i < length bytes) where
+  pub found : (r : Refusal) → fault K e i (getD bytes i 0) ≡ Refused r → faultIn K e i (drop i bytes) ≡ Refused r
   unfolding faultIn
   found r t = rw (next bytes i h, t)
 
-  pub go-on : fault pcf8532 e i (getD bytes i 0) ≡ Passed
-      → faultIn pcf8532 e i (drop i bytes) ≡ faultIn pcf8532 (protocol.next e (getD bytes i 0)) (i + 1) (drop (i + 1) bytes)
+  pub go-on : fault K e i (getD bytes i 0) ≡ Passed
+      → faultIn K e i (drop i bytes) ≡ faultIn K (protocol.next e (getD bytes i 0)) (i + 1) (drop (i + 1) bytes)
   unfolding faultIn
   go-on t = rw (next bytes i h, t, add-one i)
 
 -- data has no fault
-in-data : (i : ℕ) (xs : List ℕ) → faultIn pcf8532 (All Kind.Data) i xs ≡ Passed
+in-data : (K : Part) (i : ℕ) (xs : List ℕ) → faultIn K (All Kind.Data) i xs ≡ Passed
 unfolding faultIn
-in-data i [] = refl
-in-data i (x ∷ xs) = in-data (suc i) xs
+in-data K i [] = refl
+in-data K i (x ∷ xs) = in-data K (suc i) xs
 
-pub in-run : (e : Expect) (i : ℕ) (xs : List ℕ) → onlyData e ≡ true → faultIn pcf8532 e i xs ≡ Passed
-in-run Control i xs t = absurd (false≢true t)
-in-run (One k) i xs t = absurd (false≢true t)
-in-run (All Kind.Command) i xs t = absurd (false≢true t)
-in-run (All Kind.Data) i xs t = in-data i xs
+pub in-run : (K : Part) (e : Expect) (i : ℕ) (xs : List ℕ) → onlyData e ≡ true → faultIn K e i xs ≡ Passed
+in-run K Control i xs t = absurd (false≢true t)
+in-run K (One k) i xs t = absurd (false≢true t)
+in-run K (All Kind.Command) i xs t = absurd (false≢true t)
+in-run K (All Kind.Data) i xs t = in-data K i xs
 
-pub all-looked : (e : Expect) (bytes : List ℕ) (i : ℕ) → length bytes ≤ i → faultIn pcf8532 e i (drop i bytes) ≡ Passed
+pub all-looked : (K : Part) (e : Expect) (bytes : List ℕ) (i : ℕ) → length bytes ≤ i → faultIn K e i (drop i bytes) ≡ Passed
 unfolding faultIn
-all-looked e bytes i h = rw (drop-of-length-le bytes h)
+all-looked K e bytes i h = rw (drop-of-length-le bytes h)

@@ -8,7 +8,7 @@ use Rattle.sheet.specs.declared.Counts.{Counts}
 use Rattle.sheet.specs.declared.Kind.{Kind}
 use Rattle.sheet.specs.declared.Expect.{Expect}
 use Rattle.sheet.specs.declared.Expect.the-variants.{Control, One, All}
-use Rattle.sheet.specs.Parts.{pcf8532}
+use Rattle.sheet.specs.Parts.{Part}
 use Rattle.sheet.specs.Registers.{inRange}
 use Rattle.sheet.specs.Commands.{obeyed}
 use Rattle.sheet.specs.Protocol.{next}
@@ -24,13 +24,13 @@ listenerOf e g = record { expect = e; registers = g .registers; counts = g .coun
 
 -- ---- a byte that is no data
 
-abbrev pub obeyedBy : Expect → ℕ → Registers → Registers
-obeyedBy Control x r = r
-obeyedBy (One k) x r = obeyed r (pcf8532 .command x)
-obeyedBy (All k) x r = obeyed r (pcf8532 .command x)
+abbrev pub obeyedBy : Part → Expect → ℕ → Registers → Registers
+obeyedBy K Control x r = r
+obeyedBy K (One k) x r = obeyed r (K .command x)
+obeyedBy K (All k) x r = obeyed r (K .command x)
 
-abbrev pub stepped : Listener → ℕ → Listener
-stepped l x = record { expect = next (l .expect) x; registers = obeyedBy (l .expect) x (l .registers); counts = oneAcknowledged (l .counts); last = l .last }
+abbrev pub stepped : Part → Listener → ℕ → Listener
+stepped K l x = record { expect = next (l .expect) x; registers = obeyedBy K (l .expect) x (l .registers); counts = oneAcknowledged (l .counts); last = l .last }
 
 -- ---- data
 
@@ -50,12 +50,12 @@ onlyData (All Kind.Command) = false
 onlyData (All Kind.Data) = true
 
 -- a run of n data bytes, where size columns are there; what follows data does not depend on it
-abbrev pub ran : Listener → ℕ → ℕ → Listener
-ran l n size = record {
+abbrev pub ran : Part → Listener → ℕ → ℕ → Listener
+ran K l n size = record {
   expect = next (l .expect) 0;
-  registers = movedBy pcf8532 n (l .registers);
-  counts = countedBy pcf8532 (l .registers) n size (l .counts);
-  last = lastBy pcf8532 (l .registers) n size (l .last);
+  registers = movedBy K n (l .registers);
+  counts = countedBy K (l .registers) n size (l .counts);
+  last = lastBy K (l .registers) n size (l .last);
 }
 
 -- counts that have room for n data bytes more
@@ -73,8 +73,8 @@ pub record Placed (v m n : ℕ) : Type 0 where
   pub position : v < 65536
   pub short : n < 65536
 
-pub record Runs (l : Listener) (n : ℕ) : Type 0 where
-  pub range : inRange pcf8532 (l .registers) ≡ true
+pub record Runs (K : Part) (l : Listener) (n : ℕ) : Type 0 where
+  pub range : inRange K (l .registers) ≡ true
   pub short : n < 65536
   pub acknowledged : l .counts .acknowledged < 2 ^ 32
   pub stored : l .counts .stored < 2 ^ 32

@@ -10,7 +10,7 @@ ghost use mathlib.Core.Path.{_≡_};
 ghost use mathlib.Core.List.{[]};
 ghost use Prim.Native.Nat.{_<_, _^_};
 ghost use lib.ListN.{drop};
-ghost use Rattle.sheet.specs.Parts.{pcf8532};
+ghost use Rattle.sheet.specs.Parts.{partOf};
 ghost use Rattle.sheet.specs.Protocol.{kindOf, controlOf, next};
 ghost use Rattle.sheet.specs.Checks.{faultOf, fault, faultIn};
 ghost use Rattle.sheet.specs.Data.{acknowledger};
@@ -57,22 +57,25 @@ pub fn follow(expect: Expect, byte: u8) -> Expect
 // ---- the first fault
 
 // The fault of a byte of a kind, at place i.
-fn fault_of(kind: Kind, i: usize, byte: u8) -> Check
-    ensures { λ r. ⌜ r ≡ faultOf pcf8532 kind i byte ⌝ }
+fn fault_of(part: u8, kind: Kind, i: usize, byte: u8) -> Check
+    ensures { λ r. ⌜ r ≡ faultOf (partOf part) kind i byte ⌝ }
 {
     match kind {
-        Kind::Command => checks::unless(command::is_defined(byte), Refusal::UndefinedCommand(i)),
+        Kind::Command => checks::unless(
+            command::is_defined(part, byte),
+            Refusal::UndefinedCommand(i),
+        ),
         Kind::Data => Check::Passed,
     }
 }
 
-fn fault(expect: Expect, i: usize, byte: u8) -> Check
-    ensures { λ r. ⌜ r ≡ fault pcf8532 expect i byte ⌝ }
+fn fault(part: u8, expect: Expect, i: usize, byte: u8) -> Check
+    ensures { λ r. ⌜ r ≡ fault (partOf part) expect i byte ⌝ }
 {
     match expect {
         Expect::Control => checks::unless(byte % 64 == 0, Refusal::StrayBits(i)),
-        Expect::One(kind) => fault_of(kind, i, byte),
-        Expect::All(kind) => fault_of(kind, i, byte),
+        Expect::One(kind) => fault_of(part, kind, i, byte),
+        Expect::All(kind) => fault_of(part, kind, i, byte),
     }
 }
 
@@ -91,14 +94,14 @@ fn only_data(expect: Expect) -> bool
 }
 
 // The first fault after the address byte. Nothing is changed.
-pub fn first_fault(bytes: &[u8]) -> Check
-    ensures { λ r. ⌜ r ≡ faultIn pcf8532 Expect.Control 1 (drop 1 (now (bytes .entry))) ⌝ }
+pub fn first_fault(part: u8, bytes: &[u8]) -> Check
+    ensures { λ r. ⌜ r ≡ faultIn (partOf part) Expect.Control 1 (drop 1 (now (bytes .entry))) ⌝ }
 {
     let mut expect = Expect::Control;
     let mut i: usize = 1;
     while i < bytes.len() {
         let byte = bytes[i];
-        if let Check::Refused(refusal) = fault(expect, i, byte) {
+        if let Check::Refused(refusal) = fault(part, expect, i, byte) {
             return Check::Refused(refusal);
         }
         expect = follow(expect, byte);
@@ -164,13 +167,13 @@ fn acknowledged(mut counts: Counts) -> Counts
 }
 
 // The registers after a byte that is no data: a command is obeyed.
-fn obeyed_by(expect: Expect, byte: u8, registers: Registers) -> Registers
-    ensures { λ r. ⌜ r ≡ obeyedBy expect byte registers ⌝ }
+fn obeyed_by(part: u8, expect: Expect, byte: u8, registers: Registers) -> Registers
+    ensures { λ r. ⌜ r ≡ obeyedBy (partOf part) expect byte registers ⌝ }
 {
     match expect {
         Expect::Control => registers,
-        Expect::One(_) => command::obey(registers, byte),
-        Expect::All(_) => command::obey(registers, byte),
+        Expect::One(_) => command::obey(part, registers, byte),
+        Expect::All(_) => command::obey(part, registers, byte),
     }
 }
 
@@ -199,36 +202,43 @@ fn counted(counts: Counts, v: usize, size: usize, m: usize, n: usize) -> Counts
 }
 
 // Who acknowledges a data byte from column v on: the chip that has its last column.
-fn acknowledger(v: usize, size: usize, m: usize) -> Acknowledger
+fn acknowledger(part: u8, v: usize, size: usize, m: usize) -> Acknowledger
     requires { ⌜ (0 < m) × (v < 2 ^ 32) ⌝ }
-    ensures { λ r. ⌜ r ≡ acknowledger pcf8532 m v size ⌝ }
+    ensures { λ r. ⌜ r ≡ acknowledger (partOf part) m v size ⌝ }
 {
     let column = v + 7 / m;
     if column < size {
-        Acknowledger::Subaddress(column / 160)
+        Acknowledger::Subaddress(arithmetic::chip_of(part, column))
     } else {
         Acknowledger::None
     }
 }
 
 // Who acknowledges the last of n data bytes from column v on; of none, who did before.
-fn last_of(earlier: Acknowledger, v: usize, size: usize, m: usize, n: usize) -> Acknowledger
+fn last_of(
+    part: u8,
+    earlier: Acknowledger,
+    v: usize,
+    size: usize,
+    m: usize,
+    n: usize,
+) -> Acknowledger
     requires { ⌜ Placed v m n ⌝ }
-    ensures { λ r. ⌜ r ≡ lastRun pcf8532 n m v size earlier ⌝ }
+    ensures { λ r. ⌜ r ≡ lastRun (partOf part) n m v size earlier ⌝ }
 {
     if n == 0 {
         earlier
     } else {
         let begins = v + arithmetic::width(m) * (n - 1);
-        acknowledger(begins, size, m)
+        acknowledger(part, begins, size, m)
     }
 }
 
 impl Listener {
     // After a byte that is no data: a control byte, or a command.
-    pub fn step(self, byte: u8) -> Listener
+    pub fn step(self, part: u8, byte: u8) -> Listener
         requires { ⌜ self .counts .acknowledged < 2 ^ 32 ⌝ }
-        ensures { λ r. ⌜ r ≡ stepped self byte ⌝ }
+        ensures { λ r. ⌜ r ≡ stepped (partOf part) self byte ⌝ }
     {
         let expect = self.expect;
         let registers = self.registers;
@@ -236,29 +246,29 @@ impl Listener {
         let last = self.last;
         Listener {
             expect: follow(expect, byte),
-            registers: obeyed_by(expect, byte, registers),
+            registers: obeyed_by(part, expect, byte, registers),
             counts: acknowledged(counts),
             last,
         }
     }
 
     // After a run of n data bytes, `size` columns being there. What follows them does not depend on them.
-    pub fn run(self, n: usize, size: usize) -> Listener
-        requires { ⌜ Runs self n ⌝ }
-        ensures { λ r. ⌜ r ≡ ran self n size ⌝ }
+    pub fn run(self, part: u8, n: usize, size: usize) -> Listener
+        requires { ⌜ Runs (partOf part) self n ⌝ }
+        ensures { λ r. ⌜ r ≡ ran (partOf part) self n size ⌝ }
     {
         let expect = self.expect;
         let registers = self.registers;
         let counts = self.counts;
         let last = self.last;
         let m = arithmetic::backplanes(registers);
-        let v = arithmetic::position(registers);
+        let v = arithmetic::position(part, registers);
         let after = v + arithmetic::width(m) * n;
         Listener {
             expect: follow(expect, 0),
-            registers: arithmetic::at_position(registers, after),
+            registers: arithmetic::at_position(part, registers, after),
             counts: counted(counts, v, size, m, n),
-            last: last_of(last, v, size, m, n),
+            last: last_of(part, last, v, size, m, n),
         }
     }
 }

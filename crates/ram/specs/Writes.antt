@@ -6,7 +6,7 @@ use mathlib.Core.List.{List}
 use lib.ListN.{length}
 use Rattle.sheet.specs.declared.Registers.{Registers}
 use Rattle.sheet.specs.declared.Check.the-variants.{Passed}
-use Rattle.sheet.specs.Parts.{pcf8532}
+use Rattle.sheet.specs.Parts.{Part}
 use Rattle.sheet.specs.Registers.{inRange}
 use Rattle.sheet.specs.Checks.{overIn}
 use Rattle.sheet.specs.Data.{widthOf}
@@ -37,7 +37,7 @@ pub record Run (ram : List ℕ) (v m bank : ℕ) (bytes : List ℕ) : Type 0 whe
   pub nibbles : overIn 0 ram ≡ Passed
 
 -- from where the registers point
-pub record Writable (ram : List ℕ) (r : Registers) (bytes : List ℕ) : Type 0 where
-  pub range : inRange pcf8532 r ≡ true
+pub record Writable (K : Part) (ram : List ℕ) (r : Registers) (bytes : List ℕ) : Type 0 where
+  pub range : inRange K r ≡ true
   pub short : length bytes < 65536
   pub nibbles : overIn 0 ram ≡ Passed

@@ -5,7 +5,7 @@ ghost use mathlib.Core.Path.{_≡_};
 ghost use Prim.Native.Nat.{_+_, _-_, _*_, _≤_, _<_, _^_};
 ghost use lib.ListN.{length};
 ghost use Rattle.sheet.specs.declared.Check.the-variants.{Passed};
-ghost use Rattle.sheet.specs.Parts.{pcf8532};
+ghost use Rattle.sheet.specs.Parts.{partOf};
 ghost use Rattle.sheet.specs.Registers.{bankRow};
 ghost use Rattle.sheet.specs.Checks.{overIn};
 ghost use Rattle.sheet.specs.Data.{changed, withRow, putBits};
@@ -148,11 +148,11 @@ fn put_run(ram: &mut [u8], v: usize, m: usize, bank: u8, bytes: &[u8])
 }
 
 // Writes a run of data bytes from where the registers point, in their mode and input bank.
-pub fn write(ram: &mut [u8], registers: Registers, bytes: &[u8])
-    requires { ⌜ Writable (now ram) registers (now bytes) ⌝ }
-    ensures { λ _. ⌜ now (ram .exit) ≡ writtenBy pcf8532 registers (now (bytes .entry)) (now (ram .entry)) ⌝ }
+pub fn write(part: u8, ram: &mut [u8], registers: Registers, bytes: &[u8])
+    requires { ⌜ Writable (partOf part) (now ram) registers (now bytes) ⌝ }
+    ensures { λ _. ⌜ now (ram .exit) ≡ writtenBy (partOf part) registers (now (bytes .entry)) (now (ram .entry)) ⌝ }
 {
     let m = arithmetic::backplanes(registers);
-    let v = arithmetic::position(registers);
+    let v = arithmetic::position(part, registers);
     put_run(ram, v, m, registers.i, bytes);
 }

@@ -21,7 +21,7 @@ pub fn chips_of(log: &[u8]) -> Chips
     }
 }
 
-// 14, 12, 3.
+// 14, 12, 3. Logs are the PCF8532's.
 pub fn check_head(log: &[u8]) -> Check
     ensures { λ r. ⌜ r ≡ checkHead (now (log .entry)) ⌝ }
 {
@@ -30,7 +30,7 @@ pub fn check_head(log: &[u8]) -> Check
     }
     let version = checks::byte_at(log, 0);
     if (3 <= log.len()) & ((version == 1) | (version == 2)) {
-        checks::check_chips(chips_of(log))
+        checks::check_chips(sheet::PCF8532, chips_of(log))
     } else {
         Check::Refused(Refusal::LogHead)
     }

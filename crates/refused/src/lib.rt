@@ -7,25 +7,25 @@ use sheet::Refusal;
 ghost use mathlib.Core.Path.{_≡_};
 ghost use mathlib.Core.Bool.{_&&_};
 ghost use lib.ListN.{getD};
-ghost use Rattle.sheet.specs.Parts.{pcf8532};
+ghost use Rattle.sheet.specs.Parts.{partOf};
 ghost use Rattle.sheet.specs.Registers.{inRange};
 ghost use Rattle.sheet.specs.Protocol.{heardBy};
-ghost use Rattle.sheet.specs.Checks.{checkRam, checkBytes, checkState, checkPowerOn, checkTransfer, checkPicture};
+ghost use Rattle.sheet.specs.Checks.{orElse, checkPart, checkChips, checkRam, checkBytes, checkState, checkPowerOn, checkTransfer, checkPicture};
 
 // Whether every register of both groups is in range.
-fn registers_fit(registers: Both) -> bool
-    ensures { λ r. ⌜ r ≡ (inRange pcf8532 (registers .zero) && inRange pcf8532 (registers .one)) ⌝ }
+fn registers_fit(part: u8, registers: Both) -> bool
+    ensures { λ r. ⌜ r ≡ (inRange (partOf part) (registers .zero) && inRange (partOf part) (registers .one)) ⌝ }
 {
     let zero = registers.zero;
     let one = registers.one;
-    command::in_range(zero) & command::in_range(one)
+    command::in_range(part, zero) & command::in_range(part, one)
 }
 
 // The RAM: 4, 5.
-fn check_ram(chips: Chips, ram: &[u8]) -> Check
-    ensures { λ r. ⌜ r ≡ checkRam pcf8532 chips (now (ram .entry)) ⌝ }
+fn check_ram(part: u8, chips: Chips, ram: &[u8]) -> Check
+    ensures { λ r. ⌜ r ≡ checkRam (partOf part) chips (now (ram .entry)) ⌝ }
 {
-    let size = 160 * (chips.zero as usize + chips.one as usize);
+    let size = arithmetic::columns_in(part, chips.zero as u16 + chips.one as u16);
     if ram.len() == size {
         checks::first_over(ram)
     } else {
@@ -33,25 +33,35 @@ fn check_ram(chips: Chips, ram: &[u8]) -> Check
     }
 }
 
-// A power-on: 3, 4, 5.
-pub fn check_power_on(chips: Chips, ram: &[u8]) -> Check
-    ensures { λ r. ⌜ r ≡ checkPowerOn pcf8532 chips (now (ram .entry)) ⌝ }
+// What every call begins with: 16, 3.
+fn check_bus(part: u8, chips: Chips) -> Check
+    ensures { λ r. ⌜ r ≡ orElse (checkPart part) (checkChips (partOf part) chips) ⌝ }
 {
-    match checks::check_chips(chips) {
+    match checks::check_part(part) {
         Check::Refused(refusal) => Check::Refused(refusal),
-        Check::Passed => check_ram(chips, ram),
+        Check::Passed => checks::check_chips(part, chips),
     }
 }
 
-// What every other call begins with: 3, 6, 4, 5.
-fn check_state(chips: Chips, registers: Both, ram: &[u8]) -> Check
-    ensures { λ r. ⌜ r ≡ checkState pcf8532 chips registers (now (ram .entry)) ⌝ }
+// A power-on: 16, 3, 4, 5.
+pub fn check_power_on(part: u8, chips: Chips, ram: &[u8]) -> Check
+    ensures { λ r. ⌜ r ≡ orElse (checkPart part) (checkPowerOn (partOf part) chips (now (ram .entry))) ⌝ }
 {
-    match checks::check_chips(chips) {
+    match check_bus(part, chips) {
+        Check::Refused(refusal) => Check::Refused(refusal),
+        Check::Passed => check_ram(part, chips, ram),
+    }
+}
+
+// And every call but a power-on: 16, 3, 6, 4, 5.
+fn check_state(part: u8, chips: Chips, registers: Both, ram: &[u8]) -> Check
+    ensures { λ r. ⌜ r ≡ orElse (checkPart part) (checkState (partOf part) chips registers (now (ram .entry))) ⌝ }
+{
+    match check_bus(part, chips) {
         Check::Refused(refusal) => Check::Refused(refusal),
         Check::Passed => {
-            if registers_fit(registers) {
-                check_ram(chips, ram)
+            if registers_fit(part, registers) {
+                check_ram(part, chips, ram)
             } else {
                 Check::Refused(Refusal::Register)
             }
@@ -59,31 +69,32 @@ fn check_state(chips: Chips, registers: Both, ram: &[u8]) -> Check
     }
 }
 
-// The bytes of a transfer that a chip hears: 7.
-fn check_bytes(chips: Chips, bytes: &[u8]) -> Check
-    ensures { λ r. ⌜ r ≡ checkBytes pcf8532 (heardBy chips (getD (now (bytes .entry)) 0 0)) (now (bytes .entry)) ⌝ }
+// The bytes of a transfer that a chip hears: 7 and 17.
+fn check_bytes(part: u8, chips: Chips, bytes: &[u8]) -> Check
+    ensures { λ r. ⌜ r ≡ checkBytes (partOf part) (heardBy chips (getD (now (bytes .entry)) 0 0)) (now (bytes .entry)) ⌝ }
 {
     match groups::heard_by(chips, checks::byte_at(bytes, 0)) {
-        Addressed::To(_) => protocol::first_fault(bytes),
+        Addressed::To(_) => protocol::first_fault(part, bytes),
         Addressed::Nobody => Check::Passed,
     }
 }
 
-// A transfer: 3, 6, 4, 5, 1, 2, then 7 and 17.
-pub fn check_transfer(chips: Chips, registers: Both, ram: &[u8], bytes: &[u8]) -> Check
-    ensures { λ r. ⌜ r ≡ checkTransfer pcf8532 chips registers (now (ram .entry)) (now (bytes .entry)) ⌝ }
+// A transfer: 16, 3, 6, 4, 5, 1, 2, then 7 and 17.
+pub fn check_transfer(part: u8, chips: Chips, registers: Both, ram: &[u8], bytes: &[u8]) -> Check
+    ensures { λ r. ⌜ r ≡ orElse (checkPart part) (checkTransfer (partOf part) chips registers (now (ram .entry)) (now (bytes .entry))) ⌝ }
 {
-    match check_state(chips, registers, ram) {
+    match check_state(part, chips, registers, ram) {
         Check::Refused(refusal) => Check::Refused(refusal),
         Check::Passed => match checks::check_length(bytes.len()) {
             Check::Refused(refusal) => Check::Refused(refusal),
-            Check::Passed => check_bytes(chips, bytes),
+            Check::Passed => check_bytes(part, chips, bytes),
         },
     }
 }
 
-// A picture into a buffer of the given size: 3, 6, 4, 5, 8, 9.
+// A picture into a buffer of the given size: 16, 3, 6, 4, 5, 8, 9.
 pub fn check_picture(
+    part: u8,
     chips: Chips,
     registers: Both,
     ram: &[u8],
@@ -91,13 +102,13 @@ pub fn check_picture(
     phase: u8,
     size: usize,
 ) -> Check
-    ensures { λ r. ⌜ r ≡ checkPicture pcf8532 chips registers (now (ram .entry)) group phase size ⌝ }
+    ensures { λ r. ⌜ r ≡ orElse (checkPart part) (checkPicture (partOf part) chips registers (now (ram .entry)) group phase size) ⌝ }
 {
-    match check_state(chips, registers, ram) {
+    match check_state(part, chips, registers, ram) {
         Check::Refused(refusal) => Check::Refused(refusal),
         Check::Passed => {
             if (group < 2) & (phase < 2) {
-                let wanted = 160 * (groups::chips_in(group, chips) as usize);
+                let wanted = arithmetic::columns_in(part, groups::chips_in(group, chips) as u16);
                 checks::unless(size == wanted, Refusal::OutputLength)
             } else {
                 Check::Refused(Refusal::GroupOrPhase)

@@ -1,6 +1,6 @@
 -- Demand 3, stated: "Chips 0 upwards of one slave address, powered on together, followed one by one, hold, acknowledge and show after any
 -- sequence of accepted transfers what one long RAM does." Proved in `agreement` for any part K
--- with a column whose commands keep P and A (`Keeps`); that the PCF8532's do is shown there too.
+-- with a column whose commands keep P and A (`Keeps`), which the commands of both parts are shown to do.
 use Prim.Native.Nat.{ℕ, zero, suc, _+_, _*_, _<_}
 use mathlib.Core.Path.{_≡_}
 use mathlib.Core.Bool.{true, cond}
@@ -22,7 +22,7 @@ use Rattle.sheet.specs.Protocol.{chipsIn}
 use Rattle.sheet.specs.Checks.{checkState}
 use Rattle.sheet.specs.Pictures.{Seen}
 use Rattle.sheet.specs.Long.{State, stateOf, registersOf, startOf, powerOnCall, transferCall, pictureCall, stateAfter, stateAfterAll}
-use Rattle.sheet.specs.Plain.{chipPowerOn, chipPictureCall, plainCall}
+use Rattle.sheet.specs.Plain.{ownColumns, chipPowerOn, chipPictureCall, plainCall}
 
 -- ---- the chips of a long state
 
@@ -69,6 +69,11 @@ plainAnswers K cs (t ∷ ts) = plainCall K cs t .answer ∷ plainAnswers K (plai
 -- a state that no call refuses
 abbrev pub Valid : Part → Chips → State → Type 0
 Valid K n s = checkState K n (s .registers) (s .ram) ≡ Passed
+
+-- chips whose registers are in range
+abbrev pub AllIn : Part → List Chip → Type 0
+AllIn K [] = Unit {0}
+AllIn K (c ∷ cs) = (inRange K (c .registers) ≡ true) × AllIn K cs
 
 -- what is asked of the commands: P stays below the columns and A at most at the limit
 abbrev pub Keeps : Part → Type 0
@@ -128,3 +133,24 @@ pub record Demand3 (K : Part) : Type 1 where
 -- of any part with a column, wherever its commands keep the ranges. A state with more chips than the limit is not valid
 abbrev pub Claim : Type 1
 Claim = (K : Part) → 0 < K .columns → Keeps K → Demand3 K
+
+-- ---- what stands behind a part's columns in a chip's array (paper 02, request 5) is neither checked nor read nor changed
+
+-- the chip without it
+abbrev pub trimmed : Part → Chip → Chip
+trimmed K c = record { columns = ownColumns K c; sa0 = c .sa0; subaddress = c .subaddress; registers = c .registers }
+
+abbrev pub pastColumns : Part → Chip → List ℕ
+pastColumns K c = drop (K .columns) (c .columns)
+
+-- of a transfer to any list of chips: the answer and the columns are those of the chips without it, and it stays
+pub record PastStays (K : Part) (cs : List Chip) (bytes : List ℕ) : Type 0 where
+  pub answer : plainCall K cs bytes .answer ≡ plainCall K (map (trimmed K) cs) bytes .answer
+  pub own : map (trimmed K) (plainCall K cs bytes .chips) ≡ plainCall K (map (trimmed K) cs) bytes .chips
+  pub past : map (pastColumns K) (plainCall K cs bytes .chips) ≡ map (pastColumns K) cs
+
+-- of one chip's power-on and picture
+pub record PastUnread (K : Part) (c : Chip) : Type 0 where
+  pub power-on : chipPowerOn K c .check ≡ chipPowerOn K (trimmed K c) .check
+  pub stays : chipPowerOn K c .chip .columns ≡ c .columns
+  pub picture : (phase : ℕ) (out : List ℕ) → chipPictureCall K c phase out ≡ chipPictureCall K (trimmed K c) phase out

@@ -1,4 +1,4 @@
--- Which calls are refused, and in which order (paper 01, "Refusal numbers").
+-- Which calls are refused, and in which order (paper 01, "Refusal numbers"). 16 comes before them, in the calls by a part's number.
 use Prim.Native.Nat.{ℕ, suc, _+_, _*_, _%_}
 use mathlib.Core.Bool.{Bool, cond, _&&_}
 use mathlib.Core.List.{List, [], _∷_}
@@ -12,7 +12,7 @@ use Rattle.sheet.specs.declared.Kind.{Kind}
 use Rattle.sheet.specs.declared.Expect.{Expect}
 use Rattle.sheet.specs.declared.Expect.the-variants.{Control, One, All}
 use Rattle.sheet.specs.declared.Refusal.{Refusal}
-use Rattle.sheet.specs.declared.Refusal.the-variants.{EmptyTransfer, LongTransfer, ChipCount, RamLength, RamByte, Register, UndefinedCommand, GroupOrPhase, OutputLength, StrayBits}
+use Rattle.sheet.specs.declared.Refusal.the-variants.{EmptyTransfer, LongTransfer, ChipCount, RamLength, RamByte, Register, UndefinedCommand, GroupOrPhase, OutputLength, UnknownPart, StrayBits}
 use Rattle.sheet.specs.declared.Check.{Check}
 use Rattle.sheet.specs.declared.Check.the-variants.{Passed, Refused}
 use Rattle.sheet.specs.Parts.{Part}
@@ -33,6 +33,10 @@ orElse (Refused r) next = Refused r
 abbrev pub passed : Check → Bool
 passed Passed = Bool.true
 passed (Refused r) = Bool.false
+
+-- 16: the parts are 0 and 1 (paper 02, request 5)
+unfoldable pub checkPart : ℕ → Check
+checkPart part = unless (leb part 1) UnknownPart
 
 -- 3
 unfoldable pub checkChips : Part → Chips → Check

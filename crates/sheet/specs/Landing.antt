@@ -7,7 +7,7 @@ use lib.ListN.{getD, replicate}
 use Rattle.sheet.specs.declared.Chip.{Chip}
 use Rattle.sheet.specs.declared.Expect.the-variants.{Control}
 use Rattle.sheet.specs.Registers.{powerOn, backplanes, bankRow}
-use Rattle.sheet.specs.Parts.{within, commandIn, commandOf, pcf8532}
+use Rattle.sheet.specs.Parts.{within, commandIn, pcf8532}
 use Rattle.sheet.specs.Protocol.{addressOf, controlOf}
 use Rattle.sheet.specs.Long.{begun, dataByte, heard}
 use Rattle.sheet.specs.Plain.{begunBy, putRows, afterColumn, afterColumns, chipData, acknowledgesData, plainHeard}
@@ -24,7 +24,7 @@ abbrev pub chipOf : ℕ → ℕ → Chip
 chipOf i fill = record { columns = replicate 160 fill; sa0 = 0; subaddress = i; registers = powerOn }
 
 abbrev pub chipOver : List ℕ → ℕ → ℕ → List ℕ
-chipOver bytes i fill = chipColumns (plainHeard pcf8532 (addressOf 0) Control bytes (begunBy 0 (chipOf i fill ∷ [])) .chips)
+chipOver bytes i fill = chipColumns pcf8532 (plainHeard pcf8532 (addressOf 0) Control bytes (begunBy 0 (chipOf i fill ∷ [])) .chips)
 
 -- row q of column c is the same in both just if a bit lands on it
 abbrev pub just : List ℕ → List ℕ → ℕ → ℕ → Bool → Bool
@@ -50,5 +50,5 @@ exact =
     && exactFrom 4 158 (0x80 ∷ 0x09 ∷ 0x80 ∷ 0x4F ∷ 0x40 ∷ 0xA5 ∷ [])))
 
 pub landing : T exact
-unfolding bitsOn heardOn rowsOn columnsOn chipHeardOn heard dataByte plainHeard chipData afterColumn afterColumns putRows acknowledgesData advanced position atPosition commandOf commandIn within controlOf backplanes bankRow putBits changed withRow storedBits counted
+unfolding bitsOn heardOn rowsOn columnsOn chipHeardOn heard dataByte plainHeard chipData afterColumn afterColumns putRows acknowledgesData advanced position atPosition commandIn within controlOf backplanes bankRow putBits changed withRow storedBits counted
 landing = tt

@@ -8,7 +8,7 @@ use Rattle.sheet.specs.declared.Chips.{Chips}
 use Rattle.sheet.specs.declared.Chip.{Chip}
 use Rattle.sheet.specs.Refusals.{numbers, plainNumbers}
 use Rattle.sheet.specs.Registers.{powerOn, atPlace, inRange, backplanes, bankRow}
-use Rattle.sheet.specs.Parts.{within, commandIn, commandOf, pcf8532}
+use Rattle.sheet.specs.Parts.{within, commandIn, pcf8532}
 use Rattle.sheet.specs.Protocol.{heardBy, controlOf}
 use Rattle.sheet.specs.Checks.{checkChips, checkRegisters, overIn, checkRam, checkLength, faultIn, checkState, checkTransfer}
 use Rattle.sheet.specs.Long.{State, stateOf, bothOn, heard, dataByte, transferCall, stateAfter}
@@ -93,5 +93,5 @@ unequal =
     && (says (chip 0 0 1 ∷ chip 0 3 3 ∷ []) 3 && (says (chip 1 0 0 ∷ chip 0 1 1 ∷ chip 0 1 1 ∷ []) 1 && (says (chip 0 0 1 ∷ chip 0 1 0 ∷ []) 4 && says [] 4)))))
 
 pub last : T (every table && unequal)
-unfolding plainCall checkPlain misfitIn chipFits plainHeard groupChips chipData afterColumn afterColumns putRows advanced acknowledgesData smallest transferCall checkTransfer checkState checkChips checkRegisters checkRam checkLength overIn faultIn heardBy heard dataByte controlOf commandOf commandIn within inRange backplanes bankRow position atPosition putBits changed withRow storedBits counted acknowledger
+unfolding plainCall checkPlain misfitIn chipFits plainHeard groupChips chipData afterColumn afterColumns putRows advanced acknowledgesData smallest transferCall checkTransfer checkState checkChips checkRegisters checkRam checkLength overIn faultIn heardBy heard dataByte controlOf commandIn within inRange backplanes bankRow position atPosition putBits changed withRow storedBits counted acknowledger
 last = tt

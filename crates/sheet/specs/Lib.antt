@@ -17,6 +17,7 @@ pub mod Agree
 pub mod Lands
 pub mod Pointing
 pub mod Starred
+pub mod Smaller
 pub mod Blinking
 pub mod Stray
 pub mod Last

@@ -18,12 +18,12 @@ use Rattle.sheet.specs.declared.Check.{Check}
 use Rattle.sheet.specs.declared.Answer.{Answer}
 use Rattle.sheet.specs.declared.Transferred.{Transferred}
 use Rattle.sheet.specs.declared.PowerOn.{PowerOn}
-use Rattle.sheet.specs.Parts.{Part}
+use Rattle.sheet.specs.Parts.{Part, partOf}
 use Rattle.sheet.specs.Registers.{backplanes, bankRow, powerOn}
 use Rattle.sheet.specs.Commands.{obeyed}
 use Rattle.sheet.specs.Protocol.{heardBy, next, chipsIn}
-use Rattle.sheet.specs.Checks.{checkPowerOn, checkTransfer, checkPicture}
-use Rattle.sheet.specs.Pictures.{pictureOf, Seen, seen}
+use Rattle.sheet.specs.Checks.{orElse, checkPart, checkPowerOn, checkTransfer, checkPicture}
+use Rattle.sheet.specs.Pictures.{pictureOf, Seen, seenBy, seen}
 use Rattle.sheet.specs.Places.{position, atPosition}
 use Rattle.sheet.specs.Data.{putBits, widthOf, counted, acknowledger}
 
@@ -156,3 +156,14 @@ stateAfterAll K n s (t ∷ ts) = stateAfterAll K n (stateAfter K n s t) ts
 unfoldable pub pictureCall : Part → Chips → Both → List ℕ → ℕ → ℕ → List ℕ → Seen
 pictureCall K n r ram group phase out =
     seen (checkPicture K n r ram group phase (length out)) (pictureOf (registersOf group r) phase (columnsOf K n group ram)) out
+
+-- ---- the calls by a part's number: 16 first (paper 02, request 5)
+
+unfoldable pub powerOnPart : ℕ → Chips → List ℕ → PowerOn
+powerOnPart part n ram = record { check = orElse (checkPart part) (powerOnCall (partOf part) n ram .check); registers = bothOn }
+
+unfoldable pub transferPart : ℕ → Chips → Both → List ℕ → List ℕ → After
+transferPart part n r ram bytes = answered (checkPart part) r ram (transferCall (partOf part) n r ram bytes)
+
+unfoldable pub picturePart : ℕ → Chips → Both → List ℕ → ℕ → ℕ → List ℕ → Seen
+picturePart part n r ram group phase out = seenBy (checkPart part) (pictureCall (partOf part) n r ram group phase out) out

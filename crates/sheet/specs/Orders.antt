@@ -2,19 +2,19 @@
 use Prim.Native.Nat.{ℕ, zero, suc, _+_}
 use mathlib.Core.Bool.{Bool, true, false, cond, _&&_}
 use mathlib.Core.List.{List, [], _∷_, _++_}
-use lib.Dec.{T}
+use lib.Dec.{T, eqb}
 use lib.ListN.{take, replicate}
 use Rattle.sheet.specs.declared.Both.{Both}
 use Rattle.sheet.specs.declared.Chips.{Chips}
 use Rattle.sheet.specs.declared.Chip.{Chip}
 use Rattle.sheet.specs.Refusals.{numbers, plainNumbers, pictureNumbers, checkNumbers}
 use Rattle.sheet.specs.Registers.{powerOn, inRange, backplanes, bankRow}
-use Rattle.sheet.specs.Parts.{within, commandIn, commandOf, pcf8532}
+use Rattle.sheet.specs.Parts.{within, commandIn, partOf}
 use Rattle.sheet.specs.Protocol.{heardBy, controlOf}
-use Rattle.sheet.specs.Checks.{checkChips, checkRegisters, overIn, checkRam, checkLength, faultIn, checkState, checkPowerOn, checkTransfer, checkPicture}
+use Rattle.sheet.specs.Checks.{checkPart, checkChips, checkRegisters, overIn, checkRam, checkLength, faultIn, checkState, checkPowerOn, checkTransfer, checkPicture}
 use Rattle.sheet.specs.Pictures.{shown, pictureOf, litIn}
-use Rattle.sheet.specs.Long.{heard, dataByte, powerOnCall, transferCall, pictureCall}
-use Rattle.sheet.specs.Plain.{putRows, afterColumn, afterColumns, chipData, acknowledgesData, smallest, plainHeard, chipFits, chipPowerOn, checkChipPicture, chipPictureCall, misfitIn, checkPlain, plainCall}
+use Rattle.sheet.specs.Long.{heard, dataByte, powerOnCall, transferCall, pictureCall, powerOnPart, transferPart, picturePart}
+use Rattle.sheet.specs.Plain.{putRows, afterColumn, afterColumns, chipData, acknowledgesData, smallest, plainHeard, chipFits, chipPowerOn, checkChipPicture, chipPictureCall, misfitIn, checkPlain, plainCall, chipPowerOnPart, chipPicturePart, plainPart}
 use Rattle.sheet.specs.Places.{advanced, position, atPosition}
 use Rattle.sheet.specs.Data.{putBits, changed, withRow, storedBits, counted, acknowledger}
 use Rattle.sheet.specs.Records.{readIn, recordsFrom}
@@ -53,6 +53,10 @@ is [] i = false
 is (t ∷ ts) zero = t
 is (t ∷ ts) (suc i) = is ts i
 
+-- the PCF8532, or a part that is none
+abbrev part : Bool → ℕ
+part unknown = cond unknown 2 0
+
 -- ---- the long account: two chips, or five
 
 abbrev chips : Bool → Chips
@@ -81,18 +85,18 @@ abbrev bytes : List Fault
 bytes = refusal 17 1 ∷ refusal 7 4 ∷ []
 
 abbrev state : List Fault
-state = refusal 3 0 ∷ refusal 6 0 ∷ refusal 4 0 ∷ refusal 5 2 ∷ []
+state = refusal 16 0 ∷ refusal 3 0 ∷ refusal 6 0 ∷ refusal 4 0 ∷ refusal 5 2 ∷ []
 
 abbrev sent : (Bool → List ℕ → List ℕ) → List Bool → List ℕ
-sent length f = numbers pcf8532 (transferCall pcf8532 (chips (is f 0)) (both (is f 1)) (ram (is f 0) (is f 2) (is f 3)) (length (is f 4) (commands (is f 5) (is f 6))) .result .answer)
+sent length f = numbers (partOf (part (is f 0))) (transferPart (part (is f 0)) (chips (is f 1)) (both (is f 2)) (ram (is f 1) (is f 3) (is f 4)) (length (is f 5) (commands (is f 6) (is f 7))) .result .answer)
 
 abbrev shownTo : (Bool → ℕ) → (Bool → ℕ) → List Bool → List ℕ
 shownTo group phase f =
-    pictureNumbers (pictureCall pcf8532 (chips (is f 0)) (both (is f 1)) (ram (is f 0) (is f 2) (is f 3)) (group (is f 4)) (phase (is f 4)) (replicate (cond (is f 0) 800 160 + cond (is f 5) 1 0) 0) .result)
+    pictureNumbers (picturePart (part (is f 0)) (chips (is f 1)) (both (is f 2)) (ram (is f 1) (is f 3) (is f 4)) (group (is f 5)) (phase (is f 5)) (replicate (cond (is f 1) 800 160 + cond (is f 6) 1 0) 0) .result)
 
 abbrev pub long : Bool
 long =
-    inOrder (refusal 3 0 ∷ refusal 4 0 ∷ refusal 5 2 ∷ []) (λ f. checkNumbers (powerOnCall pcf8532 (chips (is f 0)) (ram (is f 0) (is f 1) (is f 2)) .check))
+    inOrder (refusal 16 0 ∷ refusal 3 0 ∷ refusal 4 0 ∷ refusal 5 2 ∷ []) (λ f. checkNumbers (powerOnPart (part (is f 0)) (chips (is f 1)) (ram (is f 1) (is f 2) (is f 3)) .check))
     && (inOrder (state ++ (refusal 1 0 ∷ bytes)) (sent empty) && (inOrder (state ++ (refusal 2 0 ∷ bytes)) (sent over4096)
     && (inOrder (state ++ (refusal 8 0 ∷ refusal 9 0 ∷ [])) (shownTo (λ bad. cond bad 2 0) (λ bad. 0))
     && inOrder (state ++ (refusal 8 0 ∷ refusal 9 0 ∷ [])) (shownTo (λ bad. 0) (λ bad. cond bad 2 0)))))
@@ -106,15 +110,15 @@ abbrev list : Bool → Bool → List Chip
 list many misfit = chip 0 ∷ chip (cond misfit 4 1) ∷ cond many (replicate 7 (chip 2)) []
 
 abbrev called : (Bool → List ℕ → List ℕ) → List Bool → List ℕ
-called length f = plainNumbers pcf8532 (plainCall pcf8532 (list (is f 0) (is f 1)) (length (is f 2) (commands (is f 3) (is f 4))) .answer)
+called length f = plainNumbers (partOf (part (is f 0))) (plainPart (part (is f 0)) (list (is f 1) (is f 2)) (length (is f 3) (commands (is f 4) (is f 5))) .answer)
 
 abbrev pub plain : Bool
 plain =
-    inOrder (refusal 10 0 ∷ refusal 11 1 ∷ refusal 1 0 ∷ bytes) (called empty)
-    && (inOrder (refusal 10 0 ∷ refusal 11 1 ∷ refusal 2 0 ∷ bytes) (called over4096)
-    && (inOrder (refusal 11 0 ∷ []) (λ f. checkNumbers (chipPowerOn pcf8532 (chip (cond (is f 0) 4 1)) .check))
-    && inOrder (refusal 11 0 ∷ refusal 8 0 ∷ refusal 9 0 ∷ [])
-    (λ f. pictureNumbers (chipPictureCall pcf8532 (chip (cond (is f 0) 4 1)) (cond (is f 1) 2 0) (replicate (160 + cond (is f 2) 1 0) 0) .result))))
+    inOrder (refusal 16 0 ∷ refusal 10 0 ∷ refusal 11 1 ∷ refusal 1 0 ∷ bytes) (called empty)
+    && (inOrder (refusal 16 0 ∷ refusal 10 0 ∷ refusal 11 1 ∷ refusal 2 0 ∷ bytes) (called over4096)
+    && (inOrder (refusal 16 0 ∷ refusal 11 0 ∷ []) (λ f. checkNumbers (chipPowerOnPart (part (is f 0)) (chip (cond (is f 1) 4 1)) .check))
+    && inOrder (refusal 16 0 ∷ refusal 11 0 ∷ refusal 8 0 ∷ refusal 9 0 ∷ [])
+    (λ f. pictureNumbers (chipPicturePart (part (is f 0)) (chip (cond (is f 1) 4 1)) (cond (is f 2) 2 0) (replicate (160 + cond (is f 3) 1 0) 0) .result))))
 
 -- ---- a log: version 1 or 3, one chip or five, an empty record or one cut short, and too many empty records
 
@@ -143,6 +147,24 @@ bodies =
     (recorded [] 0 0 ∷ recorded (0 ∷ 2 ∷ 0 ∷ 0 ∷ []) 0 0 ∷ recorded (0 ∷ 0 ∷ []) 20 3 ∷ recorded (0 ∷ 1 ∷ 0 ∷ []) 20 3 ∷ recorded (0 ∷ 1 ∷ []) 13 3 ∷ recorded (0 ∷ []) 13 3
     ∷ recorded (0 ∷ 0 ∷ 0 ∷ 9 ∷ []) 20 3 ∷ recorded (0 ∷ 2 ∷ 0 ∷ 0 ∷ 0 ∷ 9 ∷ []) 13 7 ∷ recorded (0 ∷ 2 ∷ 0 ∷ 0 ∷ 0 ∷ 1 ∷ 0 ∷ []) 20 7 ∷ [])
 
-pub orders : T (long && (plain && (logs && bodies)))
-unfolding checkLog checkHead recordsFrom readIn powerOnCall checkPowerOn pictureCall checkPicture chipPowerOn chipPictureCall checkChipPicture litIn ones onesIn plainCall checkPlain misfitIn chipFits plainHeard chipData afterColumn afterColumns putRows advanced acknowledgesData smallest transferCall checkTransfer checkState checkChips checkRegisters checkRam checkLength overIn faultIn heardBy heard dataByte controlOf commandOf commandIn within inRange backplanes bankRow position atPosition putBits changed withRow storedBits counted acknowledger shown pictureOf
+-- ---- an unknown part: its number, place and none are 16, 0 and 4, the registers are the power-on ones after a power-on and else those that were given, and nothing that is lent changes
+
+abbrev given : Both
+given = both true
+
+abbrev pub refusedAs : List ℕ → List ℕ → Bool
+refusedAs answer last = same answer (16 ∷ 0 ∷ 0 ∷ 0 ∷ 0 ∷ last)
+
+abbrev pub unknown : List ℕ → Bool
+unknown [] = true
+unknown (part ∷ parts) =
+    let s = transferPart part (chips false) given (ram false false true) (commands false false) in
+    let on = chipPowerOnPart part (chip 4) in
+    let list = plainPart part (chip 4 ∷ []) (commands false false) in
+    refusedAs (numbers (partOf part) (s .result .answer)) (4 ∷ []) && (eqb (s .result .registers .one .m) 4 && (same (s .ram) (ram false false true)
+    && (refusedAs (plainNumbers (partOf part) (list .answer)) (4 ∷ []) && (refusedAs (checkNumbers (on .check)) (0 ∷ []) && (eqb (on .chip .registers .p) 0
+    && (refusedAs (checkNumbers (powerOnPart part (chips true) [] .check)) (0 ∷ []) && (same (picturePart part (chips true) given [] 2 2 (7 ∷ []) .out) (7 ∷ []) && unknown parts)))))))
+
+pub orders : T (long && (plain && (logs && (bodies && unknown (2 ∷ 3 ∷ 255 ∷ [])))))
+unfolding partOf checkPart powerOnPart transferPart picturePart chipPowerOnPart chipPicturePart plainPart checkLog checkHead recordsFrom readIn powerOnCall checkPowerOn pictureCall checkPicture chipPowerOn chipPictureCall checkChipPicture litIn ones onesIn plainCall checkPlain misfitIn chipFits plainHeard chipData afterColumn afterColumns putRows advanced acknowledgesData smallest transferCall checkTransfer checkState checkChips checkRegisters checkRam checkLength overIn faultIn heardBy heard dataByte controlOf commandIn within inRange backplanes bankRow position atPosition putBits changed withRow storedBits counted acknowledger shown pictureOf
 orders = tt

@@ -41,6 +41,9 @@ pub record Seen : Type 0 where
   pub result : Pictured
   pub out : List ℕ
 
+abbrev pub seenBy : Check → Seen → List ℕ → Seen
+seenBy Check.Passed s out = s
+seenBy (Check.Refused x) s out = record { result = Pictured.Refused x; out = out }
+
 abbrev pub seen : Check → List ℕ → List ℕ → Seen
-seen Check.Passed picture out = record { result = Pictured.Lit (litIn picture); out = picture }
-seen (Check.Refused x) picture out = record { result = Pictured.Refused x; out = out }
+seen check picture out = seenBy check (record { result = Pictured.Lit (litIn picture); out = picture }) out

@@ -4,7 +4,7 @@ use Prim.Native.Nat.{ℕ, zero, suc, _+_, _*_, _/_, min}
 use mathlib.Core.Bool.{Bool, cond, _&&_, _||_}
 use mathlib.Core.List.{List, [], _∷_, map}
 use lib.Dec.{eqb, ltb, leb}
-use lib.ListN.{getD, length, drop}
+use lib.ListN.{getD, length, take, drop}
 use Rattle.sheet.specs.declared.Registers.{Registers}
 use Rattle.sheet.specs.declared.Chip.{Chip}
 use Rattle.sheet.specs.declared.Acknowledger.{Acknowledger}
@@ -16,12 +16,12 @@ use Rattle.sheet.specs.declared.Check.{Check}
 use Rattle.sheet.specs.declared.Check.the-variants.{Passed, Refused}
 use Rattle.sheet.specs.declared.PlainAnswer.{PlainAnswer}
 use Rattle.sheet.specs.declared.ChipPowerOn.{ChipPowerOn}
-use Rattle.sheet.specs.Parts.{Part}
+use Rattle.sheet.specs.Parts.{Part, partOf}
 use Rattle.sheet.specs.Registers.{powerOn, inRange, backplanes, bankRow}
 use Rattle.sheet.specs.Commands.{obeyed}
 use Rattle.sheet.specs.Protocol.{addressOf, next}
-use Rattle.sheet.specs.Checks.{unless, orElse, passed, overIn, checkLength, faultIn}
-use Rattle.sheet.specs.Pictures.{pictureOf, Seen, seen}
+use Rattle.sheet.specs.Checks.{unless, orElse, passed, overIn, checkPart, checkLength, faultIn}
+use Rattle.sheet.specs.Pictures.{pictureOf, Seen, seenBy, seen}
 use Rattle.sheet.specs.Places.{advanced}
 use Rattle.sheet.specs.Data.{bitOf, withRow, changed, widthOf}
 
@@ -144,16 +144,20 @@ plainHeard K address e (x ∷ xs) s =
 
 -- ---- which chips fit
 
+-- the columns of the part: what stands behind them in the array is nobody's
+abbrev pub ownColumns : Part → Chip → List ℕ
+ownColumns K c = take (K .columns) (c .columns)
+
 -- a chip with every field and column in range
 unfoldable pub chipFits : Part → Chip → Bool
-chipFits K c = ltb (c .sa0) 2 && (ltb (c .subaddress) (K .limit) && (inRange K (c .registers) && passed (overIn 0 (c .columns))))
+chipFits K c = ltb (c .sa0) 2 && (ltb (c .subaddress) (K .limit) && (inRange K (c .registers) && passed (overIn 0 (ownColumns K c))))
 
 -- ---- one chip's calls
 
 -- power-on: 11, place 0, only for SA0, subaddress or a column. Taken or refused, the registers become the power-on ones and the rest stays
 unfoldable pub chipPowerOn : Part → Chip → ChipPowerOn
 chipPowerOn K c = record {
-  check = unless (ltb (c .sa0) 2 && (ltb (c .subaddress) (K .limit) && passed (overIn 0 (c .columns)))) (ChipField 0);
+  check = unless (ltb (c .sa0) 2 && (ltb (c .subaddress) (K .limit) && passed (overIn 0 (ownColumns K c)))) (ChipField 0);
   chip = withRegisters powerOn c;
 }
 
@@ -164,7 +168,7 @@ checkChipPicture K c phase size =
 
 -- the chip is shown alone, over its own registers and columns
 unfoldable pub chipPictureCall : Part → Chip → ℕ → List ℕ → Seen
-chipPictureCall K c phase out = seen (checkChipPicture K c phase (length out)) (pictureOf (c .registers) phase (c .columns)) out
+chipPictureCall K c phase out = seen (checkChipPicture K c phase (length out)) (pictureOf (c .registers) phase (ownColumns K c)) out
 
 -- ---- the call of the list
 
@@ -173,7 +177,7 @@ unfoldable pub misfitIn : Part → ℕ → List Chip → Check
 misfitIn K i [] = Passed
 misfitIn K i (c ∷ cs) = cond (chipFits K c) (misfitIn K (suc i) cs) (Refused (ChipField i))
 
--- 10, 11, 1, 2, then 7 and 17. At most eight chips: two groups of the limit
+-- 10, 11, 1, 2, then 7 and 17. At most two groups of the limit
 unfoldable pub checkPlain : Part → List Chip → List ℕ → Check
 checkPlain K cs bytes =
     orElse (unless (leb (length cs) (2 * K .limit)) ManyChips)
@@ -205,3 +209,14 @@ plainAnswered (Refused r) cs s = record { answer = PlainAnswer.Refused r; chips 
 
 unfoldable pub plainCall : Part → List Chip → List ℕ → PlainAfter
 plainCall K cs bytes = plainAnswered (checkPlain K cs bytes) cs (plainSaid (plainTaken K cs bytes))
+
+-- ---- the calls by a part's number: 16 first (paper 02, request 5)
+
+unfoldable pub chipPowerOnPart : ℕ → Chip → ChipPowerOn
+chipPowerOnPart part c = record { check = orElse (checkPart part) (chipPowerOn (partOf part) c .check); chip = withRegisters powerOn c }
+
+unfoldable pub chipPicturePart : ℕ → Chip → ℕ → List ℕ → Seen
+chipPicturePart part c phase out = seenBy (checkPart part) (chipPictureCall (partOf part) c phase out) out
+
+unfoldable pub plainPart : ℕ → List Chip → List ℕ → PlainAfter
+plainPart part cs bytes = plainAnswered (checkPart part) cs (plainCall (partOf part) cs bytes)

@@ -1,10 +1,10 @@
--- Computed: the command bytes that a part has for a column make P that column, wherever P was, and leave A.
+-- Computed of both parts: the command bytes that a part has for a column make P that column, wherever P was, and leave A.
 use Prim.Native.Nat.{ℕ, zero, suc}
 use mathlib.Core.Bool.{Bool, true, _&&_}
 use mathlib.Core.List.{List, [], _∷_}
 use lib.Dec.{T, eqb}
 use Rattle.sheet.specs.declared.Registers.{Registers}
-use Rattle.sheet.specs.Parts.{Part, within, commandIn, commandOf, pcf8532}
+use Rattle.sheet.specs.Parts.{Part, within, commandIn, pcf8532, pca85133}
 use Rattle.sheet.specs.Registers.{powerOn, atPlace}
 use Rattle.sheet.specs.Commands.{obeyed}
 
@@ -22,6 +22,6 @@ abbrev pub pointsTo : Part → ℕ → ℕ → Bool
 pointsTo K last zero = true
 pointsTo K last (suc n) = points K 0 n && (points K last n && pointsTo K last n)
 
-pub pointing : T (pointsTo pcf8532 159 160)
-unfolding within commandOf commandIn
+pub pointing : T (pointsTo pcf8532 159 160 && pointsTo pca85133 79 80)
+unfolding within commandIn
 pointing = tt

@@ -11,12 +11,12 @@ use Rattle.sheet.specs.declared.Chips.{Chips}
 use Rattle.sheet.specs.declared.Chip.{Chip}
 use Rattle.sheet.specs.Refusals.{numbers, plainNumbers, pictureNumbers, checkNumbers}
 use Rattle.sheet.specs.Registers.{inRange, backplanes, bankRow}
-use Rattle.sheet.specs.Parts.{within, commandIn, commandOf, pcf8532}
+use Rattle.sheet.specs.Parts.{Part, within, commandIn, partOf}
 use Rattle.sheet.specs.Protocol.{heardBy, controlOf}
-use Rattle.sheet.specs.Checks.{checkChips, checkRegisters, overIn, checkRam, checkLength, faultIn, checkState, checkPowerOn, checkTransfer, checkPicture}
+use Rattle.sheet.specs.Checks.{checkPart, checkChips, checkRegisters, overIn, checkRam, checkLength, faultIn, checkState, checkPowerOn, checkTransfer, checkPicture}
 use Rattle.sheet.specs.Pictures.{shown, pictureOf, litIn}
-use Rattle.sheet.specs.Long.{heard, dataByte, registersOf, columnsOf, powerOnCall, transferCall, pictureCall, stateOf}
-use Rattle.sheet.specs.Plain.{putRows, afterColumn, afterColumns, chipData, acknowledgesData, smallest, plainHeard, chipFits, chipPowerOn, checkChipPicture, chipPictureCall, misfitIn, checkPlain, plainCall}
+use Rattle.sheet.specs.Long.{heard, dataByte, registersOf, columnsOf, powerOnCall, transferCall, pictureCall, stateOf, powerOnPart, transferPart, picturePart}
+use Rattle.sheet.specs.Plain.{putRows, afterColumn, afterColumns, chipData, acknowledgesData, smallest, plainHeard, chipFits, chipPowerOn, checkChipPicture, chipPictureCall, misfitIn, checkPlain, plainCall, ownColumns, chipPowerOnPart, plainPart}
 use Rattle.sheet.specs.Places.{advanced, position, atPosition}
 use Rattle.sheet.specs.Agree.{groupChips, chipsOf, chipPictures, chipsLit}
 use Rattle.sheet.specs.Data.{putBits, changed, withRow, storedBits, counted, acknowledger}
@@ -60,21 +60,22 @@ oneCount k = 0 ∷ 0 ∷ k ∷ 0 ∷ 0 ∷ 0 ∷ []
 abbrev pub chipsOn : Row → Chips
 chipsOn row = cond (eqb (row .group) 0) (record { zero = row .chips; one = row .others }) (record { zero = row .others; one = row .chips })
 
-abbrev pub columnsOn : Row → List ℕ
-columnsOn row = replicate (160 * (row .chips + row .others)) (row .fill)
+abbrev pub columnsOn : Part → Row → List ℕ
+columnsOn K row = replicate (K .columns * (row .chips + row .others)) (row .fill)
 
 -- the long account: the other group's columns stay
-abbrev pub passes : Row → Bool
-passes row =
+abbrev pub passes : ℕ → Row → Bool
+passes part row =
+    let K = partOf part in
     let n = chipsOn row in
     let g = row .group in
-    let on = powerOnCall pcf8532 n (columnsOn row) in
-    let s = transferCall pcf8532 n (on .registers) (columnsOn row) (row .bytes) in
+    let on = powerOnPart part n (columnsOn K row) in
+    let s = transferPart part n (on .registers) (columnsOn K row) (row .bytes) in
     let r = registersOf g (s .result .registers) in
-    let seen = pictureCall pcf8532 n (s .result .registers) (s .ram) g (row .phase) (replicate (160 * row .chips) 99) in
-    same (checkNumbers (on .check)) (oneCount 0) && (same (numbers pcf8532 (s .result .answer)) (row .answer)
+    let seen = picturePart part n (s .result .registers) (s .ram) g (row .phase) (replicate (K .columns * row .chips) 99) in
+    same (checkNumbers (on .check)) (oneCount 0) && (same (numbers K (s .result .answer)) (row .answer)
     && (eqb (r .a) (row .a) && (eqb (r .p) (row .p)
-    && (holds (columnsOf pcf8532 n g (s .ram)) (row .columns) && (same (columnsOf pcf8532 n (1 - g) (s .ram)) (replicate (160 * row .others) (row .fill))
+    && (holds (columnsOf K n g (s .ram)) (row .columns) && (same (columnsOf K n (1 - g) (s .ram)) (replicate (K .columns * row .others) (row .fill))
     && (same (pictureNumbers (seen .result)) (oneCount (row .lit)) && holds (seen .out) (row .picture)))))))
 
 -- the plain account: the group's chips are the first or the last of the list
@@ -89,32 +90,42 @@ abbrev pub allAt : ℕ → ℕ → List Chip → Bool
 allAt a p [] = Bool.true
 allAt a p (c ∷ cs) = eqb (c .registers .a) a && (eqb (c .registers .p) p && allAt a p cs)
 
-abbrev pub chipColumns : List Chip → List ℕ
-chipColumns [] = []
-chipColumns (c ∷ cs) = c .columns ++ chipColumns cs
+-- the chips' own columns
+abbrev pub chipColumns : Part → List Chip → List ℕ
+chipColumns K [] = []
+chipColumns K (c ∷ cs) = ownColumns K c ++ chipColumns K cs
+
+-- what stands behind them in the array is there, and 99, which no column can hold
+abbrev pub withBehind : Part → Chip → Chip
+withBehind K c = record { columns = c .columns ++ replicate (160 - K .columns) 99; sa0 = c .sa0; subaddress = c .subaddress; registers = c .registers }
+
+abbrev pub allBehind : Part → List Chip → Bool
+allBehind K [] = Bool.true
+allBehind K (c ∷ cs) = same (drop (K .columns) (c .columns)) (replicate (160 - K .columns) 99) && allBehind K cs
 
 -- registers unlike those of power-on
 abbrev pub busy : Registers
 busy = record { e = 1; b = 1; m = 1; p = 7; a = 2; i = 1; o = 1; ab = 1; bf = 1 }
 
-abbrev pub allOn : List Chip → Bool
-allOn [] = Bool.true
-allOn (c ∷ cs) = same (checkNumbers (chipPowerOn pcf8532 c .check)) (oneCount 0) && allOn cs
+abbrev pub allOn : ℕ → List Chip → Bool
+allOn part [] = Bool.true
+allOn part (c ∷ cs) = same (checkNumbers (chipPowerOnPart part c .check)) (oneCount 0) && allOn part cs
 
-abbrev pub passesPlain : Row → Bool
-passesPlain row =
-    let found = chipsOf pcf8532 (chipsOn row) (stateOf (record { zero = busy; one = busy }) (columnsOn row)) in
-    let s = plainCall pcf8532 (map (λ c. chipPowerOn pcf8532 c .chip) found) (row .bytes) in
+abbrev pub passesPlain : ℕ → Row → Bool
+passesPlain part row =
+    let K = partOf part in
+    let found = map (withBehind K) (chipsOf K (chipsOn row) (stateOf (record { zero = busy; one = busy }) (columnsOn K row))) in
+    let s = plainPart part (map (λ c. chipPowerOnPart part c .chip) found) (row .bytes) in
     let called = calledOf row (s .chips) in
-    allOn found && (same (plainNumbers pcf8532 (s .answer)) (take 3 (row .answer) ++ (0 ∷ 0 ∷ drop 5 (row .answer))) && (allAt (row .a) (row .p) called
-    && (holds (chipColumns called) (row .columns) && (same (chipColumns (othersOf row (s .chips))) (replicate (160 * row .others) (row .fill))
-    && (eqb (chipsLit pcf8532 (row .phase) called) (row .lit) && holds (chipPictures pcf8532 (row .phase) called) (row .picture))))))
+    allOn part found && (same (plainNumbers K (s .answer)) (take 3 (row .answer) ++ (0 ∷ 0 ∷ drop 5 (row .answer))) && (allAt (row .a) (row .p) called
+    && (holds (chipColumns K called) (row .columns) && (same (chipColumns K (othersOf row (s .chips))) (replicate (K .columns * row .others) (row .fill))
+    && (allBehind K (s .chips) && (eqb (chipsLit K (row .phase) called) (row .lit) && holds (chipPictures K (row .phase) called) (row .picture)))))))
 
-abbrev pub every : List Row → Bool
-every [] = Bool.true
-every (r ∷ rs) = passes r && (passesPlain r && every rs)
+abbrev pub every : ℕ → List Row → Bool
+every part [] = Bool.true
+every part (r ∷ rs) = passes part r && (passesPlain part r && every part rs)
 
-abbrev col : ℕ → ℕ → Column
+abbrev pub col : ℕ → ℕ → Column
 col c q = record { at = c; value = q }
 
 abbrev pub table : List Row
@@ -178,6 +189,6 @@ table =
     ∷ record { group = 0; chips = 1; others = 0; fill = 0; bytes = 0x71 ∷ []; answer = 0 ∷ 0 ∷ 0 ∷ 0 ∷ 0 ∷ 4 ∷ []; a = 0; p = 0; columns = []; phase = 0; lit = 0; picture = [] }
     ∷ []
 
-pub starred : T (every table)
-unfolding powerOnCall checkPowerOn pictureCall checkPicture chipPowerOn chipPictureCall checkChipPicture litIn ones onesIn plainCall checkPlain misfitIn chipFits plainHeard groupChips chipData afterColumn afterColumns putRows advanced acknowledgesData smallest transferCall checkTransfer checkState checkChips checkRegisters checkRam checkLength overIn faultIn heardBy heard dataByte controlOf commandOf commandIn within inRange backplanes bankRow position atPosition putBits changed withRow storedBits counted acknowledger shown pictureOf
+pub starred : T (every 0 table)
+unfolding partOf checkPart powerOnPart transferPart picturePart chipPowerOnPart plainPart powerOnCall checkPowerOn pictureCall checkPicture chipPowerOn chipPictureCall checkChipPicture litIn ones onesIn plainCall checkPlain misfitIn chipFits plainHeard groupChips chipData afterColumn afterColumns putRows advanced acknowledgesData smallest transferCall checkTransfer checkState checkChips checkRegisters checkRam checkLength overIn faultIn heardBy heard dataByte controlOf commandIn within inRange backplanes bankRow position atPosition putBits changed withRow storedBits counted acknowledger shown pictureOf
 starred = tt

@@ -7,7 +7,7 @@ use lib.ListN.{take, replicate}
 use Rattle.sheet.specs.declared.Chips.{Chips}
 use Rattle.sheet.specs.Refusals.{numbers, plainNumbers}
 use Rattle.sheet.specs.Registers.{powerOn, inRange, backplanes, bankRow}
-use Rattle.sheet.specs.Parts.{within, commandIn, commandOf, pcf8532}
+use Rattle.sheet.specs.Parts.{within, commandIn, pcf8532}
 use Rattle.sheet.specs.Protocol.{addressOf, heardBy, controlOf}
 use Rattle.sheet.specs.Checks.{checkChips, checkRegisters, overIn, checkRam, checkLength, faultIn, checkState, checkTransfer}
 use Rattle.sheet.specs.Long.{heard, dataByte, transferCall}
@@ -70,5 +70,5 @@ table =
     ∷ []
 
 pub stray : T (eachBit (0x00 ∷ 0x40 ∷ 0x80 ∷ 0xC0 ∷ []) && every table)
-unfolding plainCall checkPlain misfitIn chipFits plainHeard chipData afterColumn afterColumns putRows advanced acknowledgesData smallest transferCall checkTransfer checkState checkChips checkRegisters checkRam checkLength overIn faultIn heardBy heard dataByte controlOf commandOf commandIn within inRange backplanes bankRow position atPosition putBits changed withRow storedBits counted acknowledger
+unfolding plainCall checkPlain misfitIn chipFits plainHeard chipData afterColumn afterColumns putRows advanced acknowledgesData smallest transferCall checkTransfer checkState checkChips checkRegisters checkRam checkLength overIn faultIn heardBy heard dataByte controlOf commandIn within inRange backplanes bankRow position atPosition putBits changed withRow storedBits counted acknowledger
 stray = tt

@@ -1,5 +1,10 @@
 // The types of the bus and its chips. Letters are the registers' of the paper: E, B, M, P, A, I, O, AB, BF.
 
+// The parts by their numbers (paper 02, request 5).
+pub const PCF8532: u8 = 0;
+
+pub const PCA85133: u8 = 1;
+
 // What a mode-set carries, as one record (sheet 003, table 6).
 pub struct Settings {
     pub e: u8,
@@ -7,10 +12,11 @@ pub struct Settings {
     pub m: u8,
 }
 
-// The commands of sheet 003, table 5, and the bytes that are none.
+// The commands of sheet 003, table 5, with the one pointer command of sheet 002, table 11; and the bytes that are none.
 pub enum Command {
     PointerHigh(u8),
     PointerLow(u8),
+    Pointer(u8),
     ModeSet(Settings),
     DeviceSelect(u8),
     FrequencyCtrl,
@@ -59,6 +65,7 @@ pub enum Refusal {
     LogHead,
     CutRecord(usize),
     LongLog,
+    UnknownPart,
     StrayBits(usize),
     ShortBody(usize),
 }
@@ -137,7 +144,7 @@ pub enum Rescued {
     Refused(Refusal),
 }
 
-// A chip of the plain account, with its own columns, identity and registers.
+// A chip of the plain account, with its own columns, identity and registers. A part with fewer columns has the first of them.
 pub struct Chip {
     pub columns: [u8; 160],
     pub sa0: u8,

@@ -8,6 +8,6 @@ use Rattle.plain.specs.declared.Bench.{Bench}
 
 pub record Holds (n : ℕ) (cs : List Chip) (b : Bench) : Type 0 where
   pub count : b .count ≡ n
-  pub few : n ≤ 8
-  pub size : length (b .chips) ≡ 8
+  pub few : n ≤ 16
+  pub size : length (b .chips) ≡ 16
   pub first : take n (b .chips) ≡ cs

@@ -96,12 +96,12 @@ pub fn put_chip(chip: Chip, out: &mut [u8])
     out[161] = chip.subaddress;
 }
 
-// The chips of a list of at most eight; the places after them are not looked at.
+// The chips of a list of at most sixteen; the places after them are not looked at.
 pub fn bench_of(bytes: &[u8], count: usize) -> Bench
-    requires { ⌜ (length (now bytes) ≡ 171 * count) × (count ≤ 8) ⌝ }
+    requires { ⌜ (length (now bytes) ≡ 171 * count) × (count ≤ 16) ⌝ }
     ensures { λ r. ⌜ Holds count (listIn count (now (bytes .entry))) r ⌝ }
 {
-    let mut chips = [chip_of(&[0; 171]); 8];
+    let mut chips = [chip_of(&[0; 171]); 16];
     let mut i = 0;
     while i < count {
         let at = 171 * i;
@@ -113,7 +113,7 @@ pub fn bench_of(bytes: &[u8], count: usize) -> Bench
 
 // The chips of a bench, into 171 bytes each.
 pub fn put_bench(bench: Bench, out: &mut [u8])
-    requires { ⌜ (length (now out) ≡ 171 * bench .count) × (bench .count ≤ 8) × (length (bench .chips) ≡ 8) ⌝ }
+    requires { ⌜ (length (now out) ≡ 171 * bench .count) × (bench .count ≤ 16) × (length (bench .chips) ≡ 16) ⌝ }
     ensures { λ _. ⌜ now (out .exit) ≡ listBytes (take (bench .count) (bench .chips)) ⌝ }
 {
     let chips = bench.chips;

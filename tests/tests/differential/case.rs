@@ -1,7 +1,8 @@
 //! Everything that a call of the long account takes, and the same call by library and by model.
 
 use crate::library;
-use humtrellis_tests::model::{self, Answer, View, ANSWER, COLUMNS, REGISTERS};
+use humtrellis_tests::generate::shape;
+use humtrellis_tests::model::{self, Answer, View, ANSWER, REGISTERS};
 
 #[derive(Clone, Copy, Debug)]
 pub enum Call {
@@ -13,6 +14,7 @@ pub enum Call {
 /// The buffers and numbers of a call; after the call, what they have become.
 #[derive(Clone, Debug, PartialEq)]
 pub struct Case {
+    pub part: u8,
     pub chips: [u8; 2],
     pub registers: Vec<u8>,
     pub ram: Vec<u8>,
@@ -24,29 +26,33 @@ pub struct Case {
 
 impl Case {
     /// A bus from power-on with RAM all 0, and a picture buffer of group 0.
-    pub fn new(chips: [u8; 2]) -> Self {
+    pub fn new(part: u8, chips: [u8; 2]) -> Self {
         Case {
+            part,
             chips,
             registers: vec![0; REGISTERS],
-            ram: vec![0; ram_length(chips)],
+            ram: vec![0; ram_length(part, chips)],
             bytes: vec![0x70],
             shown: [0, 0],
-            out: vec![0xEE; COLUMNS * chips[0] as usize],
+            out: vec![0xEE; length_of(part, chips[0])],
             answer: vec![77; ANSWER],
         }
     }
 
+    /// Shows another group or phase, into a buffer of the right length.
+    pub fn show(&mut self, shown: [u8; 2]) {
+        self.shown = shown;
+        self.out = vec![0xEE; length_of(self.part, self.chips[shown[0] as usize])];
+    }
+
     fn by_library(&mut self, call: Call) -> u8 {
+        let (part, chips, shown) = (self.part, self.chips, self.shown);
         let (registers, ram, answer) = (&mut self.registers, &mut self.ram, &mut self.answer);
+        let (bytes, out) = (&mut self.bytes, &mut self.out);
         match call {
-            Call::PowerOn => library::power_on(self.chips, ram, registers, answer),
-            Call::Transfer => {
-                library::transfer(self.chips, registers, ram, &mut self.bytes, answer)
-            }
-            Call::Picture => {
-                let out = &mut self.out;
-                library::picture(self.chips, registers, ram, self.shown, out, answer)
-            }
+            Call::PowerOn => library::power_on(part, chips, ram, registers, answer),
+            Call::Transfer => library::transfer(part, chips, registers, ram, bytes, answer),
+            Call::Picture => library::picture(part, chips, registers, ram, shown, out, answer),
         }
     }
 
@@ -65,12 +71,13 @@ impl Case {
 
     fn answer_of_model(&mut self, call: Call, registers: &mut [u8; REGISTERS]) -> Answer {
         let ([chips0, chips1], [group, phase]) = (self.chips, self.shown);
-        let ram = &mut self.ram;
+        let (part, ram) = (self.part, &mut self.ram);
         match call {
-            Call::PowerOn => model::power_on(chips0, chips1, ram, registers),
-            Call::Transfer => model::transfer(chips0, chips1, registers, ram, &self.bytes),
+            Call::PowerOn => model::power_on(part, chips0, chips1, ram, registers),
+            Call::Transfer => model::transfer(part, chips0, chips1, registers, ram, &self.bytes),
             Call::Picture => {
                 let view = View {
+                    part,
                     chips0,
                     chips1,
                     registers,
@@ -107,7 +114,29 @@ impl Case {
     }
 }
 
+/// Bytes of RAM, or of a picture, that so many chips have.
+fn length_of(part: u8, chips: u8) -> usize {
+    shape(part).columns() * chips as usize
+}
+
 /// Bytes of RAM that the chips of both groups have.
-pub fn ram_length([chips0, chips1]: [u8; 2]) -> usize {
-    COLUMNS * (chips0 as usize + chips1 as usize)
+pub fn ram_length(part: u8, chips: [u8; 2]) -> usize {
+    chips.iter().map(|chips| length_of(part, *chips)).sum()
+}
+
+/// Both parts, and for the buffers of each a number that no part has.
+pub const PARTS: [u8; 4] = [0, 1, 2, 255];
+
+/// What refuses a call by its part alone.
+pub fn refusal_of(part: u8) -> u8 {
+    match part {
+        0 | 1 => 0,
+        _ => 16,
+    }
+}
+
+/// The first number of an order of refusals that is one, or 0.
+pub fn first_refusal<const N: usize>(order: [u8; N]) -> u8 {
+    let mut refusals = order.into_iter().filter(|&number| number != 0);
+    refusals.next().unwrap_or(0)
 }

@@ -1,12 +1,12 @@
 //! Stray bits of control bytes: a hearing account refuses them with 17 and their place, as it does an undefined command with 7.
 
-use crate::case::{Call, Case};
+use crate::case::{refusal_of, Call, Case, PARTS};
 use crate::plain::{self, CHIP};
 use crate::{fault, for_seeds};
-use humtrellis_tests::generate;
-use humtrellis_tests::model::{ANSWER, COLUMNS, NONE};
+use humtrellis_tests::generate::{self, shape};
+use humtrellis_tests::model::{none, ANSWER, COLUMNS};
 
-/// A bus, and a list of plain chips that gets the same transfers.
+/// A bus, and a list of plain chips of the same part that gets the same transfers.
 struct Both {
     case: Case,
     chips: Vec<u8>,
@@ -14,19 +14,22 @@ struct Both {
 
 impl Both {
     /// Two chips of group 0 in each.
-    fn new() -> Self {
+    fn new(part: u8) -> Self {
         Both {
-            case: Case::new([2, 0]),
+            case: Case::new(part, [2, 0]),
             chips: vec![0; 2 * CHIP],
         }
     }
 
-    /// Sends a transfer to copies of both: refused where a chip hears it, and nothing changed anywhere.
+    /// Sends a transfer to copies of both: refused where a chip hears it or the part is unknown, and nothing changed anywhere.
     fn expect_refused(&self, bytes: &[u8], refusal: (u8, usize)) {
         let group = (bytes[0] == 0x72) as u8;
         let by_long = self.case.chips[group as usize] > 0;
         let by_plain = self.chips.chunks(CHIP).any(|chip| chip[COLUMNS] == group);
-        let number = |heard| if heard { refusal } else { (0, 0) };
+        let number = |heard| match (refusal_of(self.case.part), heard) {
+            (0, true) => refusal,
+            (number, _) => (number, 0),
+        };
         self.expect_same_bus(bytes, number(by_long));
         self.expect_same_chips(bytes, number(by_plain));
     }
@@ -35,23 +38,26 @@ impl Both {
         let mut case = self.case.clone();
         case.bytes = bytes.to_vec();
         let mut after = case.clone();
-        after.answer = vec![number.into(), place, 0, 0, 0, NONE];
+        after.answer = vec![number.into(), place, 0, 0, 0, none(case.part)];
         assert_eq!(case.compare(Call::Transfer), number);
         assert_eq!(case, after);
     }
 
     fn expect_same_chips(&self, bytes: &[u8], (number, place): (u8, usize)) {
         let (mut chips, mut answer) = (self.chips.clone(), [77; ANSWER]);
-        assert_eq!(plain::compare_into(&mut chips, bytes, &mut answer), number);
-        assert_eq!(chips, self.chips);
-        assert_eq!(answer, [number.into(), place, 0, 0, 0, NONE]);
+        let part = self.case.part;
+        let returned = plain::compare_into(part, &mut chips, bytes, &mut answer);
+        assert_eq!((returned, &chips), (number, &self.chips));
+        assert_eq!(answer, [number.into(), place, 0, 0, 0, none(part)]);
     }
 
+    /// Only an unknown part refuses this transfer.
     fn expect_taken(&self, bytes: &[u8]) {
         let mut case = self.case.clone();
         case.bytes = bytes.to_vec();
-        assert_eq!(case.compare(Call::Transfer), 0);
-        assert_eq!(plain::compare(&mut self.chips.clone(), bytes), 0);
+        let (part, mut chips) = (case.part, self.chips.clone());
+        assert_eq!(case.compare(Call::Transfer), refusal_of(part));
+        assert_eq!(plain::compare(part, &mut chips, bytes), refusal_of(part));
     }
 }
 
@@ -59,12 +65,11 @@ impl Both {
 #[test]
 fn control_every_bit() {
     for_seeds(1500, |random| {
-        let count = random.below(9);
-        let both = Both {
-            case: fault::good_case(random),
-            chips: plain::chips(random, count),
-        };
-        let bytes = generate::good_transfer(random);
+        let case = fault::good_case(random);
+        let part = case.part;
+        let chips = plain::list(random, part);
+        let both = Both { case, chips };
+        let bytes = generate::good_transfer(random, shape(part));
         both.expect_taken(&bytes);
         for place in generate::control_places(&bytes) {
             for bit in 0..6 {
@@ -79,19 +84,20 @@ fn control_every_bit() {
 /// Every value of a first, a later and a last control byte.
 #[test]
 fn control_every_value() {
-    let both = Both::new();
     let around: [(&[u8], &[u8]); 4] = [
         (&[0x70], &[0xC8, 0x40]),
         (&[0x70, 0xC0, 0x3F], &[0xC8]),
         (&[0x70, 0x80, 0xC8], &[]),
         (&[0x70], &[]),
     ];
-    for value in 0..=255 {
-        for (before, behind) in around {
-            let bytes = [before, &[value], behind].concat();
-            match value & 0x3F {
-                0 => both.expect_taken(&bytes),
-                _ => both.expect_refused(&bytes, (17, before.len())),
+    for both in PARTS.map(Both::new) {
+        for value in 0..=255 {
+            for (before, behind) in around {
+                let bytes = [before, &[value], behind].concat();
+                match value & 0x3F {
+                    0 => both.expect_taken(&bytes),
+                    _ => both.expect_refused(&bytes, (17, before.len())),
+                }
             }
         }
     }
@@ -100,26 +106,32 @@ fn control_every_value() {
 /// Bytes after an address, and what refuses each where it is wrong: 17 a control byte, 7 a command, nothing data.
 #[rustfmt::skip]
 const FORMS: [([u8; 7], [u8; 7]); 5] = [
-    ([0x80, 0x01, 0x80, 0x42, 0x00, 0xC8, 0xE1], [17, 7, 17, 7, 17, 7, 7]),
+    ([0x80, 0x41, 0x80, 0x42, 0x00, 0xC8, 0xE1], [17, 7, 17, 7, 17, 7, 7]),
     ([0xC0, 0x3F, 0x80, 0x42, 0x40, 0x3F, 0x81], [17, 0, 17, 7, 17, 0, 0]),
-    ([0x80, 0x01, 0xC0, 0x3F, 0x80, 0xC8, 0x40], [17, 7, 17, 0, 17, 7, 17]),
-    ([0x00, 0x01, 0x42, 0xC8, 0xE1, 0xF9, 0x4F], [17, 7, 7, 7, 7, 7, 7]),
+    ([0x80, 0x41, 0xC0, 0x3F, 0x80, 0xC8, 0x40], [17, 7, 17, 0, 17, 7, 17]),
+    ([0x00, 0x41, 0x42, 0xC8, 0xE1, 0xF9, 0x4F], [17, 7, 7, 7, 7, 7, 7]),
     ([0x40, 0x01, 0x42, 0x3F, 0x81, 0xC1, 0x7F], [17, 0, 0, 0, 0, 0, 0]),
 ];
 
-/// Every set of wrong bytes at once, the first of which counts: 3C makes each of these wrong, and data have no wrong bits.
+/// One of these forms with the wrong bytes that the bits of `faults` name: 3C makes each byte wrong for either part, and data have no wrong bits.
+fn expect_first_fault(both: &Both, (bytes, numbers): ([u8; 7], [u8; 7]), faults: u8) {
+    let wrong = (1..8).filter(|place| faults >> (place - 1) & 1 != 0);
+    let mut sent = [&[0x70][..], &bytes].concat();
+    wrong.clone().for_each(|place| sent[place] |= 0x3C);
+    let mut refusals = wrong.map(|place| (numbers[place - 1], place));
+    match refusals.find(|(number, _)| *number != 0) {
+        Some(first) => both.expect_refused(&sent, first),
+        None => both.expect_taken(&sent),
+    }
+}
+
+/// Every set of wrong bytes at once, the first of which counts.
 #[test]
 fn control_orders() {
-    let both = Both::new();
-    for (bytes, numbers) in FORMS {
-        for faults in 0..128 {
-            let wrong = (1..8).filter(|place| faults >> (place - 1) & 1 != 0);
-            let mut sent = [&[0x70][..], &bytes].concat();
-            wrong.clone().for_each(|place| sent[place] |= 0x3C);
-            let mut refusals = wrong.map(|place| (numbers[place - 1], place));
-            match refusals.find(|(number, _)| *number != 0) {
-                Some(first) => both.expect_refused(&sent, first),
-                None => both.expect_taken(&sent),
+    for both in PARTS.map(Both::new) {
+        for form in FORMS {
+            for faults in 0..128 {
+                expect_first_fault(&both, form, faults);
             }
         }
     }

@@ -1,13 +1,14 @@
 //! Random cases, with faults put in one by one.
 
 use crate::case::{ram_length, Case};
+use humtrellis_tests::generate::{self, shape};
 use humtrellis_tests::model::{ANSWER, COLUMNS};
-use humtrellis_tests::{generate, random::Random};
+use humtrellis_tests::random::Random;
 
 /// Registers in range, edge values more often than others.
-pub fn registers(random: &mut Random) -> Vec<u8> {
+pub fn registers(random: &mut Random, part: u8) -> Vec<u8> {
     let mut registers = Vec::new();
-    for limit in [1, 1, 3, 159, 4, 1, 1, 1, 3].repeat(2) {
+    for limit in shape(part).greatest().map(usize::from).repeat(2) {
         let value = match random.below(4) {
             0 => limit - random.below(limit.min(4) + 1),
             _ => random.below(limit + 1),
@@ -22,33 +23,32 @@ pub fn columns(random: &mut Random, length: usize) -> Vec<u8> {
     (0..length).map(|_| random.byte() & mask).collect()
 }
 
-pub fn transfer(random: &mut Random) -> Vec<u8> {
+pub fn transfer(random: &mut Random, part: u8) -> Vec<u8> {
     if random.one_in(60) {
         generate::long_transfer(random)
     } else {
-        generate::transfer(random)
+        generate::transfer(random, shape(part))
     }
 }
 
-/// A case without a fault, but perhaps in its transfer.
+/// A case without a fault, but perhaps in its transfer or its part.
 pub fn good_case(random: &mut Random) -> Case {
-    let chips = [random.below(5) as u8, random.below(5) as u8];
-    let shown = [random.below(2) as u8, random.below(2) as u8];
-    let out = COLUMNS * chips[shown[0] as usize] as usize;
-    Case {
-        chips,
-        registers: registers(random),
-        ram: columns(random, ram_length(chips)),
-        bytes: transfer(random),
-        shown,
-        out: random.bytes(out),
-        answer: (0..ANSWER).map(|_| random.number() as usize).collect(),
-    }
+    let part = generate::part(random);
+    let most = shape(part).subaddresses() as usize;
+    let chips = [(); 2].map(|()| random.below(most + 1) as u8);
+    let mut case = Case::new(part, chips);
+    case.registers = registers(random, part);
+    case.ram = columns(random, case.ram.len());
+    case.bytes = transfer(random, part);
+    case.show([(); 2].map(|()| random.below(2) as u8));
+    case.out = random.bytes(case.out.len());
+    case.answer = (0..ANSWER).map(|_| random.number() as usize).collect();
+    case
 }
 
 type Fault = fn(&mut Random, &mut Case);
 
-const FAULTS: [Fault; 9] = [
+const FAULTS: [Fault; 10] = [
     wrong_count,
     wrong_register,
     wrong_registers_length,
@@ -58,6 +58,7 @@ const FAULTS: [Fault; 9] = [
     wrong_view,
     wrong_out,
     wrong_answer_length,
+    other_part,
 ];
 
 /// A case with any number of faults, most often a few.
@@ -73,15 +74,16 @@ pub fn damaged_case(random: &mut Random) -> Case {
 }
 
 fn wrong_count(random: &mut Random, case: &mut Case) {
-    case.chips[random.below(2)] = random.pick(&[5, 6, 8, 255]);
+    let most = shape(case.part).subaddresses();
+    case.chips[random.below(2)] = random.pick(&[most + 1, most + 2, 2 * most, 255]);
     if random.one_in(2) {
-        case.ram = columns(random, ram_length(case.chips));
+        case.ram = columns(random, ram_length(case.part, case.chips));
     }
 }
 
 fn wrong_register(random: &mut Random, case: &mut Case) {
     let place = random.below(18);
-    let limit = [1, 1, 3, 159, 4, 1, 1, 1, 3][place % 9];
+    let limit = shape(case.part).greatest()[place % 9];
     case.registers[place] = random.pick(&[limit + 1, limit + 2, 254, 255]);
 }
 
@@ -93,7 +95,13 @@ fn wrong_registers_length(random: &mut Random, case: &mut Case) {
 
 fn wrong_ram_length(random: &mut Random, case: &mut Case) {
     let length = case.ram.len();
-    let others = [0, length.saturating_sub(1), length + 1, length + COLUMNS];
+    let others = [
+        0,
+        length.saturating_sub(1),
+        length + 1,
+        length + COLUMNS,
+        length / 2,
+    ];
     let value = random.byte() & 31;
     case.ram.resize(random.pick(&others), value);
 }
@@ -113,7 +121,7 @@ fn wrong_transfer(random: &mut Random, case: &mut Case) {
     case.bytes = match random.below(4) {
         0 => vec![],
         1 => generate::long_transfer(random),
-        2 => generate::stray_transfer(random),
+        2 => generate::stray_transfer(random, shape(case.part)),
         _ => random.bytes(20),
     };
 }
@@ -124,7 +132,7 @@ fn wrong_view(random: &mut Random, case: &mut Case) {
 
 fn wrong_out(random: &mut Random, case: &mut Case) {
     let length = case.out.len();
-    let others = [0, length.saturating_sub(1), length + 1, 160, 320, 640];
+    let others = [0, length.saturating_sub(1), length + 1, 80, 160, 320, 640];
     case.out.resize(random.pick(&others), 0xEE);
 }
 
@@ -133,4 +141,12 @@ fn wrong_answer_length(random: &mut Random, case: &mut Case) {
         let others = [0, 1, ANSWER - 1, ANSWER + 1, 2 * ANSWER];
         case.answer.resize(random.pick(&others), 3);
     }
+}
+
+/// A part that the buffers were not made for, or none at all.
+fn other_part(random: &mut Random, case: &mut Case) {
+    case.part = match random.below(2) {
+        0 => 1 - case.part % 2,
+        _ => random.pick(&generate::UNKNOWN_PARTS),
+    };
 }

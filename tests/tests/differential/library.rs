@@ -6,33 +6,33 @@ pub const SIZE: u8 = 255;
 #[rustfmt::skip]
 extern "C" {
     pub fn humtrellis_power_on(
-        chips0: u8, chips1: u8, ram: *const u8, ram_length: usize,
+        part: u8, chips0: u8, chips1: u8, ram: *const u8, ram_length: usize,
         registers: *mut u8, registers_length: usize, answer: *mut usize, answer_length: usize,
     ) -> u8;
 
     pub fn humtrellis_transfer(
-        chips0: u8, chips1: u8, registers: *mut u8, registers_length: usize,
+        part: u8, chips0: u8, chips1: u8, registers: *mut u8, registers_length: usize,
         ram: *mut u8, ram_length: usize, bytes: *const u8, bytes_length: usize,
         answer: *mut usize, answer_length: usize,
     ) -> u8;
 
     pub fn humtrellis_picture(
-        chips0: u8, chips1: u8, registers: *const u8, registers_length: usize,
+        part: u8, chips0: u8, chips1: u8, registers: *const u8, registers_length: usize,
         ram: *const u8, ram_length: usize, group: u8, phase: u8,
         out: *mut u8, out_length: usize, answer: *mut usize, answer_length: usize,
     ) -> u8;
 
     pub fn humtrellis_plain_transfer(
-        chips: *mut u8, chips_length: usize, bytes: *const u8, bytes_length: usize,
+        part: u8, chips: *mut u8, chips_length: usize, bytes: *const u8, bytes_length: usize,
         answer: *mut usize, answer_length: usize,
     ) -> u8;
 
     pub fn humtrellis_chip_power_on(
-        chip: *mut u8, chip_length: usize, answer: *mut usize, answer_length: usize,
+        part: u8, chip: *mut u8, chip_length: usize, answer: *mut usize, answer_length: usize,
     ) -> u8;
 
     pub fn humtrellis_chip_picture(
-        chip: *const u8, chip_length: usize, phase: u8, out: *mut u8, out_length: usize,
+        part: u8, chip: *const u8, chip_length: usize, phase: u8, out: *mut u8, out_length: usize,
         answer: *mut usize, answer_length: usize,
     ) -> u8;
 
@@ -85,6 +85,7 @@ fn numbers(buffer: &[usize]) -> Fenced<usize> {
 }
 
 pub fn power_on(
+    part: u8,
     [chips0, chips1]: [u8; 2],
     ram: &mut [u8],
     registers: &mut [u8],
@@ -94,6 +95,7 @@ pub fn power_on(
     // Safety: each pointer goes with the length of the buffer that it points to.
     let number = unsafe {
         humtrellis_power_on(
+            part,
             chips0,
             chips1,
             r.pointer(),
@@ -111,6 +113,7 @@ pub fn power_on(
 }
 
 pub fn transfer(
+    part: u8,
     [chips0, chips1]: [u8; 2],
     registers: &mut [u8],
     ram: &mut [u8],
@@ -122,6 +125,7 @@ pub fn transfer(
     // Safety: each pointer goes with the length of the buffer that it points to.
     let number = unsafe {
         humtrellis_transfer(
+            part,
             chips0,
             chips1,
             s.pointer(),
@@ -142,6 +146,7 @@ pub fn transfer(
 }
 
 pub fn picture(
+    part: u8,
     [chips0, chips1]: [u8; 2],
     registers: &mut [u8],
     ram: &mut [u8],
@@ -154,6 +159,7 @@ pub fn picture(
     // Safety: each pointer goes with the length of the buffer that it points to.
     let number = unsafe {
         humtrellis_picture(
+            part,
             chips0,
             chips1,
             s.pointer(),
@@ -175,11 +181,12 @@ pub fn picture(
     number
 }
 
-pub fn plain_transfer(chips: &mut [u8], sent: &mut [u8], answer: &mut [usize]) -> u8 {
+pub fn plain_transfer(part: u8, chips: &mut [u8], sent: &mut [u8], answer: &mut [usize]) -> u8 {
     let (mut c, mut b, mut a) = (bytes(chips), bytes(sent), numbers(answer));
     // Safety: each pointer goes with the length of the buffer that it points to.
     let number = unsafe {
         humtrellis_plain_transfer(
+            part,
             c.pointer(),
             c.length(),
             b.pointer(),
@@ -194,21 +201,28 @@ pub fn plain_transfer(chips: &mut [u8], sent: &mut [u8], answer: &mut [usize]) -
     number
 }
 
-pub fn chip_power_on(chip: &mut [u8], answer: &mut [usize]) -> u8 {
+pub fn chip_power_on(part: u8, chip: &mut [u8], answer: &mut [usize]) -> u8 {
     let (mut c, mut a) = (bytes(chip), numbers(answer));
     // Safety: each pointer goes with the length of the buffer that it points to.
     let number =
-        unsafe { humtrellis_chip_power_on(c.pointer(), c.length(), a.pointer(), a.length()) };
+        unsafe { humtrellis_chip_power_on(part, c.pointer(), c.length(), a.pointer(), a.length()) };
     c.back(chip);
     a.back(answer);
     number
 }
 
-pub fn chip_picture(chip: &mut [u8], phase: u8, out: &mut [u8], answer: &mut [usize]) -> u8 {
+pub fn chip_picture(
+    part: u8,
+    chip: &mut [u8],
+    phase: u8,
+    out: &mut [u8],
+    answer: &mut [usize],
+) -> u8 {
     let (mut c, mut o, mut a) = (bytes(chip), bytes(out), numbers(answer));
     // Safety: each pointer goes with the length of the buffer that it points to.
     let number = unsafe {
         humtrellis_chip_picture(
+            part,
             c.pointer(),
             c.length(),
             phase,

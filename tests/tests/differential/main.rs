@@ -11,15 +11,17 @@ mod fault;
 mod last_chip;
 mod library;
 mod orders;
+mod part;
 mod plain;
 mod replay;
 mod rescue;
 mod seen;
 mod stops;
 
-use case::{Call, Case};
-use humtrellis_tests::model::COLUMNS;
-use humtrellis_tests::{generate, random::Random};
+use case::{refusal_of, Call, Case};
+use humtrellis_tests::generate::{self, shape};
+use humtrellis_tests::model::Part;
+use humtrellis_tests::random::Random;
 use std::time::{Duration, Instant};
 
 /// Runs a test for each seed below `count`, then for more seeds as long as SOAK says.
@@ -56,7 +58,7 @@ fn sequences() {
         let mut case = fault::good_case(random);
         case.compare(Call::PowerOn);
         for _ in 0..60 {
-            case.bytes = fault::transfer(random);
+            case.bytes = fault::transfer(random, case.part);
             case.compare(Call::Transfer);
             compare_pictures(&case);
         }
@@ -66,71 +68,81 @@ fn sequences() {
 fn compare_pictures(case: &Case) {
     for shown in [[0, 0], [0, 1], [1, 0], [1, 1]] {
         let mut case = case.clone();
-        case.shown = shown;
-        case.out = vec![0xEE; COLUMNS * case.chips[shown[0] as usize] as usize];
-        assert_eq!(case.compare(Call::Picture), 0);
+        case.show(shown);
+        assert_eq!(case.compare(Call::Picture), refusal_of(case.part));
     }
 }
 
 /// A case of `chips` in one group, the other having one chip, with RAM of a pattern that differs from chip to chip.
-fn patterned(group: usize, chips: u8) -> Case {
+fn patterned(part: Part, group: usize, chips: u8) -> Case {
     let mut counts = [1, 1];
     counts[group] = chips;
-    let mut case = Case::new(counts);
+    let mut case = Case::new(part.number(), counts);
     for (place, column) in case.ram.iter_mut().enumerate() {
         *column = ((place * 7 + place / 16) % 16) as u8;
     }
     case
 }
 
+/// Registers with every M, P, A and I.
+fn every_place(part: Part) -> impl Iterator<Item = [u8; 9]> {
+    let (columns, counters) = (part.columns(), part.subaddresses() as usize + 1);
+    (0..columns * counters * 4 * 2).map(move |state| {
+        let (p, rest) = (state % columns, state / columns);
+        let (a, rest) = (rest % counters, rest / counters);
+        [1, 0, rest % 4, p, a, rest / 4, 0, 0, 0].map(|value| value as u8)
+    })
+}
+
 /// A data byte from every pointer, counter, mode and input bank.
 #[test]
 fn every_position() {
     let mut random = Random::new(1);
-    for chips in 0..=4 {
-        let group = chips as usize % 2;
-        let address = [0x70, 0x72][group];
-        let mut case = patterned(group, chips);
-        for state in 0..160 * 5 * 4 * 2 {
-            let p = state % 160;
-            let set = [
-                1,
-                0,
-                state / 1600 % 4,
-                p,
-                state / 160 % 5,
-                state / 6400,
-                0,
-                0,
-                0,
-            ];
-            let set = set.map(|value| value as u8);
-            case.registers[9 * group..][..9].copy_from_slice(&set);
-            case.bytes = vec![address, 0x40, random.byte(), random.byte()];
-            assert_eq!(case.try_call(Call::Transfer), 0);
+    for part in Part::BOTH {
+        for chips in 0..=part.subaddresses() {
+            let group = chips as usize % 2;
+            let address = [0x70, 0x72][group];
+            let mut case = patterned(part, group, chips);
+            for set in every_place(part) {
+                case.registers[9 * group..][..9].copy_from_slice(&set);
+                case.bytes = vec![address, 0x40, random.byte(), random.byte()];
+                assert_eq!(case.try_call(Call::Transfer), 0);
+            }
         }
     }
+}
+
+/// Transfers with one byte as address, control byte, command and data, and another one as a command.
+fn with_byte(address: u8, byte: u8, other: u8) -> [Vec<u8>; 7] {
+    [
+        vec![byte, 0x00, other],
+        vec![address, byte],
+        vec![address, byte, other],
+        vec![address, byte, other, 0x40, 0xA5],
+        vec![address, 0x80, byte, 0x40, 0x3C],
+        vec![address, 0x00, other, byte, other],
+        vec![address, 0xC0, byte, 0x80, byte, 0x40],
+    ]
 }
 
 /// Every command byte, control byte and address byte.
 #[test]
 fn every_byte() {
     let mut random = Random::new(2);
-    for chips in [[1, 0], [0, 1], [2, 3]] {
-        let mut case = Case::new(chips);
+    for (part, chips) in [
+        (0, [1, 0]),
+        (0, [0, 1]),
+        (0, [2, 3]),
+        (1, [1, 0]),
+        (1, [0, 1]),
+        (1, [5, 8]),
+    ] {
+        let mut case = Case::new(part, chips);
         for byte in 0..=255 {
-            case.registers = fault::registers(&mut random);
-            let other = generate::command(&mut random);
+            case.registers = fault::registers(&mut random, part);
+            let other = generate::command(&mut random, shape(part));
             for address in [0x70, 0x72] {
-                for bytes in [
-                    vec![byte, 0x00, other],
-                    vec![address, byte],
-                    vec![address, byte, other],
-                    vec![address, byte, other, 0x40, 0xA5],
-                    vec![address, 0x80, byte, 0x40, 0x3C],
-                    vec![address, 0x00, other, byte, other],
-                    vec![address, 0xC0, byte, 0x80, byte, 0x40],
-                ] {
+                for bytes in with_byte(address, byte, other) {
                     case.bytes = bytes;
                     case.try_call(Call::Transfer);
                 }
@@ -142,34 +154,37 @@ fn every_byte() {
 /// Every value of every register.
 #[test]
 fn every_register() {
-    for place in 0..18 {
-        for value in 0..=255 {
-            let mut case = patterned(0, 1);
-            case.registers[place] = value;
-            case.bytes = vec![[0x70, 0x72][place / 9], 0x80, 0x03, 0x40, 0xA5];
-            case.shown = [(place / 9) as u8, 1];
-            case.try_all();
+    for part in Part::BOTH {
+        for place in 0..18 {
+            for value in 0..=255 {
+                let mut case = patterned(part, 0, 1);
+                case.registers[place] = value;
+                case.bytes = vec![[0x70, 0x72][place / 9], 0x80, 0x03, 0x40, 0xA5];
+                case.shown = [(place / 9) as u8, 1];
+                case.try_all();
+            }
         }
     }
 }
 
 /// Registers with every E, B, M, I, O, AB and BF; P and A vary too.
-pub fn every_setting() -> impl Iterator<Item = [u8; 9]> {
-    (0..2 * 2 * 4 * 2 * 2 * 2 * 4).map(|state| {
+pub fn every_setting(part: Part) -> impl Iterator<Item = [u8; 9]> {
+    let (columns, counters) = (part.columns(), part.subaddresses() as usize + 1);
+    (0..2 * 2 * 4 * 2 * 2 * 2 * 4).map(move |state| {
         let (e, b, m) = (state % 2, state / 2 % 2, state / 4 % 4);
         let (i, o) = (state / 16 % 2, state / 32 % 2);
         let (ab, bf) = (state / 64 % 2, state / 128);
-        [e, b, m, state % 160, state % 5, i, o, ab, bf].map(|value| value as u8)
+        [e, b, m, state % columns, state % counters, i, o, ab, bf].map(|value| value as u8)
     })
 }
 
-/// Every setting in a group of 0 to 4 chips, over all column values, at both phases.
+/// Every setting in a group of no chip up to the most, over all column values, at both phases.
 #[test]
 fn every_picture() {
-    for group in 0..2 {
-        for chips in 0..=4 {
-            let mut case = patterned(group, chips);
-            for set in every_setting() {
+    for part in Part::BOTH {
+        for (group, chips) in (0..=part.subaddresses()).flat_map(|chips| [(0, chips), (1, chips)]) {
+            let mut case = patterned(part, group, chips);
+            for set in every_setting(part) {
                 case.registers[9 * group..][..9].copy_from_slice(&set);
                 compare_pictures(&case);
             }
@@ -180,11 +195,13 @@ fn every_picture() {
 /// A column over 15 at every place of the RAM.
 #[test]
 fn every_wrong_column() {
-    for place in 0..8 * COLUMNS {
-        let mut case = Case::new([4, 4]);
-        case.ram[place] = 16;
-        case.ram[8 * COLUMNS - 1] = 255;
-        assert_eq!(case.try_all(), [5, 5, 5]);
+    for (part, chips) in [(0, [4, 4]), (1, [8, 8])] {
+        for place in 0..1280 {
+            let mut case = Case::new(part, chips);
+            case.ram[place] = 16;
+            case.ram[1279] = 255;
+            assert_eq!(case.try_all(), [5, 5, 5]);
+        }
     }
 }
 

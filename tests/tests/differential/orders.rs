@@ -1,6 +1,7 @@
 //! Every set of faults at once: which refusal comes first.
 
-use crate::case::{Call, Case};
+use crate::case::{first_refusal, refusal_of, Call, Case, PARTS};
+use humtrellis_tests::generate::shape;
 use humtrellis_tests::model::ANSWER;
 
 const BAD_COUNT: usize = 1;
@@ -8,14 +9,22 @@ const BAD_REGISTER: usize = 2;
 const BAD_LENGTH: usize = 4;
 const BAD_COLUMN: usize = 8;
 
+/// Each part with every set of faults.
+fn every_fault() -> impl Iterator<Item = (u8, usize)> {
+    PARTS
+        .into_iter()
+        .flat_map(|part| (0..16).map(move |faults| (part, faults)))
+}
+
 /// A bus of two chips and one, with the faults that the bits of `faults` name.
-fn bus_with(faults: usize) -> Case {
-    let mut case = Case::new([2, 1]);
+fn bus_with(part: u8, faults: usize) -> Case {
+    let mut case = Case::new(part, [2, 1]);
+    let most = shape(part).subaddresses();
     if faults & BAD_COUNT != 0 {
-        case.chips[1] = 5;
+        case.chips[1] = most + 1;
     }
     if faults & BAD_REGISTER != 0 {
-        case.registers[13] = 5;
+        case.registers[13] = most + 1;
     }
     if faults & BAD_LENGTH != 0 {
         case.ram.push(0);
@@ -27,25 +36,28 @@ fn bus_with(faults: usize) -> Case {
     case
 }
 
-/// The refusal of a bus, if it has a fault.
-fn refusal_of_bus(faults: usize, registers_matter: bool) -> Option<u8> {
-    let order = [
-        (BAD_COUNT, 3),
-        (BAD_REGISTER, 6),
-        (BAD_LENGTH, 4),
-        (BAD_COLUMN, 5),
-    ];
-    let mut order = order.iter();
-    let first = order
-        .find(|(fault, _)| faults & fault != 0 && (registers_matter || *fault != BAD_REGISTER));
-    first.map(|(_, number)| *number)
+/// The refusal of a bus, or 0: its part comes first.
+fn refusal_of_bus(part: u8, faults: usize, registers_matter: bool) -> u8 {
+    let refusal = |fault, number| if faults & fault != 0 { number } else { 0 };
+    let register = if registers_matter {
+        refusal(BAD_REGISTER, 6)
+    } else {
+        0
+    };
+    first_refusal([
+        refusal_of(part),
+        refusal(BAD_COUNT, 3),
+        register,
+        refusal(BAD_LENGTH, 4),
+        refusal(BAD_COLUMN, 5),
+    ])
 }
 
 #[test]
 fn power_on() {
-    for faults in 0..16 {
-        let expected = refusal_of_bus(faults, false).unwrap_or(0);
-        assert_eq!(bus_with(faults).compare(Call::PowerOn), expected);
+    for (part, faults) in every_fault() {
+        let expected = refusal_of_bus(part, faults, false);
+        assert_eq!(bus_with(part, faults).compare(Call::PowerOn), expected);
     }
 }
 
@@ -69,11 +81,11 @@ pub fn transfers() -> Vec<(Vec<u8>, u8)> {
 
 #[test]
 fn transfer() {
-    for faults in 0..16 {
+    for (part, faults) in every_fault() {
         for (bytes, number) in transfers() {
-            let mut case = bus_with(faults);
+            let mut case = bus_with(part, faults);
             case.bytes = bytes;
-            let expected = refusal_of_bus(faults, true).unwrap_or(number);
+            let expected = first_refusal([refusal_of_bus(part, faults, true), number]);
             assert_eq!(case.compare(Call::Transfer), expected);
         }
     }
@@ -82,14 +94,16 @@ fn transfer() {
 #[test]
 fn picture() {
     let views = [([0, 0], 0), ([2, 0], 8), ([0, 2], 8), ([255, 255], 8)];
-    for faults in 0..16 {
+    for (part, faults) in every_fault() {
+        let right = 2 * shape(part).columns();
         for (shown, number) in views {
-            for (length, wrong) in [(320, 0), (319, 9), (321, 9), (0, 9), (160, 9)] {
-                let mut case = bus_with(faults);
+            for length in [right, right - 1, right + 1, 0, right / 2, 2 * right] {
+                let mut case = bus_with(part, faults);
                 case.shown = shown;
                 case.out = vec![0xEE; length];
-                let last = if number == 0 { wrong } else { number };
-                let expected = refusal_of_bus(faults, true).unwrap_or(last);
+                let wrong = if length == right { 0 } else { 9 };
+                let of_bus = refusal_of_bus(part, faults, true);
+                let expected = first_refusal([of_bus, number, wrong]);
                 assert_eq!(case.compare(Call::Picture), expected);
             }
         }
@@ -108,9 +122,9 @@ fn sizes() {
         (18, 0),
         (0, 0),
     ];
-    for faults in 0..16 {
+    for (part, faults) in every_fault() {
         for (registers, answer) in wrong {
-            let mut case = bus_with(faults);
+            let mut case = bus_with(part, faults);
             case.registers.resize(registers, 200);
             case.answer.resize(answer, 77);
             assert_eq!(case.try_all(), [255; 3]);

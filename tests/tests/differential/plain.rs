@@ -1,8 +1,10 @@
 //! The plain account: transfers over chips of 171 bytes.
 
+use crate::case::{first_refusal, refusal_of};
 use crate::library;
 use crate::{fault, for_seeds, orders};
-use humtrellis_tests::model::{self, Chip, Registers, ANSWER, COLUMNS};
+use humtrellis_tests::generate::{self, shape};
+use humtrellis_tests::model::{self, Chip, Part, Registers, ANSWER, COLUMNS};
 use humtrellis_tests::random::Random;
 
 /// Bytes of a chip.
@@ -20,12 +22,12 @@ pub fn bytes_of(chip: &Chip) -> Vec<u8> {
     [&chip.columns[..], &[chip.sa0, chip.subaddress], &registers].concat()
 }
 
-fn by_model(chips: &mut [u8], sent: &[u8], answer: &mut [usize]) -> u8 {
+fn by_model(part: u8, chips: &mut [u8], sent: &[u8], answer: &mut [usize]) -> u8 {
     if answer.len() != ANSWER || chips.len() % CHIP != 0 {
         return library::SIZE;
     }
     let mut list: Vec<Chip> = chips.chunks(CHIP).map(chip_of).collect();
-    let result = model::plain_transfer(&mut list, sent);
+    let result = model::plain_transfer(part, &mut list, sent);
     for (place, chip) in list.iter().enumerate() {
         chips[CHIP * place..][..CHIP].copy_from_slice(&bytes_of(chip));
     }
@@ -34,54 +36,63 @@ fn by_model(chips: &mut [u8], sent: &[u8], answer: &mut [usize]) -> u8 {
 }
 
 /// Makes the call both ways on `chips` and holds all results together.
-pub fn compare(chips: &mut [u8], sent: &[u8]) -> u8 {
-    compare_into(chips, sent, &mut [77; ANSWER])
+pub fn compare(part: u8, chips: &mut [u8], sent: &[u8]) -> u8 {
+    compare_into(part, chips, sent, &mut [77; ANSWER])
 }
 
 /// The same, with the answer in the caller's buffer.
-pub fn compare_into(chips: &mut [u8], sent: &[u8], answer: &mut [usize]) -> u8 {
+pub fn compare_into(part: u8, chips: &mut [u8], sent: &[u8], answer: &mut [usize]) -> u8 {
     let given = chips.to_vec();
     let mut others = chips.to_vec();
     let mut expected = answer.to_vec();
     let mut lent = sent.to_vec();
-    let number = library::plain_transfer(chips, &mut lent, answer);
-    let expected_number = by_model(&mut others, sent, &mut expected);
+    let number = library::plain_transfer(part, chips, &mut lent, answer);
+    let expected_number = by_model(part, &mut others, sent, &mut expected);
     let same = number == expected_number && answer == expected && *chips == others && lent == sent;
     assert!(
         same,
-        "plain differs\n chips {given:?}\n sent {sent:?}\n library {number} {answer:?} {chips:?}\n model {expected_number} {expected:?} {others:?}"
+        "plain differs\n part {part} chips {given:?}\n sent {sent:?}\n library {number} {answer:?} {chips:?}\n model {expected_number} {expected:?} {others:?}"
     );
     number
 }
 
-fn chip(random: &mut Random, set: &[u8]) -> Vec<u8> {
-    let mut bytes = fault::columns(random, COLUMNS);
-    bytes.extend([random.below(2) as u8, random.below(4) as u8]);
+/// A chip with these registers; behind the columns that its part has, any bytes.
+fn chip(random: &mut Random, part: Part, set: &[u8]) -> Vec<u8> {
+    let mut bytes = fault::columns(random, part.columns());
+    bytes.extend(random.bytes(COLUMNS - part.columns()));
+    let subaddress = random.below(part.subaddresses().into());
+    bytes.extend([random.below(2) as u8, subaddress as u8]);
     bytes.extend(set);
     bytes
 }
 
 /// Chips with equal registers or each with its own; gaps and repeated subaddresses.
-pub fn chips(random: &mut Random, count: usize) -> Vec<u8> {
-    let common = fault::registers(random);
+pub fn chips(random: &mut Random, part: u8, count: usize) -> Vec<u8> {
+    let common = fault::registers(random, part);
     let equal = random.one_in(2);
     let mut chips = Vec::new();
     for _ in 0..count {
-        let own = fault::registers(random);
+        let own = fault::registers(random, part);
         let set = if equal { &common } else { &own };
-        chips.extend(chip(random, &set[..9]));
+        chips.extend(chip(random, shape(part), &set[..9]));
     }
     chips
+}
+
+/// A list of no chip up to the most of its part.
+pub fn list(random: &mut Random, part: u8) -> Vec<u8> {
+    let count = random.below(shape(part).most_chips() + 1);
+    chips(random, part, count)
 }
 
 #[test]
 fn plain_sequences() {
     for_seeds(1500, |random| {
-        let count = random.below(9);
-        let mut chips = chips(random, count);
+        let part = generate::part(random);
+        let mut chips = list(random, part);
         for _ in 0..30 {
-            let sent = fault::transfer(random);
-            compare(&mut chips, &sent);
+            let sent = fault::transfer(random, part);
+            compare(part, &mut chips, &sent);
         }
     });
 }
@@ -89,8 +100,9 @@ fn plain_sequences() {
 #[test]
 fn plain_damaged() {
     for_seeds(30_000, |random| {
-        let count = random.below(11);
-        let mut chips = chips(random, count);
+        let part = generate::part(random);
+        let count = random.below(shape(part).most_chips() + 3);
+        let mut chips = chips(random, part, count);
         for _ in 0..random.below(4) {
             if !chips.is_empty() {
                 let place = random.below(chips.len());
@@ -98,25 +110,27 @@ fn plain_damaged() {
                 chips[random.pick(&[place, head])] = random.byte();
             }
         }
-        let sent = fault::transfer(random);
+        let sent = fault::transfer(random, part);
         let length = match random.one_in(4) {
             true => random.pick(&[0, ANSWER - 1, ANSWER + 1]),
             false => ANSWER,
         };
-        compare_into(&mut chips, &sent, &mut vec![77; length]);
+        compare_into(part, &mut chips, &sent, &mut vec![77; length]);
     });
 }
 
-/// Every set of faults at once: 10, 11, 1, 2, then 7 and 17.
+/// Every set of faults at once: 16, 10, 11, 1, 2, then 7 and 17.
 #[test]
 fn plain_orders() {
-    for (count, many) in [(1, 0), (8, 0), (9, 10), (10, 10)] {
-        for (value, misfit) in [(0, 0), (9, 11)] {
-            for (sent, number) in orders::transfers() {
-                let mut chips = vec![0; count * CHIP];
-                chips[count * CHIP - 1] = value;
-                let expected = [many, misfit, number].into_iter().find(|&n| n != 0);
-                assert_eq!(compare(&mut chips, &sent), expected.unwrap_or(0));
+    for (part, most) in [(0, 8), (1, 16), (2, 8), (255, 16)] {
+        for (count, many) in [(1, 0), (most, 0), (most + 1, 10), (most + 2, 10)] {
+            for (value, misfit) in [(0, 0), (9, 11)] {
+                for (sent, number) in orders::transfers() {
+                    let mut chips = vec![0; count * CHIP];
+                    chips[count * CHIP - 1] = value;
+                    let expected = first_refusal([refusal_of(part), many, misfit, number]);
+                    assert_eq!(compare(part, &mut chips, &sent), expected);
+                }
             }
         }
     }
@@ -125,22 +139,26 @@ fn plain_orders() {
 /// Lists that end inside a chip, and too many chips, whole or not.
 #[test]
 fn plain_every_length() {
-    for length in 0..=11 * CHIP {
-        let mut chips = vec![1; length];
-        compare(&mut chips, &[0x70, 0x40, 0xA5]);
-        let mut blank = vec![0; length];
-        compare(&mut blank, &[0x70, 0x40, 0xA5]);
+    for (part, most) in [(0, 8), (1, 16), (2, 1)] {
+        for length in 0..=(most + 3) * CHIP {
+            for value in [0, 1] {
+                let mut chips = vec![value; length];
+                compare(part, &mut chips, &[0x70, 0x40, 0xA5]);
+            }
+        }
     }
 }
 
-/// Every value of every field of a chip.
+/// Every value of every field of a chip, and of the places about the end of either part's columns.
 #[test]
 fn plain_every_field() {
-    for place in COLUMNS - 1..CHIP {
-        for value in 0..=255 {
-            let mut chips = vec![0; 2 * CHIP];
-            chips[CHIP + place] = value;
-            compare(&mut chips, &[0x70, 0x80, 0x03, 0x40, 0xA5, 0x5A]);
+    for part in 0..2 {
+        for place in (78..82).chain(COLUMNS - 2..CHIP) {
+            for value in 0..=255 {
+                let mut chips = vec![0; 2 * CHIP];
+                chips[CHIP + place] = value;
+                compare(part, &mut chips, &[0x70, 0x80, 0x03, 0x40, 0xA5, 0x5A]);
+            }
         }
     }
 }

@@ -1,16 +1,19 @@
 //! A length that its check refuses is not walked through: each call here is given a false one, over a few bytes, and answers the paper's number.
 //! Safety of every call: the refusal comes before a byte behind the false length is read or written; the other lengths are true.
 
+use crate::case::{first_refusal, refusal_of, PARTS};
 use crate::library::*;
 use crate::plain::CHIP;
+use humtrellis_tests::generate::shape;
 use humtrellis_tests::header::text_room;
-use humtrellis_tests::model::{ANSWER, COLUMNS, NONE};
+use humtrellis_tests::model::{none, ANSWER, COLUMNS};
 
 /// More than is mapped behind any buffer here.
 const FALSE: usize = 1 << 44;
 
 /// One chip, and the lengths that are told of its buffers.
 struct Bus {
+    part: u8,
     chips: u8,
     registers: [u8; 18],
     ram_length: usize,
@@ -20,19 +23,21 @@ struct Bus {
 }
 
 impl Bus {
-    fn new() -> Self {
+    fn new(part: u8) -> Self {
         Bus {
+            part,
             chips: 1,
             registers: [0; 18],
-            ram_length: COLUMNS,
+            ram_length: shape(part).columns(),
             bytes_length: 2,
-            out_length: COLUMNS,
+            out_length: shape(part).columns(),
             answer: [77; ANSWER],
         }
     }
 
-    /// A call that is refused by this number, with place 0; only a transfer has a chip, and that is none.
+    /// A call that is refused by this number, or by its part before, with place 0; only a transfer has a chip, and that is none.
     fn refused(&self, number: u8, expected: u8, chip: usize) {
+        let expected = first_refusal([refusal_of(self.part), expected]);
         assert_eq!(number, expected);
         assert_eq!(self.answer, [expected.into(), 0, 0, 0, 0, chip]);
     }
@@ -41,6 +46,7 @@ impl Bus {
         let (ram, r, a) = ([0; COLUMNS], &mut self.registers, &mut self.answer);
         let number = unsafe {
             humtrellis_power_on(
+                self.part,
                 self.chips,
                 0,
                 ram.as_ptr(),
@@ -59,6 +65,7 @@ impl Bus {
         let (r, a, ram) = (&mut self.registers, &mut self.answer, ram.as_mut_ptr());
         let number = unsafe {
             humtrellis_transfer(
+                self.part,
                 self.chips,
                 0,
                 r.as_mut_ptr(),
@@ -71,7 +78,7 @@ impl Bus {
                 ANSWER,
             )
         };
-        self.refused(number, expected, NONE);
+        self.refused(number, expected, none(self.part));
     }
 
     fn picture(&mut self, expected: u8) {
@@ -79,6 +86,7 @@ impl Bus {
         let (r, a) = (&self.registers, &mut self.answer);
         let number = unsafe {
             humtrellis_picture(
+                self.part,
                 self.chips,
                 0,
                 r.as_ptr(),
@@ -100,53 +108,61 @@ impl Bus {
 
 #[test]
 fn stops_at_ram_length() {
-    let mut bus = Bus::new();
-    bus.ram_length = FALSE;
-    bus.power_on(4);
-    bus.transfer(4);
-    bus.picture(4);
+    for mut bus in PARTS.map(Bus::new) {
+        bus.ram_length = FALSE;
+        bus.power_on(4);
+        bus.transfer(4);
+        bus.picture(4);
+    }
 }
 
 /// A register comes before the RAM's length, and a chip count before both.
 #[test]
 fn stops_before_ram_length() {
-    let mut bus = Bus::new();
-    bus.ram_length = FALSE;
-    bus.registers[0] = 9;
-    bus.transfer(6);
-    bus.picture(6);
-    bus.chips = 5;
-    bus.transfer(3);
-    bus.picture(3);
-    bus.power_on(3);
+    for mut bus in PARTS.map(Bus::new) {
+        bus.ram_length = FALSE;
+        bus.registers[0] = 9;
+        bus.transfer(6);
+        bus.picture(6);
+        bus.chips = 9;
+        bus.transfer(3);
+        bus.picture(3);
+        bus.power_on(3);
+    }
 }
 
 #[test]
 fn stops_at_transfer_and_picture_length() {
-    let mut bus = Bus::new();
-    bus.bytes_length = FALSE;
-    bus.transfer(2);
-    bus.out_length = FALSE;
-    bus.picture(9);
+    for mut bus in PARTS.map(Bus::new) {
+        bus.bytes_length = FALSE;
+        bus.transfer(2);
+        bus.out_length = FALSE;
+        bus.picture(9);
+    }
 }
 
 #[test]
-fn stops_at_list_transfer_and_picture_of_chips() {
-    let mut bus = Bus::new();
-    let (mut chip, bytes, mut out) = ([0; CHIP], [0x70, 0x00], [0xEE; COLUMNS]);
-    for (chips, length, expected) in [(FALSE / CHIP * CHIP, 2, 10), (CHIP, FALSE, 2)] {
-        let a = bus.answer.as_mut_ptr();
-        let number = unsafe {
-            humtrellis_plain_transfer(chip.as_mut_ptr(), chips, bytes.as_ptr(), length, a, ANSWER)
-        };
-        bus.refused(number, expected, NONE);
+fn stops_at_list_and_transfer_of_chips() {
+    for mut bus in PARTS.map(Bus::new) {
+        let (mut chip, bytes) = ([0; CHIP], [0x70, 0x00]);
+        for (chips, length, expected) in [(FALSE / CHIP * CHIP, 2, 10), (CHIP, FALSE, 2)] {
+            let (c, b, a) = (chip.as_mut_ptr(), bytes.as_ptr(), bus.answer.as_mut_ptr());
+            let number =
+                unsafe { humtrellis_plain_transfer(bus.part, c, chips, b, length, a, ANSWER) };
+            bus.refused(number, expected, none(bus.part));
+        }
     }
-    let a = bus.answer.as_mut_ptr();
-    let number = unsafe {
-        humtrellis_chip_picture(chip.as_ptr(), CHIP, 0, out.as_mut_ptr(), FALSE, a, ANSWER)
-    };
-    bus.refused(number, 9, 0);
-    assert_eq!(out, [0xEE; COLUMNS]);
+}
+
+#[test]
+fn stops_at_picture_of_a_chip() {
+    for mut bus in PARTS.map(Bus::new) {
+        let (chip, mut out) = ([0; CHIP], [0xEE; COLUMNS]);
+        let (c, o, a) = (chip.as_ptr(), out.as_mut_ptr(), bus.answer.as_mut_ptr());
+        let number = unsafe { humtrellis_chip_picture(bus.part, c, CHIP, 0, o, FALSE, a, ANSWER) };
+        bus.refused(number, 9, 0);
+        assert_eq!(out, [0xEE; COLUMNS]);
+    }
 }
 
 #[test]
@@ -159,7 +175,7 @@ fn stops_at_log_length() {
 
 #[test]
 fn stops_at_length_of_a_torn_log() {
-    let (mut bus, mut out) = (Bus::new(), [0xEE; 3]);
+    let (mut bus, mut out) = (Bus::new(0), [0xEE; 3]);
     let (log, a) = ([1, 0, 0], bus.answer.as_mut_ptr());
     let number =
         unsafe { humtrellis_rescue(log.as_ptr(), FALSE, out.as_mut_ptr(), out.len(), a, ANSWER) };

@@ -11,7 +11,7 @@ returns c = let s = c .before .before .before .before .before .before .before in
     let a = s .args in
     let long = c .before .before .transfer .ensures .0 in
     let plain = c .before .before .before .before .transfer-bench .ensures .0 in
-    (long, (plain, sides-agree (a .chips) (a .registers) (now (a .ram)) (a .bench) (now (a .bytes)) _ (c .before .before .before .before .transfer-bench .result) (s .pre) long plain))
+    (long, (plain, sides-agree (a .part) (a .chips) (a .registers) (now (a .ram)) (a .bench) (now (a .bytes)) _ (c .before .before .before .before .transfer-bench .result) (s .pre) long plain))
 
 pub side-by-side-spec : {M : Type 1} → statement M
 side-by-side-spec =

@@ -5,11 +5,12 @@ use mathlib.Core.List.{List}
 use Prim.Native.Nat.{ℕ}
 use native.Mathlib.Omega.{arith}
 use Rattle.sheet.specs.Parts.{pcf8532}
-use Rattle.sheet.specs.Long.{stateOf, State, powerOnCall, stateAfterAll}
+use Rattle.sheet.specs.Long.{stateOf, State, powerOnPart, stateAfterAll}
 use Rattle.sheet.specs.Logs.{seenBytes, logRecords, logTransfers, transferLines, endLines, logStart, logLines}
 use Rattle.sheet.specs.Agree.{Valid}
 use Rattle.text.proofs.Writing.{Writing, begin, rest-is, turn, last, room-for}
-use Rattle.agreement.proofs.Demand.{pcf8532-agrees}
+use Rattle.agreement.proofs.Demand.{demand3}
+use Rattle.laws.proofs.Kept.{pcf8532-keeps}
 use Rattle.buslog.proofs.States.{start-valid}
 use borrow.Author.Needs.{needs}
 use Rattle.buslog.proofs.play.Statement.{statement}
@@ -30,7 +31,7 @@ opened s = begin _ _ _ (omega (arith, s .pre .room))
 
 -- the state that the code begins with
 powered : (c : tie.After-power-on) → let a = c .before .before .before .before .before .args in stateOf (c .power-on .result .registers) (a .ram .now) ≡ logStart (a .chips)
-unfolding powerOnCall
+unfolding powerOnPart
 powered c j = record { registers = c .power-on .ensures .0 j .registers; ram = c .before .before .before .before .before .pre .blank j }
 
 -- and the one that the transfers leave
@@ -54,7 +55,7 @@ put-transfers-requires c κs = let s = c .before .before .before .before .before
 put-end-requires : tie.Need-put-end-requires
 put-end-requires c κs = let d = c .before .before .before .before .before .before .before in
     let s = d .before .before .before .before .before .before .before .before in
-    (subst (Valid pcf8532 (s .args .chips)) (sym (left d)) (pcf8532-agrees .sequence (s .args .chips) _ (transfers s) (start-valid (s .args .chips) (s .pre .chips)) .valid), played d .room)
+    (subst (Valid pcf8532 (s .args .chips)) (sym (left d)) (demand3 pcf8532 (omega arith) pcf8532-keeps .sequence (s .args .chips) _ (transfers s) (start-valid (s .args .chips) (s .pre .chips)) .valid), played d .room)
 
 returns : tie.Need-returns
 returns c = last (played (c .before .before .before .before .before .before .before .before .before .before)) (c .before .before .put-end .ensures)

@@ -11,6 +11,7 @@ use Rattle.records.specs.Found.{recordIn}
 use Rattle.records.proofs.Found.{Next, Found, found, none-left}
 use Rattle.text.proofs.Writing.{begin, rest-is, done, room-for, puts-length}
 use Rattle.buslog.proofs.Playing.{Playing, one-more, next-record}
+use Rattle.laws.proofs.Named.{zero-transfer}
 use borrow.Author.Needs.{needs}
 use Rattle.buslog.proofs.put_transfers.Statement.{statement}
 use Rattle.buslog.proofs.put_transfers.Tie as tie
@@ -59,14 +60,14 @@ told : (c : tie.After-transfer Inv-loop μ-loop) → let read = c .before .befor
     let a = p .before .before .before .before .before .args in
     let log = a .log .now in
     let start = read .start .given .0 .0 in
-    _≡_ {A = After} (record { result = c .transfer .result; ram = c .transfer .last .1 .1 .0 })
+    _≡_ {A = After} (record { result = c .transfer .result; ram = c .transfer .last .1 .1 .1 .0 })
     (transferCall pcf8532 (a .chips) (p .loop .registers) (p .loop .ram) (take (start + read .start .given .0 .1 .0 - (start + seenBytes log)) (drop (start + seenBytes log) log)))
 told c = let read = c .before .before .before .before in
     let p = read .before .before .before in
     let a = p .before .before .before .before .before .args in
     let log = a .log .now in
     let start = read .start .given .0 .0 in
-    c .transfer .ensures .0
+    c .transfer .ensures .0 ∙ zero-transfer _ _ _ _
     ∙ ap (λ (k : ℕ). transferCall pcf8532 (a .chips) (p .loop .registers) (p .loop .ram) (take (start + read .start .given .0 .1 .0 - (start + k)) (drop (start + k) log))) (p .before .seen-bytes .ensures)
 
 put-record-requires : tie.Need-put-record-requires Inv-loop μ-loop
@@ -86,7 +87,7 @@ loop-again : tie.Need-loop-again Inv-loop μ-loop
 loop-again c = let t = c .before .before .before .before .before .before .before in
     let read = t .before .before .before .before in
     let p = read .before .before .before in
-    (next-record (p .loop .inv .0) (next read) (told t) (t .transfer .kept .1 .1 .0) (rw (p .before .seen-bytes .ensures) at (c .before .before .put-record .ensures)), p .before .seen-bytes .ensures)
+    (next-record (p .loop .inv .0) (next read) (told t) (t .transfer .kept .1 .1 .1 .0) (rw (p .before .seen-bytes .ensures) at (c .before .before .put-record .ensures)), p .before .seen-bytes .ensures)
 
 returns : tie.Need-returns Inv-loop μ-loop
 unfolding stateAfterAll transferLines

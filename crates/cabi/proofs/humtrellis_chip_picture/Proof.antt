@@ -4,8 +4,7 @@ use mathlib.Core.Path.{refl, ap, _∙_}
 use lib.Dec.{eqb}
 use lib.ListN.{length}
 use Rattle.sheet.specs.declared.Chip.{Chip}
-use Rattle.sheet.specs.Parts.{pcf8532}
-use Rattle.sheet.specs.Plain.{chipPictureCall}
+use Rattle.sheet.specs.Plain.{chipPicturePart}
 use Rattle.answers.proofs.Small.{picture-small}
 use Rattle.cabi.specs.Calls.{chipPictureC}
 use Rattle.cabi.proofs.Seen.{seen-said}
@@ -22,7 +21,7 @@ returns c = let put = c .before .before in
     let read = shown .before .before in
     let a = read .before .before .before .before .before .args in
     seen-said (eqb (length (a .chip .now)) 171) (a .out .now) (a .answer .now) (read .before .if1 .taken)
-    (shown .picture .ensures .0 ∙ ap (λ (c : Chip). chipPictureCall pcf8532 c (a .phase) (a .out .now)) (read .chip-of .ensures))
+    (shown .picture .ensures .0 ∙ ap (λ (c : Chip). chipPicturePart (a .part) c (a .phase) (a .out .now)) (read .chip-of .ensures))
     (said .picture-numbers .ensures) (put .put-numbers .ensures)
 
 returns-2 : tie.Need-returns-2

@@ -4,8 +4,7 @@ use mathlib.Core.Path.{refl, ap, _∙_}
 use lib.Dec.{eqb}
 use lib.ListN.{length}
 use Rattle.sheet.specs.declared.Both.{Both}
-use Rattle.sheet.specs.Parts.{pcf8532}
-use Rattle.sheet.specs.Long.{pictureCall}
+use Rattle.sheet.specs.Long.{picturePart}
 use Rattle.answers.proofs.Small.{picture-small}
 use Rattle.cabi.specs.Calls.{chipsOf, pictureC}
 use Rattle.cabi.proofs.Seen.{seen-said}
@@ -22,7 +21,7 @@ returns c = let put = c .before .before in
     let read = shown .before .before in
     let a = read .before .before .before .before .before .before .args in
     seen-said (eqb (length (a .registers .now)) 18) (a .out .now) (a .answer .now) (read .before .if1 .taken)
-    (shown .picture .ensures .0 ∙ ap (λ (r : Both). pictureCall pcf8532 (chipsOf (a .chips0) (a .chips1)) r (a .ram .now) (a .group) (a .phase) (a .out .now)) (read .both-of .ensures))
+    (shown .picture .ensures .0 ∙ ap (λ (r : Both). picturePart (a .part) (chipsOf (a .chips0) (a .chips1)) r (a .ram .now) (a .group) (a .phase) (a .out .now)) (read .both-of .ensures))
     (said .picture-numbers .ensures) (put .put-numbers .ensures)
 
 returns-2 : tie.Need-returns-2

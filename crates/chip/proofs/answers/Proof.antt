@@ -2,7 +2,7 @@
 -- Assumes nothing.
 use mathlib.Core.Path.{sym, ap, _∙_}
 use Rattle.sheet.specs.declared.Expect.{Expect}
-use Rattle.sheet.specs.Parts.{pcf8532}
+use Rattle.sheet.specs.Parts.{partOf}
 use Rattle.sheet.specs.Plain.{acknowledgesByte}
 use borrow.Author.Needs.{needs}
 use Rattle.chip.proofs.answers.Statement.{statement}
@@ -10,11 +10,11 @@ use Rattle.chip.proofs.answers.Tie as tie
 
 returns-2 : tie.Need-returns-2
 returns-2 c = let a = c .before .before .before .before .args in
-    c .answers-byte .ensures ∙ sym (ap (λ (e : Expect). acknowledgesByte pcf8532 e (a .byte) (a .chip)) (c .before .before .expect .given .1))
+    c .answers-byte .ensures ∙ sym (ap (λ (e : Expect). acknowledgesByte (partOf (a .part)) e (a .byte) (a .chip)) (c .before .before .expect .given .1))
 
 returns-3 : tie.Need-returns-3
 returns-3 c = let a = c .before .before .before .before .args in
-    c .answers-byte2 .ensures ∙ sym (ap (λ (e : Expect). acknowledgesByte pcf8532 e (a .byte) (a .chip)) (c .before .before .expect2 .given .1))
+    c .answers-byte2 .ensures ∙ sym (ap (λ (e : Expect). acknowledgesByte (partOf (a .part)) e (a .byte) (a .chip)) (c .before .before .expect2 .given .1))
 
 pub answers-spec : {M : Type 1} → statement M
 answers-spec =

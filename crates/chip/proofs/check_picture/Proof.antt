@@ -1,23 +1,15 @@
--- `chip::check_picture` meets its contract: its checks are the definition's, in its order.
+-- `chip::check_picture` meets its contract: 16, and then the others.
 -- Assumes nothing.
 use mathlib.Core.Path.{refl, sym, _∙_}
-use borrow.Author.Tests.{lt-ltb, le-ltb}
-use Rattle.sheet.specs.Plain.{checkChipPicture}
 use borrow.Author.Needs.{needs}
 use Rattle.chip.proofs.check_picture.Statement.{statement}
 use Rattle.chip.proofs.check_picture.Tie as tie
 
 returns : tie.Need-returns
-unfolding checkChipPicture
-returns c = rw (sym (c .before .before .before .fits2 .ensures) ∙ c .before .before .if1 .taken, lt-ltb _ 2 (c .before .if2 .taken)) (c .unless .ensures)
+returns c = rw (sym (c .before .before .before .check-part .ensures) ∙ c .before .refusal .given .1) refl
 
 returns-2 : tie.Need-returns-2
-unfolding checkChipPicture
-returns-2 c = rw (sym (c .before .before .fits2 .ensures) ∙ c .before .if1 .taken, le-ltb _ 2 (c .if2 .left)) refl
-
-returns-3 : tie.Need-returns-3
-unfolding checkChipPicture
-returns-3 c = rw (sym (c .before .fits2 .ensures) ∙ c .if1 .left) refl
+returns-2 c = rw (sym (c .before .before .before .check-part .ensures) ∙ c .before .enum-told .given .1) (c .check-shown .ensures)
 
 pub check-picture-spec : {M : Type 1} → statement M
-check-picture-spec = tie.close (tie.spec (λ c κs. search needs) (λ c κs. search needs) returns returns-2 returns-3)
+check-picture-spec = tie.close (tie.spec (λ c κs. search needs) (λ c. search needs) (λ c. search needs) (λ c κs. search needs) returns returns-2)

@@ -1,14 +1,14 @@
 -- column: its two parts are the definition's.
 -- Assumes nothing.
 use borrow.Author.Needs.{needs}
-use Rattle.sheet.specs.Parts.{pcf8532}
+use Rattle.sheet.specs.Parts.{partOf}
 use Rattle.sheet.specs.Plain.{afterColumn}
 use Rattle.laws.proofs.Ranges.{range-of}
 use Rattle.columns.proofs.column.Statement.{statement}
 use Rattle.columns.proofs.column.Tie as tie
 
 advance-requires : tie.Need-advance-requires
-advance-requires c κs = let h = range-of pcf8532 _ (c .before .pre .0) in (h .p-in, h .a-in)
+advance-requires c κs = let h = range-of (partOf (c .before .args .part)) _ (c .before .pre .0) in (h .p-in, h .a-in)
 
 returns : tie.Need-returns
 unfolding afterColumn

@@ -6,22 +6,24 @@ use native.Mathlib.Omega.{arith}
 use lib.ListN.{set}
 use borrow.Author.Tests.{eq-eqb, ne-eqb}
 use borrow.Author.Needs.{needs}
-use Rattle.sheet.specs.Parts.{pcf8532}
+use Rattle.sheet.specs.Parts.{partOf}
 use Rattle.sheet.specs.Data.{changed}
 use Rattle.sheet.specs.Plain.{afterColumn}
 use Rattle.laws.proofs.Ranges.{InRange, range-of, rows-fit}
+use Rattle.laws.proofs.Named.{columns-small}
 use Rattle.columns.proofs.stored.Statement.{statement}
 use Rattle.columns.proofs.stored.Tie as tie
 
 -- the registers are in range
-range : (s : tie.Start) → InRange pcf8532 (s .args .chip .registers)
-range s = range-of pcf8532 (s .args .chip .registers) (s .pre .0)
+range : (s : tie.Start) → InRange (partOf (s .args .part)) (s .args .chip .registers)
+range s = range-of (partOf (s .args .part)) (s .args .chip .registers) (s .pre .0)
 
 mul-put-rows : tie.Need-mul-put-rows
 mul-put-rows c = rw (c .before .backplanes .ensures) (omega (arith, c .before .before .before .before .before .before .before .pre .1))
 
 array-read-put-rows : tie.Need-array-read-put-rows
-array-read-put-rows c = range (c .before .before .before .before .before .before .before) .p-in
+array-read-put-rows c = let s = c .before .before .before .before .before .before .before in
+    omega (arith, range s .p-in, columns-small (s .args .part))
 
 put-rows-requires : tie.Need-put-rows-requires
 put-rows-requires c κs = let s = c .before .before .before .before .before .before .before in
@@ -29,7 +31,8 @@ put-rows-requires c κs = let s = c .before .before .before .before .before .bef
     rw (c .bank-row .ensures, c .before .backplanes .ensures) (rows-fit r (r .i) (range s .m-in) (range s .i-in) .1, s .pre .1)
 
 array-write-columns : tie.Need-array-write-columns
-array-write-columns c = range (c .before .before .before .before .before .before .before .before) .p-in
+array-write-columns c = let s = c .before .before .before .before .before .before .before .before in
+    omega (arith, range s .p-in, columns-small (s .args .part))
 
 returns : tie.Need-returns
 unfolding afterColumn changed

@@ -5,7 +5,7 @@ use Prim.Native.Nat.{ℕ, _-_, _≤_}
 use native.Mathlib.Numerals.{add-one}
 use native.Mathlib.Omega.{arith}
 use Rattle.sheet.specs.declared.Chip.{Chip}
-use Rattle.sheet.specs.Parts.{pcf8532}
+use Rattle.sheet.specs.Parts.{Part, partOf}
 use Rattle.sheet.specs.Registers.{backplanes}
 use Rattle.sheet.specs.Plain.{afterColumns, chipData}
 use Rattle.sheet.specs.Data.{widthOf}
@@ -17,15 +17,15 @@ use Rattle.columns.proofs.take_data.Statement.{statement}
 use Rattle.columns.proofs.take_data.Tie as tie
 
 -- the first j columns are taken
-record Taken (byte width : ℕ) (chip moved : Chip) (j : ℕ) : Type 0 where
-  so-far : moved ≡ afterColumns pcf8532 byte j chip
+record Taken (K : Part) (byte width : ℕ) (chip moved : Chip) (j : ℕ) : Type 0 where
+  so-far : moved ≡ afterColumns K byte j chip
   most : j ≤ width
 
 abbrev Inv-loop : tie.InvT-loop
-Inv-loop byte width moved₀ j₀ moved j = Taken byte width moved₀ moved j
+Inv-loop part byte width moved₀ j₀ moved j = Taken (partOf part) byte width moved₀ moved j
 
 abbrev μ-loop : tie.MeasureT-loop
-μ-loop byte width moved₀ j₀ moved j = width - j
+μ-loop part byte width moved₀ j₀ moved j = width - j
 
 wide : (c : tie.After-width Inv-loop μ-loop) → c .width .result ≡ widthOf (backplanes (c .before .before .args .chip .registers))
 wide c = c .width .ensures ∙ ap widthOf (c .before .backplanes .ensures)
@@ -42,9 +42,9 @@ column-requires c κs = let p = c .before .loop in
     let s = c .before .before .before .before in
     let chip = s .args .chip in
     let r = chip .registers in
-    let h = range-of pcf8532 r (s .pre) in
+    let h = range-of (partOf (s .args .part)) r (s .pre) in
     rw (p .inv .so-far)
-    (in-range pcf8532 _ (still-in pcf8532 (s .args .byte) (p .j) chip h), rw (same-planes pcf8532 (s .args .byte) (p .j) chip h) (width-less (backplanes r) (p .j) (planes-pos r) (rw (← (wide (c .before .before))) (c .loop-test .taken))))
+    (in-range (partOf (s .args .part)) _ (still-in (partOf (s .args .part)) (s .args .byte) (p .j) chip h), rw (same-planes (partOf (s .args .part)) (s .args .byte) (p .j) chip h) (width-less (backplanes r) (p .j) (planes-pos r) (rw (← (wide (c .before .before))) (c .loop-test .taken))))
 
 loop-again : tie.Need-loop-again Inv-loop μ-loop
 unfolding afterColumns
@@ -56,7 +56,7 @@ unfolding chipData
 returns c = let p = c .before .loop in
     let s = c .before .before .before .before in
     let e : p .j ≡ c .before .before .width .result = omega (arith, p .inv .most) in
-    p .inv .so-far ∙ ap (λ (n : ℕ). afterColumns pcf8532 (s .args .byte) n (s .args .chip)) (e ∙ wide (c .before .before))
+    p .inv .so-far ∙ ap (λ (n : ℕ). afterColumns (partOf (s .args .part)) (s .args .byte) n (s .args .chip)) (e ∙ wide (c .before .before))
 
 pub take-data-spec : {M : Type 1} → statement M
 take-data-spec =

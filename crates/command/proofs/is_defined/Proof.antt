@@ -1,20 +1,18 @@
--- is_defined: by the case of the command that was decoded.
+-- is_defined: by the part.
 -- Assumes nothing.
-use mathlib.Core.Path.{sym, ap, _∙_}
+use mathlib.Core.Path.{ap, _∙_}
+use native.Mathlib.Omega.{arith}
 use Rattle.sheet.specs.Commands.{defined}
-use Rattle.command.proofs.Cases.{none-else}
+use Rattle.laws.proofs.Named.{is-pcf8532}
 use borrow.Author.Needs.{needs}
 use Rattle.command.proofs.is_defined.Statement.{statement}
 use Rattle.command.proofs.is_defined.Tie as tie
 
-enum-told : tie.Need-enum-told
-enum-told c = search needs
-
 returns : tie.Need-returns
-returns c = sym (ap defined (sym (c .before .before .decode .ensures) ∙ c .enum-told .given .1))
+returns c = rw (is-pcf8532 (c .before .before .before .args .part) (λ e. omega (arith, e, c .before .before .if1 .taken))) (c .told .ensures ∙ ap defined (c .before .decode-pcf8532 .ensures))
 
 returns-2 : tie.Need-returns-2
-returns-2 c = none-else (c .before .decode .result) (c .match .keys2) ∙ ap defined (c .before .decode .ensures)
+returns-2 c = c .told2 .ensures ∙ ap defined (c .before .decode .ensures)
 
 pub is-defined-spec : {M : Type 1} → statement M
-is-defined-spec = tie.close (tie.spec (λ c κs. search needs) enum-told returns returns-2)
+is-defined-spec = tie.close (tie.spec (λ c κs. search needs) (λ c κs. search needs) (λ c κs. search needs) (λ c κs. search needs) returns returns-2)

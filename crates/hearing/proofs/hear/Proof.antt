@@ -6,9 +6,11 @@ use native.Mathlib.Omega.{arith}
 use lib.ListN.{length, drop, length-take, length-drop}
 use denote.Ref.{now}
 use Rattle.sheet.specs.declared.Expect.the-variants.{Control}
-use Rattle.sheet.specs.Parts.{pcf8532}
+use Rattle.sheet.specs.Parts.{partOf}
 use Rattle.sheet.specs.Long.{begun, heard}
 use Rattle.laws.proofs.Ranges.{range-of, in-range}
+use Rattle.laws.proofs.Kept.{part-keeps}
+use Rattle.laws.proofs.Named.{group-columns}
 use Rattle.laws.proofs.Nibbles.{nibbles-of, check-nibbles}
 use Rattle.protocol.specs.declared.Listener.{Listener}
 use Rattle.protocol.specs.Listeners.{groupOf}
@@ -18,10 +20,10 @@ use Rattle.hearing.proofs.hear.Statement.{statement}
 use Rattle.hearing.proofs.hear.Tie as tie
 
 abbrev Inv-loop : tie.InvT-loop
-Inv-loop ram₀ bytes n size listener₀ i₀ ram listener i = Hearing ram₀ bytes (listener₀ .registers) ram listener i
+Inv-loop part ram₀ bytes n size listener₀ i₀ ram listener i = Hearing (partOf part) ram₀ bytes (listener₀ .registers) ram listener i
 
 abbrev μ-loop : tie.MeasureT-loop
-μ-loop ram₀ bytes n size listener₀ i₀ ram listener i = length bytes - i
+μ-loop part ram₀ bytes n size listener₀ i₀ ram listener i = length bytes - i
 
 ends : (c : tie.After-data-end Inv-loop μ-loop) → c .data-end .result ≤ length (now (c .before .before .before .before .before .before .args .bytes))
 ends c = rw (c .data-end .ensures) (ends-in (c .before .before .loop .listener .expect) (c .before .before .loop .i) (length (now (c .before .before .before .before .before .before .args .bytes))) (c .before .loop-test .taken) .1)
@@ -29,10 +31,10 @@ ends c = rw (c .data-end .ensures) (ends-in (c .before .before .loop .listener .
 loop-holds : tie.Need-loop-holds Inv-loop μ-loop
 loop-holds c = let s = c .before .before .before in
     let ram = now (s .args .ram) in
-    subst (λ (l : Listener). Hearing ram (now (s .args .bytes)) (l .registers) ram l 1) (sym (c .begun .ensures))
+    subst (λ (l : Listener). Hearing (partOf (s .args .part)) ram (now (s .args .bytes)) (l .registers) ram l 1) (sym (c .begun .ensures))
     (record {
       rest = refl;
-      kept = record { range = range-of pcf8532 (s .args .registers) (s .pre .range); columns = refl; nibbles = nibbles-of 0 ram (s .pre .nibbles) };
+      kept = record { range = range-of (partOf (s .args .part)) (s .args .registers) (s .pre .range); columns = refl; nibbles = nibbles-of 0 ram (s .pre .nibbles) };
       few = record { acknowledged = omega arith; bits = omega arith };
       most = s .pre .some;
     })
@@ -51,7 +53,7 @@ write-requires c κs = let e = c .before .before .before .before in
     let p = e .before .before in
     let s = p .before .before .before .before in
     record {
-      range = in-range pcf8532 (p .loop .listener .registers) (p .loop .inv .kept .range);
+      range = in-range (partOf (s .args .part)) (p .loop .listener .registers) (p .loop .inv .kept .range);
       short = simp (length-take, length-drop) (omega (arith, s .pre .short));
       nibbles = check-nibbles 0 (p .loop .ram) (p .loop .inv .kept .nibbles);
     }
@@ -65,7 +67,7 @@ run-requires c κs = let e = c .before .before .before .before .before .before .
     let s = p .before .before .before .before in
     let few = p .loop .inv .few in
     record {
-      range = in-range pcf8532 (p .loop .listener .registers) (p .loop .inv .kept .range);
+      range = in-range (partOf (s .args .part)) (p .loop .listener .registers) (p .loop .inv .kept .range);
       short = omega (arith, ends e, s .pre .short);
       acknowledged = omega (arith, few .acknowledged, p .loop .inv .most, s .pre .short);
       stored = omega (arith, few .bits, p .loop .inv .most, s .pre .short);
@@ -81,8 +83,8 @@ loop-again c = let e = c .before .before .before .before .before .before .before
     let p = e .before .before in
     let s = p .before .before .before .before in
     let w = c .before .before .before .write in
-    data-turn (now (s .args .ram)) (now (s .args .bytes)) (p .before .begun .result .registers) (p .loop .ram) (p .loop .listener) (p .loop .i) (e .before .loop-test .taken) (p .loop .inv)
-    (s .pre .few) (e .data-end .result) (e .data-end .ensures) (c .before .before .before .before .before .before .before .if1 .taken) (w .last .0) (c .run .result) (w .ensures) (c .run .ensures)
+    data-turn (partOf (s .args .part)) (part-keeps (s .args .part)) (now (s .args .ram)) (now (s .args .bytes)) (p .before .begun .result .registers) (p .loop .ram) (p .loop .listener) (p .loop .i) (e .before .loop-test .taken) (p .loop .inv)
+    (rw (group-columns (s .args .part)) (s .pre .few)) (e .data-end .result) (e .data-end .ensures) (c .before .before .before .before .before .before .before .if1 .taken) (w .last .1 .0) (c .run .result) (w .ensures) (c .run .ensures)
 
 step-requires : tie.Need-step-requires Inv-loop μ-loop
 step-requires c κs = let p = c .before .before .before .before in
@@ -92,7 +94,7 @@ loop-again-2 : tie.Need-loop-again-2 Inv-loop μ-loop
 loop-again-2 c = let e = c .before .before .before in
     let p = e .before .before in
     let s = p .before .before .before .before in
-    step-turn (now (s .args .ram)) (now (s .args .bytes)) (p .before .begun .result .registers) (p .loop .ram) (p .loop .listener) (p .loop .i) (e .before .loop-test .taken) (p .loop .inv)
+    step-turn (partOf (s .args .part)) (part-keeps (s .args .part)) (now (s .args .ram)) (now (s .args .bytes)) (p .before .begun .result .registers) (p .loop .ram) (p .loop .listener) (p .loop .i) (e .before .loop-test .taken) (p .loop .inv)
     (rw (← (e .data-end .ensures)) (c .before .before .if1 .left)) (c .step .result) (c .step .ensures)
 
 same-length : tie.Need-same-length Inv-loop μ-loop
@@ -101,8 +103,8 @@ same-length c = c .before .loop .inv .kept .columns
 returns : tie.Need-returns Inv-loop μ-loop
 returns c = let p = c .before in
     let a = p .before .before .before .before .args in
-    sym (at-end (p .loop .listener .expect) (now (a .bytes)) (p .loop .i) (c .loop-test .left) (groupOf (p .loop .listener) (p .loop .ram))) ∙ p .loop .inv .rest
-    ∙ ap (λ (l : Listener). heard pcf8532 Control (drop 1 (now (a .bytes))) (begun (l .registers) (now (a .ram)))) (p .before .begun .ensures)
+    sym (at-end (partOf (a .part)) (p .loop .listener .expect) (now (a .bytes)) (p .loop .i) (c .loop-test .left) (groupOf (p .loop .listener) (p .loop .ram))) ∙ p .loop .inv .rest
+    ∙ ap (λ (l : Listener). heard (partOf (a .part)) Control (drop 1 (now (a .bytes))) (begun (l .registers) (now (a .ram)))) (p .before .begun .ensures)
 
 pub hear-spec : {M : Type 1} → statement M
 hear-spec =

@@ -8,7 +8,7 @@ use Rattle.lent.proofs.transfer.Tie as tie
 
 returns-2 : tie.Need-returns-2
 unfolding lentCall
-returns-2 c = rw (many _ _ _ (c .if1 .left))
+returns-2 c = rw (many (c .before .before .before .before .args .part) _ _ _ (c .before .if1 .left), c .too-many .ensures)
 
 pub transfer-spec : {M : Type 1} → statement M
-transfer-spec = tie.close (tie.spec (λ c κs. search needs) (λ c. search needs) (λ c. search needs) returns-2)
+transfer-spec = tie.close (tie.spec (λ c κs. search needs) (λ c κs. search needs) (λ c. search needs) (λ c. search needs) returns-2)

@@ -5,7 +5,7 @@ use mathlib.Core.List.{List, [], _∷_}
 use Prim.Native.Nat.{ℕ, _+_, _≤_}
 use lib.ListN.{length, getD}
 use Rattle.sheet.specs.declared.Answer.{Answer}
-use Rattle.sheet.specs.Parts.{pcf8532}
+use Rattle.sheet.specs.Parts.{partOf, pcf8532}
 use Rattle.sheet.specs.Refusals.{numbers}
 use Rattle.sheet.specs.Logs.{transferLetter, line}
 use Rattle.text.specs.Texts.{Puts}
@@ -22,6 +22,7 @@ six (Answer.Taken t last) ns e = rw e
 six (Answer.Refused r) ns e = rw e
 
 told : (c : tie.After-numbers) → firstSix (c .numbers .result) ≡ numbers pcf8532 (c .before .before .args .answer)
+unfolding partOf
 told c = six (c .before .before .args .answer) (c .numbers .result) (c .numbers .ensures)
 
 put-line-requires : tie.Need-put-line-requires

@@ -9,10 +9,12 @@ use Rattle.sheet.specs.declared.Registers.{Registers}
 use Rattle.sheet.specs.declared.Acknowledger.{Acknowledger}
 use Rattle.sheet.specs.declared.Answer.{Answer}
 use Rattle.sheet.specs.declared.Expect.the-variants.{Control}
-use Rattle.sheet.specs.Parts.{pcf8532}
+use Rattle.sheet.specs.Parts.{partOf}
+use Rattle.sheet.specs.Protocol.{chipsIn}
 use Rattle.sheet.specs.Checks.{overIn}
 use Rattle.sheet.specs.Long.{Group, oneAcknowledged, noCounts, heard, replaced, columnsOf}
 use Rattle.laws.proofs.Ranges.{in-range}
+use Rattle.laws.proofs.Named.{ram-small}
 use Rattle.laws.proofs.Fits.{Fits, fits-of}
 use Rattle.laws.proofs.Nibbles.{check-nibbles}
 use Rattle.laws.proofs.Lens.{few-chips-in, ends-in-ram, group-kept}
@@ -22,27 +24,27 @@ use Rattle.long.proofs.deliver.Statement.{statement}
 use Rattle.long.proofs.deliver.Tie as tie
 
 -- the state fits
-fitting : (c : tie.Start) → Fits pcf8532 (c .args .chips) (c .args .registers) (now (c .args .ram))
-fitting c = fits-of pcf8532 (c .args .chips) (c .args .registers) (now (c .args .ram)) (c .pre .0)
+fitting : (c : tie.Start) → Fits (partOf (c .args .part)) (c .args .chips) (c .args .registers) (now (c .args .ram))
+fitting c = fits-of (partOf (c .args .part)) (c .args .chips) (c .args .registers) (now (c .args .ram)) (c .pre .0)
 
 -- the part is the group's
-part : (c : tie.After-end-of) → let a = c .before .before .before .before .args in take (c .end-of .result - c .before .start-of .result) (drop (c .before .start-of .result) (now (a .ram))) ≡ columnsOf pcf8532 (a .chips) (a .group) (now (a .ram))
+part : (c : tie.After-end-of) → let a = c .before .before .before .before .args in take (c .end-of .result - c .before .start-of .result) (drop (c .before .start-of .result) (now (a .ram))) ≡ columnsOf (partOf (a .part)) (a .chips) (a .group) (now (a .ram))
 part c = let a = c .before .before .before .before .args in
-    part-taken (a .chips) (now (a .ram)) (a .group) (c .before .start-of .result) (c .end-of .result) (c .before .start-of .ensures) (c .end-of .ensures)
+    part-taken (partOf (a .part)) (a .chips) (now (a .ram)) (a .group) (c .before .start-of .result) (c .end-of .result) (c .before .start-of .ensures) (c .end-of .ensures)
 
 part-hear-end : tie.Need-part-hear-end
 part-hear-end c = let s = c .before .before .before .before .before in
-    omega (arith, c .before .end-of .ensures, ends-in-ram pcf8532 (s .args .chips) (s .args .registers) (now (s .args .ram)) (fitting s) (s .args .group))
+    omega (arith, c .before .end-of .ensures, ends-in-ram (partOf (s .args .part)) (s .args .chips) (s .args .registers) (now (s .args .ram)) (fitting s) (s .args .group))
 
 hear-requires : tie.Need-hear-requires
 hear-requires c κs = let s = c .before .before .before .before .before .before in
     let a = s .args in
     let f = fitting s in
-    let kept = group-kept pcf8532 (a .chips) (a .registers) (now (a .ram)) f (a .group) in
+    let kept = group-kept (partOf (a .part)) (a .chips) (a .registers) (now (a .ram)) f (a .group) in
     record {
-      range = rw (c .before .registers-of .ensures) (in-range pcf8532 _ (kept .range));
-      few = omega (arith, ap length (part (c .before .before)), kept .columns, few-chips-in pcf8532 (a .chips) (a .registers) (now (a .ram)) f (a .group));
-      nibbles = ap (overIn 0) (part (c .before .before)) ∙ check-nibbles 0 (columnsOf pcf8532 (a .chips) (a .group) (now (a .ram))) (kept .nibbles);
+      range = rw (c .before .registers-of .ensures) (in-range (partOf (a .part)) _ (kept .range));
+      few = omega (arith, ap length (part (c .before .before)), kept .columns, ram-small (a .part) (chipsIn (a .group) (a .chips)) (few-chips-in (partOf (a .part)) (a .chips) (a .registers) (now (a .ram)) f (a .group)));
+      nibbles = ap (overIn 0) (part (c .before .before)) ∙ check-nibbles 0 (columnsOf (partOf (a .part)) (a .chips) (a .group) (now (a .ram))) (kept .nibbles);
       some = s .pre .1;
       short = s .pre .2;
     }
@@ -51,9 +53,9 @@ returns : tie.Need-returns
 returns c = let h = c .before .before .before .before .before in
     let e = h .before .before .before in
     let a = e .before .before .before .before .args in
-    let told = h .hear .ensures ∙ ap (λ (g : Group). heard pcf8532 Control (drop 1 (now (a .bytes))) g) (λ j. record { registers = h .before .before .registers-of .ensures j; ram = part e j; counts = oneAcknowledged noCounts; last = Acknowledger.None }) in
+    let told = h .hear .ensures ∙ ap (λ (g : Group). heard (partOf (a .part)) Control (drop 1 (now (a .bytes))) g) (λ j. record { registers = h .before .before .registers-of .ensures j; ram = part e j; counts = oneAcknowledged noCounts; last = Acknowledger.None }) in
     let after = c .replaced .ensures ∙ ap (λ (r : Registers). replaced (a .group) r (a .registers)) (λ j. told j .registers) in
-    let back = put-back (a .chips) (now (a .ram)) (a .group) (e .before .start-of .result) (e .end-of .result) (e .before .start-of .ensures) (e .end-of .ensures) (h .hear .last .0) _ (λ j. told j .ram) in
+    let back = put-back (partOf (a .part)) (a .chips) (now (a .ram)) (a .group) (e .before .start-of .result) (e .end-of .result) (e .before .start-of .ensures) (e .end-of .ensures) (h .hear .last .1 .0) _ (λ j. told j .ram) in
     λ j. record { result = record { answer = Answer.Taken (told j .counts) (told j .last); registers = after j }; ram = back j }
 
 pub deliver-spec : {M : Type 1} → statement M

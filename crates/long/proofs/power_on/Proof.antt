@@ -2,13 +2,13 @@
 -- Assumes nothing.
 use mathlib.Core.Path.{ap}
 use Rattle.sheet.specs.Refusals.{checkNumbers}
-use Rattle.sheet.specs.Long.{powerOnCall}
+use Rattle.sheet.specs.Long.{powerOnCall, powerOnPart}
 use borrow.Author.Needs.{needs}
 use Rattle.long.proofs.power_on.Statement.{statement}
 use Rattle.long.proofs.power_on.Tie as tie
 
 returns : tie.Need-returns
-unfolding powerOnCall
+unfolding powerOnPart powerOnCall
 returns c =
     let check = c .before .before .check-power-on .ensures in
     (λ j. record { check = check j; registers = record { zero = c .before .power-on .ensures j; one = c .power-on2 .ensures j } }, ap checkNumbers check)

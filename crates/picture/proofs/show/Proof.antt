@@ -23,7 +23,7 @@ told c = sym (c .before .before .shown .ensures) ∙ c .first .given .1
 draw-requires-2 : tie.Need-draw-requires-2
 draw-requires-2 c κs = let f = c .before .before .before in
     let s = f .before .before .before .before .before in
-    let rows = rows-in _ _ _ (s .pre .2) (told f) in
+    let rows = rows-in _ _ _ (s .pre .2) (s .pre .3) (told f) in
     record { size = s .pre .0; below = omega (arith, rows); rows = omega (arith, rows, c .before .backplanes .ensures); most = omega (arith, s .pre .0, s .pre .1) }
 
 returns : tie.Need-returns

@@ -9,10 +9,10 @@ use Rattle.plain.proofs.says_yes.Statement.{statement}
 use Rattle.plain.proofs.says_yes.Tie as tie
 
 returns : tie.Need-returns
-returns c = ap not (c .fits2 .ensures) ∙ sym (ap (λ (q : Question). yes q (c .before .before .before .args .chip)) (c .before .enum-told .given .1))
+returns c = ap not (c .fits2 .ensures) ∙ sym (ap (λ (q : Question). yes q (c .before .before .before .before .args .chip)) (c .before .before .question .given .1))
 
 returns-2 : tie.Need-returns-2
-returns-2 c = c .hears .ensures ∙ sym (ap (λ (q : Question). yes q (c .before .before .before .before .args .chip)) (c .before .before .question .given .1))
+returns-2 c = c .hears .ensures ∙ sym (ap (λ (q : Question). yes q (c .before .before .before .before .args .chip)) (c .before .before .question2 .given .1))
 
 pub says-yes-spec : {M : Type 1} → statement M
 says-yes-spec =

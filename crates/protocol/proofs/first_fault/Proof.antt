@@ -5,7 +5,7 @@ use Prim.Native.Nat.{_+_, _-_}
 use lib.ListN.{length, drop}
 use denote.Ref.{now}
 use Rattle.sheet.specs.declared.Expect.{Expect}
-use Rattle.sheet.specs.Parts.{pcf8532}
+use Rattle.sheet.specs.Parts.{partOf}
 use Rattle.sheet.specs.Checks.{faultIn}
 use Rattle.protocol.proofs.Faults.{found, go-on, in-run, all-looked}
 use borrow.Author.Needs.{needs}
@@ -13,10 +13,10 @@ use Rattle.protocol.proofs.first_fault.Statement.{statement}
 use Rattle.protocol.proofs.first_fault.Tie as tie
 
 abbrev Inv-loop : tie.InvT-loop
-Inv-loop bytes expect₀ i₀ expect i = faultIn pcf8532 expect i (drop i bytes) ≡ faultIn pcf8532 Expect.Control 1 (drop 1 bytes)
+Inv-loop part bytes expect₀ i₀ expect i = faultIn (partOf part) expect i (drop i bytes) ≡ faultIn (partOf part) Expect.Control 1 (drop 1 bytes)
 
 abbrev μ-loop : tie.MeasureT-loop
-μ-loop bytes expect₀ i₀ expect i = length bytes - i
+μ-loop part bytes expect₀ i₀ expect i = length bytes - i
 
 loop-holds : tie.Need-loop-holds Inv-loop μ-loop
 loop-holds c = refl
@@ -24,29 +24,29 @@ loop-holds c = refl
 returns : tie.Need-returns Inv-loop μ-loop
 returns c = let f = c .before .before .before in
     let p = f .before .before .before in
-    sym (found (p .loop .expect) (now (p .before .before .args .bytes)) (p .loop .i) (f .before .before .loop-test .taken) _ (sym (f .fault .ensures) ∙ c .before .refusal .given .1)) ∙ p .loop .inv
+    sym (found (partOf (p .before .before .args .part)) (p .loop .expect) (now (p .before .before .args .bytes)) (p .loop .i) (f .before .before .loop-test .taken) _ (sym (f .fault .ensures) ∙ c .before .refusal .given .1)) ∙ p .loop .inv
 
 -- from a byte that passes to the next
 goes-on : (c : tie.After-follow Inv-loop μ-loop) → let p = c .before .before .before .before .before .before in
-    let bytes = now (p .before .before .args .bytes) in faultIn pcf8532 (c .follow .result) (p .loop .i + 1) (drop (p .loop .i + 1) bytes) ≡ faultIn pcf8532 Expect.Control 1 (drop 1 bytes)
+    let bytes = now (p .before .before .args .bytes) in faultIn (partOf (p .before .before .args .part)) (c .follow .result) (p .loop .i + 1) (drop (p .loop .i + 1) bytes) ≡ faultIn (partOf (p .before .before .args .part)) Expect.Control 1 (drop 1 bytes)
 goes-on c = let f = c .before .before .before in
     let p = f .before .before .before in
     let bytes = now (p .before .before .args .bytes) in
-    ap (λ (e : Expect). faultIn pcf8532 e (p .loop .i + 1) (drop (p .loop .i + 1) bytes)) (c .follow .ensures)
-    ∙ sym (go-on (p .loop .expect) bytes (p .loop .i) (f .before .before .loop-test .taken) (sym (f .fault .ensures) ∙ c .before .enum-told .given .1))
+    ap (λ (e : Expect). faultIn (partOf (p .before .before .args .part)) e (p .loop .i + 1) (drop (p .loop .i + 1) bytes)) (c .follow .ensures)
+    ∙ sym (go-on (partOf (p .before .before .args .part)) (p .loop .expect) bytes (p .loop .i) (f .before .before .loop-test .taken) (sym (f .fault .ensures) ∙ c .before .enum-told .given .1))
     ∙ p .loop .inv
 
 returns-2 : tie.Need-returns-2 Inv-loop μ-loop
 returns-2 c = let p = c .before .before .before .before .before .before .before .before in
     let bytes = now (p .before .before .args .bytes) in
-    sym (in-run (c .before .before .follow .result) (p .loop .i + 1) (drop (p .loop .i + 1) bytes) (sym (c .before .only-data .ensures) ∙ c .if1 .taken)) ∙ goes-on (c .before .before)
+    sym (in-run (partOf (p .before .before .args .part)) (c .before .before .follow .result) (p .loop .i + 1) (drop (p .loop .i + 1) bytes) (sym (c .before .only-data .ensures) ∙ c .if1 .taken)) ∙ goes-on (c .before .before)
 
 loop-again : tie.Need-loop-again Inv-loop μ-loop
 loop-again c = goes-on (c .before .before)
 
 returns-3 : tie.Need-returns-3 Inv-loop μ-loop
 returns-3 c = let p = c .before in
-    sym (all-looked (p .loop .expect) (now (p .before .before .args .bytes)) (p .loop .i) (c .loop-test .left)) ∙ p .loop .inv
+    sym (all-looked (partOf (p .before .before .args .part)) (p .loop .expect) (now (p .before .before .args .bytes)) (p .loop .i) (c .loop-test .left)) ∙ p .loop .inv
 
 pub first-fault-spec : {M : Type 1} → statement M
 first-fault-spec =

@@ -4,10 +4,11 @@ use mathlib.Core.Path.{ap₂, _∙_}
 use Prim.Native.Nat.{ℕ}
 use native.Mathlib.Omega.{arith}
 use denote.Ref.{now}
-use Rattle.sheet.specs.Parts.{pcf8532}
+use Rattle.sheet.specs.Parts.{partOf}
 use Rattle.sheet.specs.Registers.{bankRow}
 use Rattle.sheet.specs.Runs.{putRun}
-use Rattle.laws.proofs.Ranges.{range-of, rows-fit, position-lt}
+use Rattle.laws.proofs.Ranges.{range-of, rows-fit}
+use Rattle.laws.proofs.Named.{position-small}
 use borrow.Author.Needs.{needs}
 use Rattle.ram.proofs.write.Statement.{statement}
 use Rattle.ram.proofs.write.Tie as tie
@@ -15,10 +16,10 @@ use Rattle.ram.proofs.write.Tie as tie
 put-run-requires : tie.Need-put-run-requires
 put-run-requires c κs = let s = c .before .before .before .before .before in
     let r = s .args .registers in
-    let h = range-of pcf8532 r (s .pre .range) in
+    let h = range-of (partOf (s .args .part)) r (s .pre .range) in
     let fit = rows-fit r (r .i) (h .m-in) (h .i-in) in
     let m = c .before .before .backplanes .ensures in
-    record { some = rw m (fit .0); four = rw m (omega (arith, fit .1)); two = h .i-in; near = rw (c .before .position .ensures) (omega (arith, position-lt pcf8532 r h)); short = s .pre .short; nibbles = s .pre .nibbles }
+    record { some = rw m (fit .0); four = rw m (omega (arith, fit .1)); two = h .i-in; near = rw (c .before .position .ensures) (omega (arith, position-small (s .args .part) r h)); short = s .pre .short; nibbles = s .pre .nibbles }
 
 returns : tie.Need-returns
 returns c = let p = c .before .before .before .before in

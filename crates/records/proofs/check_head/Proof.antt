@@ -8,6 +8,7 @@ use lib.Dec.{eqb, leb}
 use lib.ListN.{length, getD}
 use borrow.Author.Tests.{le-leb, lt-leb}
 use Rattle.sheet.specs.Logs.{checkHead}
+use Rattle.sheet.specs.Parts.{partOf}
 use borrow.Author.Needs.{needs}
 use Rattle.records.proofs.check_head.Statement.{statement}
 use Rattle.records.proofs.check_head.Tie as tie
@@ -21,7 +22,7 @@ unfolding checkHead
 returns c = rw (lt-leb (length (c .before .before .args .log .now)) 65536 (c .if1 .taken))
 
 returns-2 : tie.Need-returns-2
-unfolding checkHead
+unfolding checkHead partOf
 returns-2 c =
     let test = c .before .before in
     let log = test .before .before .before .before .args .log .now in

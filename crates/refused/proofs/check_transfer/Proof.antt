@@ -1,26 +1,42 @@
 -- `refused::check_transfer` meets its contract.
 -- Assumes nothing.
 use mathlib.Core.Path.{refl, sym, _∙_}
-use Rattle.sheet.specs.Checks.{checkTransfer}
+use lib.ListN.{length, getD}
+use denote.Ref.{now}
+use Rattle.sheet.specs.declared.Check.{Check}
+use Rattle.sheet.specs.Parts.{partOf}
+use Rattle.sheet.specs.Protocol.{heardBy}
+use Rattle.sheet.specs.Checks.{orElse, checkPart, checkLength, checkBytes, checkState, checkTransfer}
+use Rattle.laws.proofs.First.{then-refused, then-passed}
 use borrow.Author.Needs.{needs}
 use Rattle.refused.proofs.check_transfer.Statement.{statement}
 use Rattle.refused.proofs.check_transfer.Tie as tie
 
+-- what the call begins with
+abbrev state : (c : tie.Start) → Check
+state c = checkState (partOf (c .args .part)) (c .args .chips) (c .args .registers) (now (c .args .ram))
+
+abbrev rest : (c : tie.Start) → Check
+rest c = orElse (checkLength (length (now (c .args .bytes)))) (checkBytes (partOf (c .args .part)) (heardBy (c .args .chips) (getD (now (c .args .bytes)) 0 0)) (now (c .args .bytes)))
+
 returns : tie.Need-returns
 unfolding checkTransfer
-returns c = rw (sym (c .before .before .before .check-state .ensures) ∙ c .before .refusal .given .1) refl
+returns c = let s = c .before .before .before .before .before .before in
+    then-refused (checkPart (s .args .part)) (state s) (rest s) _ (sym (c .before .before .before .check-state .ensures) ∙ c .before .refusal .given .1)
 
 returns-2 : tie.Need-returns-2
 unfolding checkTransfer
 returns-2 c =
     let passed = c .before .before .before .before in
-    rw (sym (passed .before .before .check-state .ensures) ∙ passed .enum-told .given .1, sym (c .before .before .before .check-length .ensures) ∙ c .before .refusal2 .given .1) refl
+    let s = passed .before .before .before .before .before in
+    then-passed (checkPart (s .args .part)) (state s) (rest s) _ (sym (passed .before .before .check-state .ensures) ∙ passed .enum-told .given .1) (rw (sym (c .before .before .before .check-length .ensures) ∙ c .before .refusal2 .given .1) refl)
 
 returns-3 : tie.Need-returns-3
 unfolding checkTransfer
 returns-3 c =
     let passed = c .before .before .before .before in
-    rw (sym (passed .before .before .check-state .ensures) ∙ passed .enum-told .given .1, sym (c .before .before .before .check-length .ensures) ∙ c .before .enum-told2 .given .1) (c .check-bytes .ensures)
+    let s = passed .before .before .before .before .before in
+    then-passed (checkPart (s .args .part)) (state s) (rest s) _ (sym (passed .before .before .check-state .ensures) ∙ passed .enum-told .given .1) (rw (sym (c .before .before .before .check-length .ensures) ∙ c .before .enum-told2 .given .1) (c .check-bytes .ensures))
 
 pub check-transfer-spec : {M : Type 1} → statement M
 check-transfer-spec = tie.close (tie.spec (λ c κs. search needs) (λ c. search needs) (λ c. search needs) (λ c κs. search needs) (λ c. search needs) (λ c. search needs) (λ c κs. search needs) returns returns-2 returns-3)

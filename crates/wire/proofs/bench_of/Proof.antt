@@ -27,11 +27,11 @@ list-one (suc i) l =
 
 -- the first i chips are read
 record Filled (bytes : List ℕ) (count : ℕ) (chips : List Chip) (i : ℕ) : Type 0 where
-  size : length chips ≡ 8
+  size : length chips ≡ 16
   so-far : take i chips ≡ listIn i bytes
   most : i ≤ count
 
-turn : (bytes : List ℕ) (count : ℕ) (chips : List Chip) (i : ℕ) (chip : Chip) → chip ≡ chipIn (take 171 (drop (171 * i) bytes)) → count ≤ 8 → i < count → Filled bytes count chips i
+turn : (bytes : List ℕ) (count : ℕ) (chips : List Chip) (i : ℕ) (chip : Chip) → chip ≡ chipIn (take 171 (drop (171 * i) bytes)) → count ≤ 16 → i < count → Filled bytes count chips i
     → Filled bytes count (set chips i chip) (i + 1)
 turn bytes count chips i chip e few h s =
     record {

@@ -1,0 +1,15 @@
+-- `arithmetic::columns_in` meets its contract for either part.
+-- Assumes nothing.
+use Rattle.laws.proofs.Named.{is-pca85133, is-pcf8532}
+use borrow.Author.Needs.{needs}
+use Rattle.arithmetic.proofs.columns_in.Statement.{statement}
+use Rattle.arithmetic.proofs.columns_in.Tie as tie
+
+returns : tie.Need-returns
+returns c = rw (is-pca85133 _ (c .if1 .taken))
+
+returns-2 : tie.Need-returns-2
+returns-2 c = rw (is-pcf8532 _ (c .if1 .left))
+
+pub columns-in-spec : {M : Type 1} → statement M
+columns-in-spec = tie.close (tie.spec (λ c. search needs) (λ c. search needs) returns returns-2)
