@@ -1,35 +1,45 @@
-//! Help, wrong usage, and the program called by a link.
+//! Help and wrong usage of each program, and the one script of both called by a link.
 
 use crate::run::{lines, run, scratch, Ended, ROOT};
 use std::fs;
 use std::os::unix::fs::symlink;
 
-const USAGE: &str = "usage: bin/replay [FILE]\n";
+const PROGRAMS: [&str; 2] = ["bin/replay", "bin/rescue"];
+
+fn usage(program: &str) -> String {
+    format!("usage: {program} [FILE]")
+}
 
 #[test]
 fn help() {
-    for option in ["-h", "--help"] {
-        let ended = run(&format!("bin/replay {option}"));
-        assert_eq!((ended.status, ended.err.as_str()), (0, ""));
-        assert!(ended.out.starts_with(USAGE), "{}", ended.out);
+    for program in PROGRAMS {
+        for option in ["-h", "--help"] {
+            let ended = run(&format!("{program} {option}"));
+            assert_eq!((ended.status, ended.err.as_str()), (0, ""));
+            assert!(ended.out.starts_with(&usage(program)), "{}", ended.out);
+        }
     }
 }
 
 #[test]
 fn wrong() {
-    for words in ["one two", "-x", "--", "-", "--help more"] {
-        let ended = run(&format!("bin/replay {words}"));
-        assert_eq!((ended.status, ended.out.as_str()), (2, ""));
-        assert!(ended.err.starts_with(USAGE), "{}", ended.err);
+    for program in PROGRAMS {
+        for words in ["one two", "-x", "--", "-", "--help more"] {
+            let ended = run(&format!("{program} {words}"));
+            assert_eq!((ended.status, ended.out.as_str()), (2, ""));
+            assert!(ended.err.starts_with(&usage(program)), "{}", ended.err);
+        }
     }
 }
 
 /// Nobody types a log: a terminal as standard input shows how to call the program.
 #[test]
 fn terminal_as_input() {
-    let ended = run("script -qec bin/replay /dev/null </dev/null");
-    assert_eq!(ended.status, 2);
-    assert!(ended.out.starts_with(USAGE.trim_end()), "{}", ended.out);
+    for program in PROGRAMS {
+        let ended = run(&format!("script -qec {program} /dev/null </dev/null"));
+        assert_eq!(ended.status, 2);
+        assert!(ended.out.starts_with(&usage(program)), "{}", ended.out);
+    }
 }
 
 /// Links to bin/replay, absolute, relative and to a link, called from another folder.
