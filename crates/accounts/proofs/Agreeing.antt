@@ -40,10 +40,6 @@ first-of k a l e =
     (λ (h : k ≤ length l). take-at a (drop k l) k (e ∙ length-take-le k l h))
     (lt-or-le (length l) k)
 
--- as many chips as before, trimmed or not
-trimmed-length : (K : Part) (cs : List Chip) → length (map (trimmed K) cs) ≡ length cs
-trimmed-length K cs = length-map cs (trimmed K)
-
 -- what the two calls make of a list whose own columns are the state's
 record Together (K : Part) (n : Chips) (s : State) (bytes : List ℕ) (cs : List Chip) : Type 0 where
   hold : map (trimmed K) (plainCall K cs bytes .chips) ≡ chipsOf K n (stateAfter K n s bytes)
@@ -62,8 +58,8 @@ together part n s bytes cs v e =
       acknowledge = past .answer ∙ ap (λ (ds : List Chip). plainCall K ds bytes .answer) e ∙ agreed .acknowledge;
       valid = agreed .valid;
       size =
-          sym (trimmed-length K (plainCall K cs bytes .chips)) ∙ ap length hold ∙ length-chips K n (stateAfter K n s bytes)
-          ∙ sym (ap length e ∙ length-chips K n s) ∙ trimmed-length K cs;
+          sym (length-map (plainCall K cs bytes .chips) (trimmed K)) ∙ ap length hold ∙ length-chips K n (stateAfter K n s bytes)
+          ∙ sym (ap length e ∙ length-chips K n s) ∙ length-map cs (trimmed K);
     }
 
 -- a known part's calls are the part's

@@ -6,7 +6,7 @@ use mathlib.Core.List.{List, [], _∷_, map}
 use Prim.Native.Nat.{ℕ, zero, suc, _+_, _*_, _/_, _<_}
 use native.Mathlib.Omega.{arith}
 use lib.Dec.{eqb, leb}
-use lib.ListN.{length, getD, drop}
+use lib.ListN.{length, getD, drop, length-map}
 use lib.Seq.{take-take}
 use Rattle.sheet.specs.declared.Chip.{Chip}
 use Rattle.sheet.specs.declared.Kind.{Kind}
@@ -47,17 +47,13 @@ unfolding misfitIn
 misfits-own K i [] = refl
 misfits-own K i (c ∷ cs) = rw (fits-own K c) (ap (λ (k : Check). cond (chipFits K c) k (Refused (ChipField i))) (misfits-own K (suc i) cs))
 
-length-own : (K : Part) (cs : List Chip) → length (map (trimmed K) cs) ≡ length cs
-length-own K [] = refl
-length-own K (c ∷ cs) = ap suc (length-own K cs)
-
 hears-own : (K : Part) (address : ℕ) (cs : List Chip) → any (hears address) (map (trimmed K) cs) ≡ any (hears address) cs
 hears-own K address [] = refl
 hears-own K address (c ∷ cs) = ap (λ (b : Bool). hears address c || b) (hears-own K address cs)
 
 checks-own : (K : Part) (cs : List Chip) (bytes : List ℕ) → checkPlain K (map (trimmed K) cs) bytes ≡ checkPlain K cs bytes
 unfolding checkPlain
-checks-own K cs bytes = rw (length-own K cs, misfits-own K 0 cs, hears-own K (getD bytes 0 0) cs) refl
+checks-own K cs bytes = rw (length-map cs (trimmed K), misfits-own K 0 cs, hears-own K (getD bytes 0 0) cs) refl
 
 -- ---- a byte lands before what stands behind
 
@@ -138,21 +134,22 @@ module _ (K : Part) (keeps : Keeps K) (address : ℕ) where
   abbrev own-of : Plain → Plain
   own-of s = record { acknowledged = s .acknowledged; last = s .last; chips = map (trimmed K) (s .chips) }
 
+  -- after a byte more
+  abbrev after : Expect → ℕ → Plain → Plain
+  after e x s =
+      let who = acknowledgedBy K address e x (s .chips) in
+      record { acknowledged = s .acknowledged + once who; last = lastAfter e who (s .last); chips = map (takes K address e x) (s .chips) }
+
   heard-own : (e : Expect) (xs : List ℕ) (s : Plain) → AllIn K (s .chips) → plainHeard K address e xs (own-of s) ≡ own-of (plainHeard K address e xs s)
   unfolding plainHeard
   heard-own e [] s h = refl
   heard-own e (x ∷ xs) s h =
-      let who = acknowledgedBy K address e x (s .chips) in
-      let after : Plain = record { acknowledged = s .acknowledged + once who; last = lastAfter e who (s .last); chips = map (takes K address e x) (s .chips) } in
-      rw (said-own e x (s .chips) h, sym (all-own e x (s .chips) h)) (heard-own (next e x) xs after (all-kept e x (s .chips) h))
+      rw (said-own e x (s .chips) h, sym (all-own e x (s .chips) h)) (heard-own (next e x) xs (after e x s) (all-kept e x (s .chips) h))
 
   heard-past : (e : Expect) (xs : List ℕ) (s : Plain) → AllIn K (s .chips) → map (pastColumns K) (plainHeard K address e xs s .chips) ≡ map (pastColumns K) (s .chips)
   unfolding plainHeard
   heard-past e [] s h = refl
-  heard-past e (x ∷ xs) s h =
-      let who = acknowledgedBy K address e x (s .chips) in
-      let after : Plain = record { acknowledged = s .acknowledged + once who; last = lastAfter e who (s .last); chips = map (takes K address e x) (s .chips) } in
-      heard-past (next e x) xs after (all-kept e x (s .chips) h) ∙ all-past e x (s .chips) h
+  heard-past e (x ∷ xs) s h = heard-past (next e x) xs (after e x s) (all-kept e x (s .chips) h) ∙ all-past e x (s .chips) h
 
 -- ---- the law
 

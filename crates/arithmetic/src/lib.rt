@@ -8,7 +8,7 @@ ghost use Rattle.sheet.specs.Registers.{inRange, backplanes, bankRow};
 ghost use Rattle.sheet.specs.Places.{position, atPosition};
 ghost use Rattle.sheet.specs.Data.{bitOf, withRow, widthOf};
 
-// ---- a part by its number. Only here is it told apart: a division is by a literal on either side
+// ---- a part by its number. Only here are its numbers told apart: a division is by a literal on either side
 
 // The columns of a chip.
 pub fn columns(part: u8) -> usize

@@ -35,9 +35,6 @@ is-pcf8532 part d = rw (ne-eqb _ _ d)
 
 -- ---- a log is the PCF8532's: part 0
 
-pub is-zero : partOf 0 ≡ pcf8532
-is-zero = is-pcf8532 0 (λ e. omega arith)
-
 pub zero-transfer : (n : Chips) (r : Both) (ram bytes : List ℕ) → transferPart 0 n r ram bytes ≡ transferCall pcf8532 n r ram bytes
 unfolding transferPart checkPart partOf
 zero-transfer n r ram bytes = refl

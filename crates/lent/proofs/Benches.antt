@@ -7,22 +7,21 @@ use Prim.Native.Nat.{ℕ, zero, suc, _*_, _<_}
 use native.Mathlib.Omega.{arith}
 use lib.ListN.{length, getD, drop, length-append, length-drop, length-map}
 use lib.Seq.{take-at, length-take-le}
-use lib.Dec.{leb}
 use borrow.Author.Tests.{le-leb, lt-leb}
 use Rattle.sheet.specs.declared.Chip.{Chip}
 use Rattle.sheet.specs.declared.Check.{Check}
 use Rattle.sheet.specs.declared.Check.the-variants.{Passed, Refused}
 use Rattle.sheet.specs.declared.Expect.{Expect}
 use Rattle.sheet.specs.declared.PlainAnswer.{PlainAnswer}
-use Rattle.sheet.specs.declared.Refusal.the-variants.{ManyChips, UnknownPart}
+use Rattle.sheet.specs.declared.Refusal.the-variants.{ManyChips}
 use Rattle.sheet.specs.Parts.{Part, partOf}
 use Rattle.sheet.specs.Protocol.{next}
-use Rattle.sheet.specs.Checks.{unless, checkPart}
+use Rattle.sheet.specs.Checks.{checkPart}
 use Rattle.sheet.specs.Plain.{begunBy, Plain, takes, any, hears, plainHeard, plainSaid, plainTaken, plainAnswered, checkPlain, plainCall, plainPart}
 use Rattle.laws.proofs.Named.{limit-small}
 use Rattle.plain.specs.declared.Bench.{Bench}
 use Rattle.plain.specs.declared.BenchTransferred.{BenchTransferred}
-use Rattle.plain.specs.Benches.{tooMany, benchTransferred}
+use Rattle.plain.specs.Benches.{orRefusal, tooMany, benchTransferred}
 use Rattle.wire.specs.Benches.{Holds}
 use Rattle.wire.specs.Bytes.{listIn}
 
@@ -72,9 +71,9 @@ list-length zero l = refl
 list-length (suc n) l = ap suc (list-length n (drop 171 l))
 
 pub many : (part n : ℕ) (chips bytes : List ℕ) → 16 < n → plainPart part (listIn n chips) bytes ≡ record { answer = PlainAnswer.Refused (tooMany part); chips = listIn n chips }
-unfolding plainPart checkPart plainCall checkPlain
-many part n chips bytes h = rw (list-length n chips, lt-leb n (2 * partOf part .limit) (omega (arith, limit-small part))) (by-test (leb part 1))
+unfolding plainPart plainCall checkPlain
+many part n chips bytes h = rw (list-length n chips, lt-leb n (2 * partOf part .limit) (omega (arith, limit-small part))) (by-part (checkPart part))
   where
-    by-test : (t : Bool) → plainAnswered (unless t UnknownPart) (listIn n chips) (record { answer = PlainAnswer.Refused ManyChips; chips = listIn n chips }) ≡ record { answer = PlainAnswer.Refused (cond t ManyChips UnknownPart); chips = listIn n chips }
-    by-test true = refl
-    by-test false = refl
+    by-part : (k : Check) → plainAnswered k (listIn n chips) (record { answer = PlainAnswer.Refused ManyChips; chips = listIn n chips }) ≡ record { answer = PlainAnswer.Refused (orRefusal k ManyChips); chips = listIn n chips }
+    by-part Passed = refl
+    by-part (Refused r) = refl

@@ -6,8 +6,11 @@ use lib.Dec.{leb}
 use lib.ListN.{take, drop}
 use Rattle.sheet.specs.declared.Chip.{Chip}
 use Rattle.sheet.specs.declared.Refusal.{Refusal}
-use Rattle.sheet.specs.declared.Refusal.the-variants.{ManyChips, UnknownPart}
+use Rattle.sheet.specs.declared.Refusal.the-variants.{ManyChips}
+use Rattle.sheet.specs.declared.Check.{Check}
+use Rattle.sheet.specs.declared.Check.the-variants.{Passed, Refused}
 use Rattle.sheet.specs.declared.PlainAnswer.{PlainAnswer}
+use Rattle.sheet.specs.Checks.{checkPart}
 use Rattle.sheet.specs.Plain.{plainPart}
 use Rattle.plain.specs.declared.Bench.{Bench}
 use Rattle.plain.specs.declared.BenchTransferred.{BenchTransferred}
@@ -21,9 +24,14 @@ firstTransferred part b bytes =
     let a = plainPart part (take (b .count) (b .chips)) bytes in
     record { answer = a .answer; bench = withFirst b (a .chips) }
 
+-- a check's refusal, or else another
+abbrev pub orRefusal : Check → Refusal → Refusal
+orRefusal Passed r = r
+orRefusal (Refused x) r = x
+
 -- 16, or else 10
 abbrev pub tooMany : ℕ → Refusal
-tooMany part = cond (leb part 1) ManyChips UnknownPart
+tooMany part = orRefusal (checkPart part) ManyChips
 
 abbrev pub benchTransferred : ℕ → Bench → List ℕ → BenchTransferred
 benchTransferred part b bytes = cond (leb (b .count) 16) (firstTransferred part b bytes) (record { answer = PlainAnswer.Refused (tooMany part); bench = b })

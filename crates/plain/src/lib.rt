@@ -364,10 +364,9 @@ fn transfer_first(bytes: &[u8], bench: Bench, part: u8) -> BenchTransferred
 pub fn too_many(part: u8) -> Refusal
     ensures { λ r. ⌜ r ≡ tooMany part ⌝ }
 {
-    if part <= 1 {
-        Refusal::ManyChips
-    } else {
-        Refusal::UnknownPart
+    match checks::check_part(part) {
+        Check::Refused(refusal) => refusal,
+        Check::Passed => Refusal::ManyChips,
     }
 }
 

@@ -19,7 +19,7 @@ use Rattle.sheet.specs.Plain.{putRows, afterColumn, afterColumns, chipDa
 use Rattle.sheet.specs.Places.{advanced, position, atPosition}
 use Rattle.sheet.specs.Agree.{groupChips}
 use Rattle.sheet.specs.Data.{putBits, changed, withRow, storedBits, counted, acknowledger}
-use Rattle.sheet.specs.Starred.{Row, same, col, every}
+use Rattle.sheet.specs.Starred.{Row, same, col, alone, every}
 
 abbrev pub table : List Row
 table =
@@ -46,14 +46,14 @@ table =
     ∷ record { group = 0; chips = 1; others = 0; fill = 0; bytes = 0x70 ∷ 0x80 ∷ 0x4F ∷ 0x80 ∷ 0x40 ∷ []; answer = 0 ∷ 0 ∷ 5 ∷ 0 ∷ 0 ∷ 8 ∷ []; a = 0; p = 64; columns = []; phase = 0; lit = 0; picture = [] }
     ∷ record { group = 0; chips = 1; others = 0; fill = 0; bytes = 0x70 ∷ 0x80 ∷ 0x4F ∷ 0x80 ∷ 0x09 ∷ []; answer = 0 ∷ 0 ∷ 5 ∷ 0 ∷ 0 ∷ 8 ∷ []; a = 0; p = 9; columns = []; phase = 0; lit = 0; picture = [] }
     -- 4F taken, 50 and 7F refused; E7 taken, E8 and EF refused; FB taken, FC refused
-    ∷ record { group = 0; chips = 1; others = 0; fill = 0; bytes = 0x70 ∷ 0x00 ∷ 0x4F ∷ []; answer = 0 ∷ 0 ∷ 3 ∷ 0 ∷ 0 ∷ 8 ∷ []; a = 0; p = 79; columns = []; phase = 0; lit = 0; picture = [] }
-    ∷ record { group = 0; chips = 1; others = 0; fill = 0; bytes = 0x70 ∷ 0x00 ∷ 0x50 ∷ []; answer = 7 ∷ 2 ∷ 0 ∷ 0 ∷ 0 ∷ 8 ∷ []; a = 0; p = 0; columns = []; phase = 0; lit = 0; picture = [] }
-    ∷ record { group = 0; chips = 1; others = 0; fill = 0; bytes = 0x70 ∷ 0x00 ∷ 0x7F ∷ []; answer = 7 ∷ 2 ∷ 0 ∷ 0 ∷ 0 ∷ 8 ∷ []; a = 0; p = 0; columns = []; phase = 0; lit = 0; picture = [] }
-    ∷ record { group = 0; chips = 1; others = 0; fill = 0; bytes = 0x70 ∷ 0x00 ∷ 0xE7 ∷ []; answer = 0 ∷ 0 ∷ 3 ∷ 0 ∷ 0 ∷ 8 ∷ []; a = 7; p = 0; columns = []; phase = 0; lit = 0; picture = [] }
-    ∷ record { group = 0; chips = 1; others = 0; fill = 0; bytes = 0x70 ∷ 0x00 ∷ 0xE8 ∷ []; answer = 7 ∷ 2 ∷ 0 ∷ 0 ∷ 0 ∷ 8 ∷ []; a = 0; p = 0; columns = []; phase = 0; lit = 0; picture = [] }
-    ∷ record { group = 0; chips = 1; others = 0; fill = 0; bytes = 0x70 ∷ 0x00 ∷ 0xEF ∷ []; answer = 7 ∷ 2 ∷ 0 ∷ 0 ∷ 0 ∷ 8 ∷ []; a = 0; p = 0; columns = []; phase = 0; lit = 0; picture = [] }
-    ∷ record { group = 0; chips = 1; others = 0; fill = 0; bytes = 0x70 ∷ 0x00 ∷ 0xFB ∷ []; answer = 0 ∷ 0 ∷ 3 ∷ 0 ∷ 0 ∷ 8 ∷ []; a = 0; p = 0; columns = []; phase = 0; lit = 0; picture = [] }
-    ∷ record { group = 0; chips = 1; others = 0; fill = 0; bytes = 0x70 ∷ 0x00 ∷ 0xFC ∷ []; answer = 7 ∷ 2 ∷ 0 ∷ 0 ∷ 0 ∷ 8 ∷ []; a = 0; p = 0; columns = []; phase = 0; lit = 0; picture = [] }
+    ∷ alone 0x4F (0 ∷ 0 ∷ 3 ∷ 0 ∷ 0 ∷ 8 ∷ []) 0 79
+    ∷ alone 0x50 (7 ∷ 2 ∷ 0 ∷ 0 ∷ 0 ∷ 8 ∷ []) 0 0
+    ∷ alone 0x7F (7 ∷ 2 ∷ 0 ∷ 0 ∷ 0 ∷ 8 ∷ []) 0 0
+    ∷ alone 0xE7 (0 ∷ 0 ∷ 3 ∷ 0 ∷ 0 ∷ 8 ∷ []) 7 0
+    ∷ alone 0xE8 (7 ∷ 2 ∷ 0 ∷ 0 ∷ 0 ∷ 8 ∷ []) 0 0
+    ∷ alone 0xEF (7 ∷ 2 ∷ 0 ∷ 0 ∷ 0 ∷ 8 ∷ []) 0 0
+    ∷ alone 0xFB (0 ∷ 0 ∷ 3 ∷ 0 ∷ 0 ∷ 8 ∷ []) 0 0
+    ∷ alone 0xFC (7 ∷ 2 ∷ 0 ∷ 0 ∷ 0 ∷ 8 ∷ []) 0 0
     -- a refusal changes nothing, though a data byte came before the undefined command
     ∷ record { group = 0; chips = 1; others = 0; fill = 6; bytes = 0x70 ∷ 0xC0 ∷ 0xFF ∷ 0x00 ∷ 0x50 ∷ []; answer = 7 ∷ 4 ∷ 0 ∷ 0 ∷ 0 ∷ 8 ∷ []; a = 0; p = 0; columns = col 0 6 ∷ col 1 6 ∷ []; phase = 0; lit = 0; picture = [] }
     -- 1:2, E 1, O 0, AB 1, BF 1, phase 1, column 12: picture 3

@@ -128,6 +128,10 @@ every part (r ∷ rs) = passes part r && (passesPlain part r && every part rs)
 abbrev pub col : ℕ → ℕ → Column
 col c q = record { at = c; value = q }
 
+-- one command to one chip: the answer's numbers, A and P
+abbrev pub alone : ℕ → List ℕ → ℕ → ℕ → Row
+alone x answer a p = record { group = 0; chips = 1; others = 0; fill = 0; bytes = 0x70 ∷ 0x00 ∷ x ∷ []; answer = answer; a = a; p = p; columns = []; phase = 0; lit = 0; picture = [] }
+
 abbrev pub table : List Row
 table =
     -- 1:4, two chips, P 159, data A5: columns 159, 160 = 5, 10; A 1, P 1
@@ -150,12 +154,12 @@ table =
     -- P 159, command 00: P 15
     ∷ record { group = 0; chips = 1; others = 0; fill = 0; bytes = 0x70 ∷ 0x80 ∷ 0x09 ∷ 0x80 ∷ 0x4F ∷ 0x80 ∷ 0x00 ∷ []; answer = 0 ∷ 0 ∷ 7 ∷ 0 ∷ 0 ∷ 4 ∷ []; a = 0; p = 15; columns = []; phase = 0; lit = 0; picture = [] }
     -- 09 taken, 0A refused; E3 taken, E4 refused; FB taken, FC refused
-    ∷ record { group = 0; chips = 1; others = 0; fill = 0; bytes = 0x70 ∷ 0x00 ∷ 0x09 ∷ []; answer = 0 ∷ 0 ∷ 3 ∷ 0 ∷ 0 ∷ 4 ∷ []; a = 0; p = 144; columns = []; phase = 0; lit = 0; picture = [] }
-    ∷ record { group = 0; chips = 1; others = 0; fill = 0; bytes = 0x70 ∷ 0x00 ∷ 0x0A ∷ []; answer = 7 ∷ 2 ∷ 0 ∷ 0 ∷ 0 ∷ 4 ∷ []; a = 0; p = 0; columns = []; phase = 0; lit = 0; picture = [] }
-    ∷ record { group = 0; chips = 1; others = 0; fill = 0; bytes = 0x70 ∷ 0x00 ∷ 0xE3 ∷ []; answer = 0 ∷ 0 ∷ 3 ∷ 0 ∷ 0 ∷ 4 ∷ []; a = 3; p = 0; columns = []; phase = 0; lit = 0; picture = [] }
-    ∷ record { group = 0; chips = 1; others = 0; fill = 0; bytes = 0x70 ∷ 0x00 ∷ 0xE4 ∷ []; answer = 7 ∷ 2 ∷ 0 ∷ 0 ∷ 0 ∷ 4 ∷ []; a = 0; p = 0; columns = []; phase = 0; lit = 0; picture = [] }
-    ∷ record { group = 0; chips = 1; others = 0; fill = 0; bytes = 0x70 ∷ 0x00 ∷ 0xFB ∷ []; answer = 0 ∷ 0 ∷ 3 ∷ 0 ∷ 0 ∷ 4 ∷ []; a = 0; p = 0; columns = []; phase = 0; lit = 0; picture = [] }
-    ∷ record { group = 0; chips = 1; others = 0; fill = 0; bytes = 0x70 ∷ 0x00 ∷ 0xFC ∷ []; answer = 7 ∷ 2 ∷ 0 ∷ 0 ∷ 0 ∷ 4 ∷ []; a = 0; p = 0; columns = []; phase = 0; lit = 0; picture = [] }
+    ∷ alone 0x09 (0 ∷ 0 ∷ 3 ∷ 0 ∷ 0 ∷ 4 ∷ []) 0 144
+    ∷ alone 0x0A (7 ∷ 2 ∷ 0 ∷ 0 ∷ 0 ∷ 4 ∷ []) 0 0
+    ∷ alone 0xE3 (0 ∷ 0 ∷ 3 ∷ 0 ∷ 0 ∷ 4 ∷ []) 3 0
+    ∷ alone 0xE4 (7 ∷ 2 ∷ 0 ∷ 0 ∷ 0 ∷ 4 ∷ []) 0 0
+    ∷ alone 0xFB (0 ∷ 0 ∷ 3 ∷ 0 ∷ 0 ∷ 4 ∷ []) 0 0
+    ∷ alone 0xFC (7 ∷ 2 ∷ 0 ∷ 0 ∷ 0 ∷ 4 ∷ []) 0 0
     -- a refusal changes nothing, though a data byte came before the undefined command
     ∷ record { group = 0; chips = 1; others = 0; fill = 6; bytes = 0x70 ∷ 0xC0 ∷ 0xFF ∷ 0x00 ∷ 0xFC ∷ []; answer = 7 ∷ 4 ∷ 0 ∷ 0 ∷ 0 ∷ 4 ∷ []; a = 0; p = 0; columns = col 0 6 ∷ col 1 6 ∷ []; phase = 0; lit = 0; picture = [] }
     -- 1:2, E 1, O 0, AB 1, BF 1, phase 1, column 12: picture 3
