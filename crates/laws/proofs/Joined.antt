@@ -8,6 +8,10 @@ use Rattle.sheet.specs.Parts.{Part}
 use Rattle.sheet.specs.Protocol.{next, nextAfter}
 use Rattle.sheet.specs.Long.{Group, byte, heard}
 
+pub next-joined : (e : Expect) (xs ys : List ℕ) → nextAfter e (xs ++ ys) ≡ nextAfter (nextAfter e xs) ys
+next-joined e [] ys = refl
+next-joined e (x ∷ xs) ys = next-joined (next e x) xs ys
+
 pub heard-joined : (K : Part) (e : Expect) (xs ys : List ℕ) (g : Group) → heard K e (xs ++ ys) g ≡ heard K (nextAfter e xs) ys (heard K e xs g)
 unfolding heard
 heard-joined K e [] ys g = refl

@@ -63,6 +63,10 @@ cut t = ltb (t .bits) 8
 unfoldable pub wholeOf : Sent → List ℕ
 wholeOf t = cond (cut t) (take (length (t .bytes) - 1) (t .bytes)) (t .bytes)
 
+-- how many they are, of so many bytes
+abbrev pub wholeCount : ℕ → ℕ → ℕ
+wholeCount size bits = cond (ltb bits 8) (size - 1) size
+
 -- byte 0, where it came whole; else 0, which is nobody's address
 abbrev pub addressByte : Sent → ℕ
 addressByte t = getD (wholeOf t) 0 0
