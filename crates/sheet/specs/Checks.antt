@@ -89,9 +89,13 @@ marksAfter K u Control x = u
 marksAfter K u (One k) x = marksOf K u k x
 marksAfter K u (All k) x = marksOf K u k x
 
--- the first fault of the whole bytes from place i on; of a byte that is cut after them only data can be one
+-- the fault of a byte that is cut, if there is one: only data can be at fault
+abbrev pub lastFault : Bool → Marks → Expect → ℕ → Check
+lastFault cut u e i = cond (cut && isData e) (unless (known u) (UnknownPlace i)) Passed
+
+-- the first fault of the whole bytes from place i on, and of the one that is cut
 unfoldable pub faultIn : Part → Bool → Marks → Expect → ℕ → List ℕ → Check
-faultIn K cut u e i [] = cond (cut && isData e) (unless (known u) (UnknownPlace i)) Passed
+faultIn K cut u e i [] = lastFault cut u e i
 faultIn K cut u e i (x ∷ xs) = orElse (fault K u e i x) (faultIn K cut (marksAfter K u e x) (next e x) (suc i) xs)
 
 -- the first fault of a transfer to chips with these marks
