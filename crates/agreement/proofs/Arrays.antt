@@ -19,10 +19,9 @@ use Rattle.sheet.specs.declared.Check.the-variants.{Passed, Refused}
 use Rattle.sheet.specs.declared.Refusal.the-variants.{ManyChips, ChipField}
 use Rattle.sheet.specs.Parts.{Part}
 use Rattle.sheet.specs.Registers.{inRange, backplanes}
-use Rattle.sheet.specs.Protocol.{next, Sent, wholeOf, addressByte}
+use Rattle.sheet.specs.Protocol.{next, Sent, wholeOf, addressByte, cutData}
 use Rattle.sheet.specs.Checks.{unless, orElse, checkSent, faultOfSent}
-use Rattle.sheet.specs.Long.{lostBy}
-use Rattle.sheet.specs.Plain.{afterColumn, afterColumns, chipData, acknowledgesData, chipByte, acknowledgesByte, hears, any, takes, lower, smallest, acknowledgedBy, once, lastAfter, Plain, plainHeard, withRegisters, chipEnded, plainEnded, plainWhole, unknownIn, marksIn, chipFits, chipPowerOn, checkChipPicture, chipPictureCall, misfitIn, checkPlain, plainTaken, begunBy, plainSaid, plainCall}
+use Rattle.sheet.specs.Plain.{afterColumn, afterColumns, chipData, acknowledgesData, chipByte, acknowledgesByte, hears, any, takes, lower, smallest, acknowledgedBy, once, lastAfter, Plain, plainHeard, chipLost, chipEnded, plainEnded, plainWhole, unknownIn, marksIn, chipFits, chipPowerOn, checkChipPicture, chipPictureCall, misfitIn, checkPlain, plainTaken, begunBy, plainSaid, plainCall}
 use Rattle.sheet.specs.Data.{widthOf}
 use Rattle.sheet.specs.Agree.{AllIn, Keeps, trimmed, pastColumns, PastStays, PastUnread}
 use Rattle.laws.proofs.Ranges.{range-of}
@@ -166,31 +165,28 @@ module _ (K : Part) (keeps : Keeps K) (address : ℕ) where
   heard-past e (x ∷ xs) s h = heard-past (next e x) xs (after e x s) (all-kept e x (s .chips) h) ∙ all-past e x (s .chips) h
 
   -- the byte that is cut, after them
-  ended-own : (t : Sent) (c : Chip) → Own K (chipEnded address t) c
-  ended-own t c = let made = by-test (hears address c) in record { own = made .0; past = made .1 }
+  ended-own : (d : Bool) (c : Chip) → Own K (chipEnded address d) c
+  ended-own d c = let made = by-test (hears address c) in record { own = made .0; past = made .1 }
     where
-      lost : Chip → Chip
-      lost d = withRegisters (lostBy t (d .registers)) d
-
-      by-test : (b : Bool) → (trimmed K (cond b (lost c) c) ≡ cond b (lost (trimmed K c)) (trimmed K c)) × (pastColumns K (cond b (lost c) c) ≡ pastColumns K c)
+      by-test : (b : Bool) → (trimmed K (cond b (chipLost d c) c) ≡ cond b (chipLost d (trimmed K c)) (trimmed K c)) × (pastColumns K (cond b (chipLost d c) c) ≡ pastColumns K c)
       by-test true = (refl, refl)
       by-test false = (refl, refl)
 
-  all-ended : (t : Sent) (cs : List Chip) → map (trimmed K) (map (chipEnded address t) cs) ≡ map (chipEnded address t) (map (trimmed K) cs)
-  all-ended t [] = refl
-  all-ended t (c ∷ cs) = ap₂ (λ (d : Chip) (ds : List Chip). d ∷ ds) (ended-own t c .own) (all-ended t cs)
+  all-ended : (d : Bool) (cs : List Chip) → map (trimmed K) (map (chipEnded address d) cs) ≡ map (chipEnded address d) (map (trimmed K) cs)
+  all-ended d [] = refl
+  all-ended d (c ∷ cs) = ap₂ (λ (a : Chip) (others : List Chip). a ∷ others) (ended-own d c .own) (all-ended d cs)
 
-  ended-past : (t : Sent) (cs : List Chip) → map (pastColumns K) (map (chipEnded address t) cs) ≡ map (pastColumns K) cs
-  ended-past t [] = refl
-  ended-past t (c ∷ cs) = ap₂ (λ (d : List ℕ) (ds : List (List ℕ)). d ∷ ds) (ended-own t c .past) (ended-past t cs)
+  ended-past : (d : Bool) (cs : List Chip) → map (pastColumns K) (map (chipEnded address d) cs) ≡ map (pastColumns K) cs
+  ended-past d [] = refl
+  ended-past d (c ∷ cs) = ap₂ (λ (a : List ℕ) (others : List (List ℕ)). a ∷ others) (ended-own d c .past) (ended-past d cs)
 
   whole-own : (t : Sent) (s : Plain) → AllIn K (s .chips) → plainWhole K address t (own-of s) ≡ own-of (plainWhole K address t s)
   whole-own t s h =
       ap (plainEnded address t) (heard-own Control (drop 1 (wholeOf t)) s h)
-      ∙ (λ i. let w = plainHeard K address Control (drop 1 (wholeOf t)) s in record { acknowledged = w .acknowledged; last = w .last; chips = sym (all-ended t (w .chips)) i })
+      ∙ (λ i. let w = plainHeard K address Control (drop 1 (wholeOf t)) s in record { acknowledged = w .acknowledged; last = w .last; chips = sym (all-ended (cutData t) (w .chips)) i })
 
   whole-past : (t : Sent) (s : Plain) → AllIn K (s .chips) → map (pastColumns K) (plainWhole K address t s .chips) ≡ map (pastColumns K) (s .chips)
-  whole-past t s h = ended-past t (plainHeard K address Control (drop 1 (wholeOf t)) s .chips) ∙ heard-past Control (drop 1 (wholeOf t)) s h
+  whole-past t s h = ended-past (cutData t) (plainHeard K address Control (drop 1 (wholeOf t)) s .chips) ∙ heard-past Control (drop 1 (wholeOf t)) s h
 
 -- ---- the law
 

@@ -14,11 +14,11 @@ use Rattle.sheet.specs.declared.Expect.{Expect}
 use Rattle.sheet.specs.declared.Kind.{Kind}
 use Rattle.sheet.specs.declared.Expect.the-variants.{Control, One, All}
 use Rattle.sheet.specs.Parts.{Part}
-use Rattle.sheet.specs.Registers.{backplanes}
+use Rattle.sheet.specs.Registers.{backplanes, lostBy}
 use Rattle.sheet.specs.Commands.{obeyed}
-use Rattle.sheet.specs.Protocol.{addressOf, next, Sent, wholeOf}
-use Rattle.sheet.specs.Long.{Group, byteOf, byte, dataByte, heard, lostBy, ended, heardWhole}
-use Rattle.sheet.specs.Plain.{hears, chipByteOf, chipByte, acknowledgesData, acknowledgesByte, takes, smallest, acknowledgedBy, once, lastAfter, Plain, plainHeard, withRegisters, plainEnded, plainWhole}
+use Rattle.sheet.specs.Protocol.{addressOf, next, Sent, wholeOf, cutData}
+use Rattle.sheet.specs.Long.{Group, byteOf, byte, dataByte, heard, ended, heardWhole}
+use Rattle.sheet.specs.Plain.{hears, chipByteOf, chipByte, acknowledgesData, acknowledgesByte, takes, smallest, acknowledgedBy, once, lastAfter, Plain, plainHeard, chipLost, plainEnded, plainWhole}
 use Rattle.sheet.specs.Places.{position}
 use Rattle.sheet.specs.Data.{counted, acknowledger}
 use Rattle.sheet.specs.Agree.{groupChips, Keeps}
@@ -138,5 +138,5 @@ module _ (K : Part) (n g : ℕ) (keeps : Keeps K) (pn : 0 < n) (l : n ≤ K .lim
       ∙ (λ i. record {
         acknowledged = w .counts .acknowledged;
         last = w .last;
-        chips = around (λ c. withRegisters (lostBy t (c .registers)) c) w (ended t w) (set-alike (λ c. withRegisters (lostBy t (c .registers)) c) g (w .registers) (lostBy t (w .registers)) (λ j c. refl) K n 0 (w .ram)) i;
+        chips = around (chipLost (cutData t)) w (ended t w) (set-alike (chipLost (cutData t)) g (w .registers) (lostBy (cutData t) (w .registers)) (λ j c. refl) K n 0 (w .ram)) i;
       })

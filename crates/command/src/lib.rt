@@ -4,10 +4,10 @@ use sheet::Marks;
 use sheet::Registers;
 use sheet::Settings;
 ghost use mathlib.Core.Path.{_≡_};
-ghost use mathlib.Core.Bool.{cond, _&&_};
+ghost use mathlib.Core.Bool.{_&&_};
 ghost use lib.Dec.{ltb};
 ghost use Rattle.sheet.specs.Parts.{partOf, pcf8532, pca85133, modeSet, blinkSelect, bankSelect};
-ghost use Rattle.sheet.specs.Registers.{marked, known, powerOn, withMarks, inRange};
+ghost use Rattle.sheet.specs.Registers.{known, powerOn, lostBy, inRange};
 ghost use Rattle.sheet.specs.Commands.{defined, sets, restored, obeyed};
 
 // ---- what both sheets have
@@ -199,7 +199,7 @@ pub fn obey(part: u8, registers: Registers, byte: u8) -> Registers
 
 // The registers after a byte that is cut: data makes pointer and counter unknown, which keep their numbers.
 pub fn lose(lost: bool, mut registers: Registers) -> Registers
-    ensures { λ r. ⌜ r ≡ withMarks registers (cond lost (marked 1) (registers .unknown)) ⌝ }
+    ensures { λ r. ⌜ r ≡ lostBy lost registers ⌝ }
 {
     if lost {
         let all = Marks {

@@ -1,7 +1,7 @@
 -- What holds while `hear` goes over the bytes: what is left gives the whole answer, the group keeps its ranges, and the counts are few.
 -- Assumes nothing.
 use mathlib.Core.Path.{_≡_, refl, sym, ap, ap₂, _∙_, subst}
-use mathlib.Core.Bool.{cond, _&&_}
+use mathlib.Core.Bool.{_&&_}
 use mathlib.Core.List.{List, [], _∷_, _++_}
 use Prim.Native.Nat.{ℕ, _+_, _-_, _*_, _≤_, _<_}
 use native.Mathlib.Nat.{le-of-lt}
@@ -15,7 +15,7 @@ use Rattle.sheet.specs.declared.Kind.{Kind}
 use Rattle.sheet.specs.declared.Expect.{Expect}
 use Rattle.sheet.specs.declared.Expect.the-variants.{Control, One, All}
 use Rattle.sheet.specs.Parts.{Part}
-use Rattle.sheet.specs.Registers.{marked, withMarks}
+use Rattle.sheet.specs.Registers.{lostBy}
 use Rattle.sheet.specs.Protocol.{next, nextAfter, sent, wholeOf, wholeCount, isData, cutData}
 use Rattle.sheet.specs.Long.{Group, begun, byte, heard, heardWhole}
 use Rattle.sheet.specs.Runs.{writtenBy}
@@ -148,7 +148,7 @@ module _ (K : Part) (bytes : List ℕ) (bits k : ℕ) (ek : k ≡ wholeCount (le
       let expect : l .expect ≡ nextAfter Control (drop 1 (wholeOf (sent bytes bits))) = ee ∙ ap (λ (xs : List ℕ). nextAfter Control (drop 1 xs)) whole-is in
       ap (λ (m : Listener). groupOf m ram) el
       ∙ (λ j. record {
-        registers = withMarks (group j .registers) (cond (ltb bits 8 && isData (expect j)) (marked 1) (group j .registers .unknown));
+        registers = lostBy (ltb bits 8 && isData (expect j)) (group j .registers);
         ram = group j .ram;
         counts = group j .counts;
         last = group j .last;

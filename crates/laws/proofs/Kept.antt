@@ -1,7 +1,7 @@
 -- What the bytes of a transfer keep of a group, if the commands keep registers in range; those of both parts do.
 -- Assumes nothing.
 use mathlib.Core.Path.{_≡_, _∙_}
-use mathlib.Core.Bool.{Bool, true, false, cond}
+use mathlib.Core.Bool.{Bool, true, false}
 use mathlib.Core.List.{List, [], _∷_}
 use Prim.Native.Nat.{ℕ, _+_}
 use native.Mathlib.Nat.{le-of-suc-le-suc}
@@ -12,10 +12,10 @@ use Rattle.sheet.specs.declared.Expect.{Expect}
 use Rattle.sheet.specs.declared.Kind.{Kind}
 use Rattle.sheet.specs.declared.Expect.the-variants.{Control, One, All}
 use Rattle.sheet.specs.Parts.{Part, partOf, pcf8532, pca85133}
-use Rattle.sheet.specs.Registers.{backplanes, bankRow, marked}
+use Rattle.sheet.specs.Registers.{backplanes, bankRow, marked, lostBy}
 use Rattle.sheet.specs.Commands.{obeyed}
 use Rattle.sheet.specs.Protocol.{next, Sent, wholeOf, cutData}
-use Rattle.sheet.specs.Long.{Group, byteOf, byte, dataByte, heard, lostBy, heardWhole}
+use Rattle.sheet.specs.Long.{Group, byteOf, byte, dataByte, heard, heardWhole}
 use Rattle.sheet.specs.Places.{position, atPosition}
 use Rattle.sheet.specs.Data.{widthOf}
 use Rattle.sheet.specs.Agree.{Keeps}
@@ -64,17 +64,14 @@ module _ (K : Part) (n : ℕ) (keeps : Keeps K) where
   heard-keeps (x ∷ xs) e s k = heard-keeps xs (next e x) (byte K e x s) (byte-keeps e x s k)
 
   -- a byte that is cut keeps P and A, and a mark is 0 or 1
-  lost-in : (t : Sent) (r : Registers) → InRange K r → InRange K (lostBy t r)
-  lost-in t r h = marked-in K r _ h (go (cutData t))
-    where
-      go : (b : Bool) → MarksIn (cond b (marked 1) (r .unknown))
-      go true = record { high-in = omega arith; low-in = omega arith; device-in = omega arith }
-      go false = h .marks-in
+  lost-in : (isData : Bool) (r : Registers) → InRange K r → InRange K (lostBy isData r)
+  lost-in true r h = marked-in K r (marked 1) h (record { high-in = omega arith; low-in = omega arith; device-in = omega arith })
+  lost-in false r h = h
 
   pub whole-keeps : (t : Sent) (s : Group) → Kept K n s → Kept K n (heardWhole K t s)
   whole-keeps t s k =
       let w = heard-keeps (drop 1 (wholeOf t)) Control s k in
-      record { range = lost-in t _ (w .range); columns = w .columns; nibbles = w .nibbles }
+      record { range = lost-in (cutData t) _ (w .range); columns = w .columns; nibbles = w .nibbles }
 
 -- P stays below 160 and A at most 4
 pub pcf8532-keeps : Keeps pcf8532

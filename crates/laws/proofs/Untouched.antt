@@ -23,9 +23,9 @@ use Rattle.sheet.specs.declared.Kind.{Kind}
 use Rattle.sheet.specs.declared.Expect.the-variants.{Control, One, All}
 use Rattle.sheet.specs.Parts.{Part}
 use Rattle.sheet.specs.Registers.{backplanes, bankRow, registersOf}
-use Rattle.sheet.specs.Protocol.{addressOf, heardBy, next, Sent, wholeOf, addressByte}
-use Rattle.sheet.specs.Long.{Group, After, begun, byteOf, byte, dataByte, heard, lostBy, columnsOf, taken, transferCall}
-use Rattle.sheet.specs.Plain.{begunBy, withRegisters, putRows, afterColumn, afterColumns, chipData, chipByteOf, chipByte, any, hears, takes, Plain, plainHeard, chipEnded, plainWhole, plainTaken, plainSaid, plainAnswered, checkPlain, plainCall}
+use Rattle.sheet.specs.Protocol.{addressOf, heardBy, next, Sent, wholeOf, addressByte, cutData}
+use Rattle.sheet.specs.Long.{Group, After, begun, byteOf, byte, dataByte, heard, columnsOf, taken, transferCall}
+use Rattle.sheet.specs.Plain.{begunBy, putRows, afterColumn, afterColumns, chipData, chipByteOf, chipByte, any, hears, takes, Plain, plainHeard, chipLost, chipEnded, plainWhole, plainTaken, plainSaid, plainAnswered, checkPlain, plainCall}
 use Rattle.sheet.specs.Data.{bitOf, rowOf, withRow, changed, putBits, widthOf}
 use Rattle.sheet.specs.Lands.{bitsOn, kindOn, byteOn, heardOn, Missed, LongStays, rowsOn, columnOn, columnsOn, chipKindOn, chipByteOn, chipHeardOn, PlainStays, Untouched}
 use Rattle.laws.proofs.Rows.{row-other, row-kept, row-stays, changed-other, bit-lt}
@@ -184,17 +184,17 @@ map-at f (c ∷ cs) (suc i) d l = map-at f cs i d (le-of-suc-le-suc l)
 
 -- one chip's part in all of a transfer: it follows the whole bytes, and a byte that is cut lands nowhere
 abbrev ended : Part → Sent → Chip → Chip
-ended K t c = chipEnded (addressByte t) t (alone K (addressByte t) Control (drop 1 (wholeOf t)) c)
+ended K t c = chipEnded (addressByte t) (cutData t) (alone K (addressByte t) Control (drop 1 (wholeOf t)) c)
 
 each-ended : (K : Part) (t : Sent) (s : Plain) → plainWhole K (addressByte t) t s .chips ≡ map (ended K t) (s .chips)
 each-ended K t s =
-    ap (map (chipEnded (addressByte t) t)) (each-alone K (addressByte t) Control (drop 1 (wholeOf t)) s)
-    ∙ map-map (chipEnded (addressByte t) t) (alone K (addressByte t) Control (drop 1 (wholeOf t))) (s .chips)
+    ap (map (chipEnded (addressByte t) (cutData t))) (each-alone K (addressByte t) Control (drop 1 (wholeOf t)) s)
+    ∙ map-map (chipEnded (addressByte t) (cutData t)) (alone K (addressByte t) Control (drop 1 (wholeOf t))) (s .chips)
 
-ended-columns : (address : ℕ) (t : Sent) (c : Chip) → chipEnded address t c .columns ≡ c .columns
-ended-columns address t c = go (hears address c)
+ended-columns : (address : ℕ) (isData : Bool) (c : Chip) → chipEnded address isData c .columns ≡ c .columns
+ended-columns address isData c = go (hears address c)
   where
-    go : (b : Bool) → cond b (withRegisters (lostBy t (c .registers)) c) c .columns ≡ c .columns
+    go : (b : Bool) → cond b (chipLost isData c) c .columns ≡ c .columns
     go true = refl
     go false = refl
 
@@ -220,12 +220,12 @@ module _ (K : Part) (cs : List Chip) (t : Sent) (i : ℕ) (d : Chip) (l : i < le
 
   -- one that does not hear
   deaf-ended : hears (addressByte t) before ≡ false → ended K t before ≡ before
-  deaf-ended deaf = ap (chipEnded (addressByte t) t) (deaf-alone K (addressByte t) Control (drop 1 (wholeOf t)) before deaf) ∙ rw deaf
+  deaf-ended deaf = ap (chipEnded (addressByte t) (cutData t)) (deaf-alone K (addressByte t) Control (drop 1 (wholeOf t)) before deaf) ∙ rw deaf
 
   plain-stays : PlainStays K t before (getD (plainCall K cs t .chips) i d)
   plain-stays = record {
     row = λ p q missed. chip-after (λ c. SameRow p q (c .columns) (before .columns)) refl
-        (ap (λ (columns : List ℕ). rowOf (getD columns p 0) q) (ended-columns (addressByte t) t followed) ∙ alone-missed K (addressByte t) Control (drop 1 (wholeOf t)) before p q missed);
+        (ap (λ (columns : List ℕ). rowOf (getD columns p 0) q) (ended-columns (addressByte t) (cutData t) followed) ∙ alone-missed K (addressByte t) Control (drop 1 (wholeOf t)) before p q missed);
     chip = λ other. chip-after (λ c. c ≡ before) refl (deaf-ended (ne-eqb (addressByte t) (addressOf (before .sa0)) other));
   }
 

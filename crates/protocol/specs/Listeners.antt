@@ -1,7 +1,7 @@
 -- The code's state, which has no RAM: with a RAM it stands for a group of `sheet`. What a byte that is no data, and what a run of data, make of it.
 use Prim.Native.Nat.{ℕ, _+_, _<_, _^_}
 use mathlib.Core.Path.{_≡_}
-use mathlib.Core.Bool.{Bool, true, false, cond, _&&_}
+use mathlib.Core.Bool.{Bool, true, false, _&&_}
 use mathlib.Core.List.{List}
 use Rattle.sheet.specs.declared.Registers.{Registers}
 use Rattle.sheet.specs.declared.Counts.{Counts}
@@ -9,7 +9,7 @@ use Rattle.sheet.specs.declared.Kind.{Kind}
 use Rattle.sheet.specs.declared.Expect.{Expect}
 use Rattle.sheet.specs.declared.Expect.the-variants.{Control, One, All}
 use Rattle.sheet.specs.Parts.{Part}
-use Rattle.sheet.specs.Registers.{marked, withMarks, inRange}
+use Rattle.sheet.specs.Registers.{lostBy, inRange}
 use Rattle.sheet.specs.Commands.{obeyed}
 use Rattle.sheet.specs.Protocol.{next, isData}
 use Rattle.sheet.specs.Long.{Group, oneAcknowledged}
@@ -60,7 +60,7 @@ ran K l n size = record {
 
 -- after the last whole byte: what a byte that is cut makes of it
 abbrev pub endedBy : Bool → Listener → Listener
-endedBy cut l = record { expect = l .expect; registers = withMarks (l .registers) (cond (cut && isData (l .expect)) (marked 1) (l .registers .unknown)); counts = l .counts; last = l .last }
+endedBy cut l = record { expect = l .expect; registers = lostBy (cut && isData (l .expect)) (l .registers); counts = l .counts; last = l .last }
 
 -- counts that have room for n data bytes more
 pub record Countable (t : Counts) (m n : ℕ) : Type 0 where

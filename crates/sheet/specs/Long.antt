@@ -19,7 +19,7 @@ use Rattle.sheet.specs.declared.Answer.{Answer}
 use Rattle.sheet.specs.declared.Transferred.{Transferred}
 use Rattle.sheet.specs.declared.PowerOn.{PowerOn}
 use Rattle.sheet.specs.Parts.{Part, partOf}
-use Rattle.sheet.specs.Registers.{backplanes, bankRow, powerOn, marked, withMarks, registersOf}
+use Rattle.sheet.specs.Registers.{backplanes, bankRow, powerOn, lostBy, registersOf}
 use Rattle.sheet.specs.Commands.{obeyed}
 use Rattle.sheet.specs.Protocol.{heardBy, next, chipsIn, Sent, wholeOf, addressByte, cutData}
 use Rattle.sheet.specs.Checks.{orElse, checkPart, checkPowerOn, checkTransfer, checkPicture}
@@ -80,12 +80,9 @@ unfoldable pub heard : Part → Expect → List ℕ → Group → Group
 heard K e [] g = g
 heard K e (x ∷ xs) g = heard K (next e x) xs (byte K e x g)
 
--- the byte that is cut, after them: data stores nothing and makes pointer and counter unknown, which keep their numbers; any other does nothing (paper 02, request 8)
-abbrev pub lostBy : Sent → Registers → Registers
-lostBy t r = withMarks r (cond (cutData t) (marked 1) (r .unknown))
-
+-- the byte that is cut, after them: it stores nothing and is not counted
 abbrev pub ended : Sent → Group → Group
-ended t g = record { registers = lostBy t (g .registers); ram = g .ram; counts = g .counts; last = g .last }
+ended t g = record { registers = lostBy (cutData t) (g .registers); ram = g .ram; counts = g .counts; last = g .last }
 
 -- all of a transfer after its address
 abbrev pub heardWhole : Part → Sent → Group → Group

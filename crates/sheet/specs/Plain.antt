@@ -18,11 +18,10 @@ use Rattle.sheet.specs.declared.Check.the-variants.{Passed, Refused}
 use Rattle.sheet.specs.declared.PlainAnswer.{PlainAnswer}
 use Rattle.sheet.specs.declared.ChipPowerOn.{ChipPowerOn}
 use Rattle.sheet.specs.Parts.{Part, partOf}
-use Rattle.sheet.specs.Registers.{powerOn, inRange, backplanes, bankRow}
+use Rattle.sheet.specs.Registers.{powerOn, lostBy, inRange, backplanes, bankRow}
 use Rattle.sheet.specs.Commands.{obeyed}
-use Rattle.sheet.specs.Protocol.{addressOf, next, Sent, wholeOf, addressByte}
+use Rattle.sheet.specs.Protocol.{addressOf, next, Sent, wholeOf, addressByte, cutData}
 use Rattle.sheet.specs.Checks.{unless, orElse, passed, overIn, checkPart, checkSent, faultOfSent}
-use Rattle.sheet.specs.Long.{lostBy}
 use Rattle.sheet.specs.Pictures.{pictureOf, Seen, seenBy, seen}
 use Rattle.sheet.specs.Places.{advanced}
 use Rattle.sheet.specs.Data.{bitOf, withRow, changed, widthOf}
@@ -144,12 +143,15 @@ plainHeard K address e (x ∷ xs) s =
     plainHeard K address (next e x) xs
     (record { acknowledged = s .acknowledged + once who; last = lastAfter e who (s .last); chips = map (takes K address e x) (s .chips) })
 
--- the byte that is cut, after them: each chip that hears loses pointer and counter to data (paper 02, request 8)
-abbrev pub chipEnded : ℕ → Sent → Chip → Chip
-chipEnded address t c = cond (hears address c) (withRegisters (lostBy t (c .registers)) c) c
+-- the byte that is cut, after them: each chip that hears it, selected or not
+abbrev pub chipLost : Bool → Chip → Chip
+chipLost isData c = withRegisters (lostBy isData (c .registers)) c
+
+abbrev pub chipEnded : ℕ → Bool → Chip → Chip
+chipEnded address isData c = cond (hears address c) (chipLost isData c) c
 
 abbrev pub plainEnded : ℕ → Sent → Plain → Plain
-plainEnded address t s = record { acknowledged = s .acknowledged; last = s .last; chips = map (chipEnded address t) (s .chips) }
+plainEnded address t s = record { acknowledged = s .acknowledged; last = s .last; chips = map (chipEnded address (cutData t)) (s .chips) }
 
 -- all of a transfer after its address
 abbrev pub plainWhole : Part → ℕ → Sent → Plain → Plain

@@ -30,6 +30,10 @@ atPlace r p a = record { e = r .e; b = r .b; m = r .m; p = p; a = a; i = r .i; o
 abbrev pub withMarks : Registers → Marks → Registers
 withMarks r u = record { e = r .e; b = r .b; m = r .m; p = r .p; a = r .a; i = r .i; o = r .o; ab = r .ab; bf = r .bf; unknown = u }
 
+-- after a byte that is cut: data makes pointer and counter unknown, which keep their numbers; any other byte does nothing (paper 02, request 8)
+abbrev pub lostBy : Bool → Registers → Registers
+lostBy isData r = withMarks r (cond isData (marked 1) (r .unknown))
+
 -- every register in its range: P below the part's columns, A at most its limit, a mark 0 or 1
 unfoldable pub inRange : Part → Registers → Bool
 inRange K r =

@@ -1,9 +1,8 @@
 -- `protocol::Listener::end` meets its contract.
 -- Assumes nothing.
 use mathlib.Core.Path.{ap, _∙_}
-use mathlib.Core.Bool.{Bool, cond, _&&_}
-use Rattle.sheet.specs.declared.Registers.{Registers}
-use Rattle.sheet.specs.Registers.{marked, withMarks}
+use mathlib.Core.Bool.{Bool, _&&_}
+use Rattle.sheet.specs.Registers.{lostBy}
 use borrow.Author.Needs.{needs}
 use Rattle.protocol.proofs.Listener.end.Statement.{statement}
 use Rattle.protocol.proofs.Listener.end.Tie as tie
@@ -13,7 +12,7 @@ returns c = let a = c .before .before .before .before .args in
     λ j. record {
       expect = a .self .expect;
       registers =
-          (c .lose .ensures ∙ ap (λ (b : Bool). withMarks (a .self .registers) (cond (a .cut && b) (marked 1) (a .self .registers .unknown))) (c .before .is-data .ensures)) j;
+          (c .lose .ensures ∙ ap (λ (b : Bool). lostBy (a .cut && b) (a .self .registers)) (c .before .is-data .ensures)) j;
       counts = a .self .counts;
       last = a .self .last;
     }
