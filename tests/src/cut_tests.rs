@@ -215,13 +215,6 @@ fn longest() {
     Bus::new(4, 0).expect_refused(&bytes, 3, 2, 0);
 }
 
-/// True where a byte of a transfer behind its address is data.
-fn is_data(bytes: &[u8], place: usize) -> bool {
-    let controls = generate::control_places(bytes);
-    let before = controls.iter().filter(|control| **control < place).last();
-    !controls.contains(&place) && before.is_some_and(|control| bytes[*control] & 0x40 != 0)
-}
-
 /// Generated transfers at every cut: all is as the whole bytes before give it, but for the marks.
 #[test]
 fn whole_bytes_before() {
@@ -234,7 +227,7 @@ fn whole_bytes_before() {
             let answer = cut.cut(&bytes[..=place], random.between(1, 7) as u8);
             assert_eq!(answer, whole.send(&bytes[..place]));
             assert_eq!(cut.ram, whole.ram);
-            let lost = bytes[0] == 0x70 && is_data(&bytes, place);
+            let lost = bytes[0] == 0x70 && generate::is_data(&bytes, place);
             let marks = if lost { LOST } else { KNOWN };
             assert_eq!(cut.registers, whole.marked(marks).registers);
         }

@@ -229,6 +229,13 @@ pub fn control_places(bytes: &[u8]) -> Vec<usize> {
     places
 }
 
+/// True where a byte of a transfer is data.
+pub fn is_data(bytes: &[u8], place: usize) -> bool {
+    let controls = control_places(bytes);
+    let last = controls.iter().rfind(|control| **control <= place);
+    last.is_some_and(|control| *control < place && bytes[*control] & 0x40 != 0)
+}
+
 /// An address with bytes after it that follow no plan, but for clean control bytes.
 fn noise(random: &mut Random) -> Vec<u8> {
     let mut bytes = vec![address(random)];

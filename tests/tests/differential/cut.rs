@@ -3,7 +3,7 @@
 use crate::case::{clear_marks, refusal_of, Call, Case, MARKS, PARTS};
 use crate::plain::{self, CHIP};
 use crate::{fault, for_seeds};
-use humtrellis_tests::generate::{self, commands_then_data, control_places, shape};
+use humtrellis_tests::generate::{self, commands_then_data, is_data, shape};
 use humtrellis_tests::model::{none, ANSWER, COLUMNS, SET, TRANSFER_LIMIT, WHOLE};
 
 /// Bits of a cut byte.
@@ -15,13 +15,6 @@ fn every_mark() -> impl Iterator<Item = [u8; 3]> {
 }
 
 // ---- Every cut -------------------------------------------------------------
-
-/// True where a byte of a transfer is data.
-fn is_data(bytes: &[u8], place: usize) -> bool {
-    let controls = control_places(bytes);
-    let last = controls.iter().rfind(|control| **control <= place);
-    last.is_some_and(|control| *control < place && bytes[*control] & 0x40 != 0)
-}
 
 /// The whole bytes before a place; before byte 0 none has come, and one that nobody hears stands for that.
 fn whole_before(bytes: &[u8], place: usize) -> Vec<u8> {
