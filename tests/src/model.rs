@@ -916,17 +916,9 @@ impl LogBus {
 
     /// Sends a record's bytes, which are whole.
     pub fn send(&mut self, bytes: &[u8]) -> Answer {
-        let (chips0, chips1) = (self.chips0, self.chips1);
+        let (part, chips0, chips1) = (LOG_PART.number(), self.chips0, self.chips1);
         let (registers, ram) = (&mut self.registers, &mut self.ram);
-        transfer(
-            LOG_PART.number(),
-            chips0,
-            chips1,
-            registers,
-            ram,
-            bytes,
-            WHOLE,
-        )
+        transfer(part, chips0, chips1, registers, ram, bytes, WHOLE)
     }
 
     fn view(&self, group: u8) -> View<'_> {
