@@ -84,7 +84,7 @@ fn carry_out<Chosen: Part>(
     let mut counts = [1, 0, 0];
     let mut last = Chosen::MOST;
     let mut rest = &bytes[1..whole];
-    // Data would come next.
+    // Data would come next, which only the end of the whole bytes leaves so.
     let mut open = false;
     while let Some((control, after)) = rest.split_first() {
         counts[0] += 1;
@@ -96,7 +96,6 @@ fn carry_out<Chosen: Part>(
         if control & 0x40 == 0 {
             counts[0] += length;
             some.iter().for_each(|byte| Chosen::obey(set, *byte));
-            open = false;
         } else {
             if !some.is_empty() {
                 last = run::store::<Chosen>(set, columns, some, &mut counts);
