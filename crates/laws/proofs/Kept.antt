@@ -31,6 +31,11 @@ pub record Kept (K : Part) (size : ℕ) (s : Group) : Type 0 where
   pub columns : length (s .ram) ≡ size
   pub nibbles : Nibbles (s .ram)
 
+-- a byte that is cut keeps P and A, and a mark is 0 or 1
+pub lost-in : (K : Part) (isData : Bool) (r : Registers) → InRange K r → InRange K (lostBy isData r)
+lost-in K true r h = marked-in K r (marked 1) h (record { high-in = omega arith; low-in = omega arith; device-in = omega arith })
+lost-in K false r h = h
+
 module _ (K : Part) (n : ℕ) (keeps : Keeps K) where
   command-range : (r : Registers) (x : ℕ) → InRange K r → InRange K (obeyed r (K .command x))
   command-range r x h = range-of K (obeyed r (K .command x)) (keeps r x (in-range K r h))
@@ -63,15 +68,10 @@ module _ (K : Part) (n : ℕ) (keeps : Keeps K) where
   heard-keeps [] e s k = k
   heard-keeps (x ∷ xs) e s k = heard-keeps xs (next e x) (byte K e x s) (byte-keeps e x s k)
 
-  -- a byte that is cut keeps P and A, and a mark is 0 or 1
-  lost-in : (isData : Bool) (r : Registers) → InRange K r → InRange K (lostBy isData r)
-  lost-in true r h = marked-in K r (marked 1) h (record { high-in = omega arith; low-in = omega arith; device-in = omega arith })
-  lost-in false r h = h
-
   pub whole-keeps : (t : Sent) (s : Group) → Kept K n s → Kept K n (heardWhole K t s)
   whole-keeps t s k =
       let w = heard-keeps (drop 1 (wholeOf t)) Control s k in
-      record { range = lost-in (cutData t) _ (w .range); columns = w .columns; nibbles = w .nibbles }
+      record { range = lost-in K (cutData t) _ (w .range); columns = w .columns; nibbles = w .nibbles }
 
 -- P stays below 160 and A at most 4
 pub pcf8532-keeps : Keeps pcf8532
