@@ -128,10 +128,10 @@ pub fn whole_count(size: usize, bits: u8) -> usize
 {
     if 8 <= bits {
         size
-    } else if 0 < size {
-        size - 1
-    } else {
+    } else if size == 0 {
         0
+    } else {
+        size - 1
     }
 }
 
