@@ -8,7 +8,7 @@ ghost use mathlib.Core.Bool.{_&&_};
 ghost use lib.Dec.{ltb};
 ghost use Rattle.sheet.specs.Parts.{partOf, pcf8532, pca85133, modeSet, blinkSelect, bankSelect};
 ghost use Rattle.sheet.specs.Registers.{known, powerOn, lostBy, inRange};
-ghost use Rattle.sheet.specs.Commands.{defined, sets, restored, obeyed};
+ghost use Rattle.sheet.specs.Commands.{defined, restored, obeyed};
 
 // ---- what both sheets have
 
@@ -115,50 +115,15 @@ pub fn is_defined(part: u8, byte: u8) -> bool
 
 // ---- what it does
 
-// What a command byte sets.
-fn set(part: u8, mut registers: Registers, byte: u8) -> Registers
-    ensures { λ r. ⌜ r ≡ sets registers ((partOf part .command) byte) ⌝ }
+// Whether no mark is unknown.
+pub fn all_known(marks: Marks) -> bool
+    ensures { λ r. ⌜ r ≡ known marks ⌝ }
 {
-    match decode(part, byte) {
-        Command::PointerHigh(n) => {
-            registers.p = 16 * (n as usize) + registers.p % 16;
-            registers
-        }
-        Command::PointerLow(n) => {
-            registers.p = registers.p - registers.p % 16 + (n as usize);
-            registers
-        }
-        Command::Pointer(p) => {
-            registers.p = p as usize;
-            registers
-        }
-        Command::ModeSet(s) => {
-            registers.e = s.e;
-            registers.b = s.b;
-            registers.m = s.m;
-            registers
-        }
-        Command::DeviceSelect(n) => {
-            registers.a = n as usize;
-            registers
-        }
-        Command::BlinkSelect { ab, bf } => {
-            registers.ab = ab;
-            registers.bf = bf;
-            registers
-        }
-        Command::BankSelect { i, o } => {
-            registers.i = i;
-            registers.o = o;
-            registers
-        }
-        Command::FrequencyCtrl => registers,
-        Command::Undefined => registers,
-    }
+    (marks.high == 0) & ((marks.low == 0) & (marks.device == 0))
 }
 
 // The marks after a command byte, which restores its own.
-pub fn restore(part: u8, mut marks: Marks, byte: u8) -> Marks
+fn restore_own(part: u8, mut marks: Marks, byte: u8) -> Marks
     ensures { λ r. ⌜ r ≡ restored ((partOf part .command) byte) marks ⌝ }
 {
     match decode(part, byte) {
@@ -187,14 +152,67 @@ pub fn restore(part: u8, mut marks: Marks, byte: u8) -> Marks
     }
 }
 
-// The registers after a command byte.
-pub fn obey(part: u8, registers: Registers, byte: u8) -> Registers
+// The marks after a command byte. Mostly none is unknown, and then the byte is not looked at.
+pub fn restore(part: u8, marks: Marks, byte: u8) -> Marks
+    ensures { λ r. ⌜ r ≡ restored ((partOf part .command) byte) marks ⌝ }
+{
+    if all_known(marks) {
+        marks
+    } else {
+        restore_own(part, marks, byte)
+    }
+}
+
+// The registers after a command byte: what it sets, and the marks that it restores, in the same arm, so that the call stays small enough to be inlined.
+pub fn obey(part: u8, mut registers: Registers, byte: u8) -> Registers
     ensures { λ r. ⌜ r ≡ obeyed registers ((partOf part .command) byte) ⌝ }
 {
-    let unknown = registers.unknown;
-    let mut after = set(part, registers, byte);
-    after.unknown = restore(part, unknown, byte);
-    after
+    let mut unknown = registers.unknown;
+    match decode(part, byte) {
+        Command::PointerHigh(n) => {
+            registers.p = 16 * (n as usize) + registers.p % 16;
+            unknown.high = 0;
+            registers.unknown = unknown;
+            registers
+        }
+        Command::PointerLow(n) => {
+            registers.p = registers.p - registers.p % 16 + (n as usize);
+            unknown.low = 0;
+            registers.unknown = unknown;
+            registers
+        }
+        Command::Pointer(p) => {
+            registers.p = p as usize;
+            unknown.high = 0;
+            unknown.low = 0;
+            registers.unknown = unknown;
+            registers
+        }
+        Command::ModeSet(s) => {
+            registers.e = s.e;
+            registers.b = s.b;
+            registers.m = s.m;
+            registers
+        }
+        Command::DeviceSelect(n) => {
+            registers.a = n as usize;
+            unknown.device = 0;
+            registers.unknown = unknown;
+            registers
+        }
+        Command::BlinkSelect { ab, bf } => {
+            registers.ab = ab;
+            registers.bf = bf;
+            registers
+        }
+        Command::BankSelect { i, o } => {
+            registers.i = i;
+            registers.o = o;
+            registers
+        }
+        Command::FrequencyCtrl => registers,
+        Command::Undefined => registers,
+    }
 }
 
 // The registers after a byte that is cut: data makes pointer and counter unknown, which keep their numbers.
@@ -212,13 +230,6 @@ pub fn lose(lost: bool, mut registers: Registers) -> Registers
     } else {
         registers
     }
-}
-
-// Whether no mark is unknown.
-pub fn all_known(marks: Marks) -> bool
-    ensures { λ r. ⌜ r ≡ known marks ⌝ }
-{
-    (marks.high == 0) & ((marks.low == 0) & (marks.device == 0))
 }
 
 // Whether every mark is 0 or 1.
