@@ -9,9 +9,11 @@
  * Group 0 (SA0 = 0) has the address byte 0x70 and group 1 (SA0 = 1) 0x72.
  *
  * RAM         the part's columns a chip: group 0's chips in order, then group 1's. A byte is a column, 0 to 15; bit r is row r.
- * Registers   18 bytes: group 0's nine, then group 1's, each in the order of enum humtrellis_register.
- * Plain chip  171 bytes: 160 columns, SA0 (0 or 1), subaddress (0 to 3; PCA85133: 0 to 7) and nine registers.
+ * Registers   24 bytes: group 0's twelve, then group 1's, each in the order of enum humtrellis_register.
+ * Plain chip  174 bytes: 160 columns, SA0 (0 or 1), subaddress (0 to 3; PCA85133: 0 to 7) and twelve registers.
  *             Of a PCA85133 bytes 80 to 159 are neither checked nor read nor changed.
+ * Transfer    its bytes, and the bits of the last one that came: HUMTRELLIS_WHOLE, or 1 to 7 where the cable was pulled. A byte so cut is not
+ *             acknowledged, counted or checked for 7 and 17, and does nothing; but a cut data byte that chips hear makes their pointer and counter unknown.
  * Picture     the part's columns for each chip of the group shown. A byte is a column; bit r is the element on backplane r.
  * Answer      six numbers, in the order of enum humtrellis_answer.
  *
@@ -29,25 +31,28 @@
 #include <stddef.h>
 #include <stdint.h>
 
-#define HUMTRELLIS_VERSION 3 /* of these sizes and calls; docs/C.md says what changed */
+#define HUMTRELLIS_VERSION 4 /* of these sizes and calls; docs/C.md says what changed */
 #define HUMTRELLIS_PCF8532 0 /* the parts */
 #define HUMTRELLIS_PCA85133 1
 #define HUMTRELLIS_COLUMNS 160         /* of a chip: its bytes in the RAM and in a picture */
 #define HUMTRELLIS_PCA85133_COLUMNS 80 /* of a PCA85133 */
-#define HUMTRELLIS_SET 9               /* registers of a group or a chip; group 1's begin at this index */
-#define HUMTRELLIS_REGISTERS 18
+#define HUMTRELLIS_SET 12              /* registers of a group or a chip; group 1's begin at this index */
+#define HUMTRELLIS_REGISTERS 24
+#define HUMTRELLIS_WHOLE 8 /* the bits of a whole last byte */
 #define HUMTRELLIS_ANSWER 6
 #define HUMTRELLIS_NONE 4          /* what HUMTRELLIS_ACKNOWLEDGED_BY holds where no chip did; with refusal 16 too */
 #define HUMTRELLIS_PCA85133_NONE 8 /* of a PCA85133 */
 #define HUMTRELLIS_SIZE 255
 #define HUMTRELLIS_TEXT 700000 /* bytes that hold the text of any log */
 
-#define HUMTRELLIS_CHIP 171
+#define HUMTRELLIS_CHIP 174
 #define HUMTRELLIS_CHIP_SA0 160 /* indices in a plain chip, after its columns */
 #define HUMTRELLIS_CHIP_SUBADDRESS 161
 #define HUMTRELLIS_CHIP_REGISTERS 162 /* its first register, E */
 
-/* The index of each register in a set of nine, and its range. Power-on: all 0. */
+/* The index of each register in a set of twelve, and its range. Power-on: all 0.
+ * The last three are marks. A cut data byte sets all three for every chip that hears it, and P and A keep their numbers; each mark is 0 again
+ * after its own command, both pointer marks after the PCA85133's one. While any of a hearing chip is 1, a data byte is refused with 18. */
 enum humtrellis_register {
     HUMTRELLIS_E = 0,  /* 0, 1: the display is on */
     HUMTRELLIS_B = 1,  /* 0, 1: bias; kept, without effect here */
@@ -57,7 +62,10 @@ enum humtrellis_register {
     HUMTRELLIS_I = 5,  /* 0, 1: input bank */
     HUMTRELLIS_O = 6,  /* 0, 1: output bank */
     HUMTRELLIS_AB = 7, /* 0, 1: blink mode; 1 alternates the banks in static and 1:2, and is as 0 in 1:3 and 1:4 */
-    HUMTRELLIS_BF = 8  /* 0 to 3: blink frequency; 0 is no blinking */
+    HUMTRELLIS_BF = 8, /* 0 to 3: blink frequency; 0 is no blinking */
+    HUMTRELLIS_UNKNOWN_HIGH = 9,   /* 0, 1: 1 where it is unknown, until pointer high */
+    HUMTRELLIS_UNKNOWN_LOW = 10,   /* 0, 1: the same, until pointer low */
+    HUMTRELLIS_UNKNOWN_DEVICE = 11 /* 0, 1: the same of the counter, until device-select */
 };
 
 /* The index of each number in an answer. A number that its call does not give is 0. */
@@ -72,7 +80,7 @@ enum humtrellis_answer {
     HUMTRELLIS_BYTES_KEPT = 3,     /* a rescue; the head included */
     HUMTRELLIS_BYTES_DROPPED = 4,  /* a rescue */
     HUMTRELLIS_TEAR = 5,           /* a rescue: its offset; the log's length where nothing is torn */
-    HUMTRELLIS_ACKNOWLEDGED_BY = 5 /* the subaddress that acknowledged the last data byte of a transfer or plain transfer; the part's none where none did, there is no data, or it is refused */
+    HUMTRELLIS_ACKNOWLEDGED_BY = 5 /* the subaddress that acknowledged the last whole data byte of a transfer or plain transfer; the part's none where none did, there is no such byte, or it is refused */
 };
 
 /* What a call returns. */
@@ -93,7 +101,9 @@ enum humtrellis_refusal {
     HUMTRELLIS_REFUSED_RECORD = 13,       /* cut short; place: the offset of its length field */
     HUMTRELLIS_REFUSED_LOG_LENGTH = 14,   /* over 65,536 bytes */
     HUMTRELLIS_REFUSED_PART = 16,         /* neither HUMTRELLIS_PCF8532 nor HUMTRELLIS_PCA85133; before every other refusal */
-    HUMTRELLIS_REFUSED_CONTROL = 17,      /* stray bits 5 to 0 of a control byte, in a transfer that a chip hears; place: the first; 7 or 17, whichever byte comes first */
+    HUMTRELLIS_REFUSED_CONTROL = 17,      /* stray bits 5 to 0 of a control byte, in a transfer that a chip hears; place: the first */
+    HUMTRELLIS_REFUSED_UNKNOWN = 18,      /* a data byte, whole or cut, while a mark of a hearing chip is 1; place: the byte; 7, 17 or 18, whichever byte comes first */
+    HUMTRELLIS_REFUSED_BITS = 19,         /* not 1 to 8, in a transfer that a chip hears or not */
     HUMTRELLIS_REFUSED_BODY = 20          /* a version 2 record's body under two bytes; place: the offset of its length field */
 };
 
@@ -105,10 +115,10 @@ extern "C" {
 uint8_t humtrellis_power_on(uint8_t part, uint8_t chips0, uint8_t chips1, const uint8_t *ram, size_t ram_length,
                             uint8_t *registers, size_t registers_length, size_t *answer, size_t answer_length);
 
-/* One transfer, START to STOP, address byte first: changes registers and RAM. Answer: number, place, acknowledged, stored, discarded, acknowledged by.
- * Refusals: 16, 3, 6, 4, 5, 1, 2, then 7 or 17 by the first faulty byte. */
+/* One transfer, START to STOP or to the cut, address byte first; `bits` of its last byte came. Changes registers and RAM.
+ * Answer: number, place, acknowledged, stored, discarded, acknowledged by. Refusals: 16, 3, 6, 4, 5, 1, 2, 19, then 7, 17 or 18 by the first faulty byte. */
 uint8_t humtrellis_transfer(uint8_t part, uint8_t chips0, uint8_t chips1, uint8_t *registers, size_t registers_length,
-                            uint8_t *ram, size_t ram_length, const uint8_t *bytes, size_t bytes_length,
+                            uint8_t *ram, size_t ram_length, const uint8_t *bytes, size_t bytes_length, uint8_t bits,
                             size_t *answer, size_t answer_length);
 
 /* The lit elements of a group (0 or 1) at a blink phase (0 or 1) into `out`. Answer: number, place, lit, 0, 0, 0. Refusals: 16, 3, 6, 4, 5, 8, 9. */
@@ -116,9 +126,10 @@ uint8_t humtrellis_picture(uint8_t part, uint8_t chips0, uint8_t chips1, const u
                            const uint8_t *ram, size_t ram_length, uint8_t group, uint8_t phase,
                            uint8_t *out, size_t out_length, size_t *answer, size_t answer_length);
 
-/* One transfer to a list of 0 to 8 plain chips (PCA85133: 0 to 16), each of which follows every byte by itself; gaps and repeated subaddresses are allowed.
- * Answer: number, place, acknowledged (a byte counts once), 0, 0, acknowledged by (the smallest subaddress that did). Refusals: 16, 10, 11, 1, 2, then 7 or 17 by the first faulty byte. */
-uint8_t humtrellis_plain_transfer(uint8_t part, uint8_t *chips, size_t chips_length, const uint8_t *bytes, size_t bytes_length,
+/* One transfer to a list of 0 to 8 plain chips (PCA85133: 0 to 16), each of which follows every byte by itself; gaps, repeated subaddresses and unequal marks are allowed.
+ * Answer: number, place, acknowledged (a byte counts once), 0, 0, acknowledged by (the smallest subaddress that did).
+ * Refusals: 16, 10, 11, 1, 2, 19, then 7, 17 or 18 by the first faulty byte. */
+uint8_t humtrellis_plain_transfer(uint8_t part, uint8_t *chips, size_t chips_length, const uint8_t *bytes, size_t bytes_length, uint8_t bits,
                                   size_t *answer, size_t answer_length);
 
 /* Power-on of one plain chip: its registers become the power-on ones, taken or refused, and its other bytes stay.

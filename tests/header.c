@@ -19,16 +19,22 @@ static uint8_t power_on(void) {
     return humtrellis_power_on(HUMTRELLIS_PCF8532, 1, 1, ram, sizeof ram, registers, sizeof registers, answer, HUMTRELLIS_ANSWER);
 }
 
-static uint8_t send(const uint8_t *bytes, size_t length) {
-    return humtrellis_transfer(HUMTRELLIS_PCF8532, 1, 1, registers, sizeof registers, ram, sizeof ram, bytes, length, answer, HUMTRELLIS_ANSWER);
+static uint8_t send_bits(const uint8_t *bytes, size_t length, uint8_t bits) {
+    return humtrellis_transfer(HUMTRELLIS_PCF8532, 1, 1, registers, sizeof registers, ram, sizeof ram, bytes, length, bits, answer, HUMTRELLIS_ANSWER);
 }
+
+static uint8_t send(const uint8_t *bytes, size_t length) { return send_bits(bytes, length, HUMTRELLIS_WHOLE); }
 
 static uint8_t show(uint8_t group, uint8_t phase, size_t length) {
     return humtrellis_picture(HUMTRELLIS_PCF8532, 1, 1, registers, sizeof registers, ram, sizeof ram, group, phase, picture, length, answer, HUMTRELLIS_ANSWER);
 }
 
+static uint8_t send_plain_bits(uint8_t part, size_t count, const uint8_t *bytes, size_t length, uint8_t bits) {
+    return humtrellis_plain_transfer(part, chips, count * HUMTRELLIS_CHIP, bytes, length, bits, answer, HUMTRELLIS_ANSWER);
+}
+
 static uint8_t send_plain(uint8_t part, size_t count, const uint8_t *bytes, size_t length) {
-    return humtrellis_plain_transfer(part, chips, count * HUMTRELLIS_CHIP, bytes, length, answer, HUMTRELLIS_ANSWER);
+    return send_plain_bits(part, count, bytes, length, HUMTRELLIS_WHOLE);
 }
 
 static uint8_t power_on_chip(uint8_t part, size_t length) {
@@ -45,7 +51,7 @@ static void registers_by_name(void) {
         {0xC8, HUMTRELLIS_E, 1}, {0xC4, HUMTRELLIS_B, 1}, {0xC2, HUMTRELLIS_M, 2},  {0x09, HUMTRELLIS_P, 144}, {0xE3, HUMTRELLIS_A, 3},
         {0xFA, HUMTRELLIS_I, 1}, {0xF9, HUMTRELLIS_O, 1}, {0xF4, HUMTRELLIS_AB, 1}, {0xF2, HUMTRELLIS_BF, 2},
     };
-    for (size_t i = 0; i < HUMTRELLIS_SET; i++) {
+    for (size_t i = 0; i < sizeof set / sizeof set[0]; i++) {
         const uint8_t bytes[] = {0x72, 0x00, set[i].command};
         EXPECT(power_on() == HUMTRELLIS_TAKEN);
         EXPECT(send(bytes, sizeof bytes) == HUMTRELLIS_TAKEN);
@@ -59,6 +65,7 @@ static void ranges(void) {
     static const struct { size_t index; uint8_t greatest; } range[] = {
         {HUMTRELLIS_E, 1}, {HUMTRELLIS_B, 1}, {HUMTRELLIS_M, 3},  {HUMTRELLIS_P, 159}, {HUMTRELLIS_A, 4},
         {HUMTRELLIS_I, 1}, {HUMTRELLIS_O, 1}, {HUMTRELLIS_AB, 1}, {HUMTRELLIS_BF, 3},
+        {HUMTRELLIS_UNKNOWN_HIGH, 1}, {HUMTRELLIS_UNKNOWN_LOW, 1}, {HUMTRELLIS_UNKNOWN_DEVICE, 1},
     };
     const uint8_t address[] = {0x70};
     for (size_t i = 0; i < HUMTRELLIS_SET; i++) {
@@ -89,7 +96,7 @@ static void answers(void) {
     EXPECT(power_on() == HUMTRELLIS_TAKEN);
     EXPECT(send(past_the_end, sizeof past_the_end) == HUMTRELLIS_TAKEN);
     EXPECT(answer[HUMTRELLIS_ACKNOWLEDGED] == 8 && answer[HUMTRELLIS_STORED] == 3 && answer[HUMTRELLIS_DISCARDED] == 5);
-    EXPECT(answer[HUMTRELLIS_ACKNOWLEDGED_BY] == HUMTRELLIS_NONE && HUMTRELLIS_NONE == 4 && HUMTRELLIS_VERSION == 3);
+    EXPECT(answer[HUMTRELLIS_ACKNOWLEDGED_BY] == HUMTRELLIS_NONE && HUMTRELLIS_NONE == 4 && HUMTRELLIS_VERSION == 4);
     EXPECT(ram[HUMTRELLIS_COLUMNS - 1] == 7 && ram[HUMTRELLIS_COLUMNS] == 0);
     EXPECT(send(group1, sizeof group1) == HUMTRELLIS_TAKEN && answer[HUMTRELLIS_ACKNOWLEDGED_BY] == 0);
     EXPECT(ram[HUMTRELLIS_COLUMNS] == 5 && ram[HUMTRELLIS_COLUMNS + 1] == 10);
@@ -119,7 +126,7 @@ static void refusals(void) {
 static void sizes(void) {
     EXPECT(humtrellis_power_on(HUMTRELLIS_PCF8532, 1, 1, ram, RAM, registers, HUMTRELLIS_REGISTERS - 1, answer, HUMTRELLIS_ANSWER) == HUMTRELLIS_SIZE);
     EXPECT(humtrellis_power_on(HUMTRELLIS_PCF8532, 1, 1, ram, RAM, registers, HUMTRELLIS_REGISTERS, answer, HUMTRELLIS_ANSWER - 1) == HUMTRELLIS_SIZE);
-    EXPECT(humtrellis_plain_transfer(HUMTRELLIS_PCF8532, chips, HUMTRELLIS_CHIP - 1, ram, 1, answer, HUMTRELLIS_ANSWER) == HUMTRELLIS_SIZE);
+    EXPECT(humtrellis_plain_transfer(HUMTRELLIS_PCF8532, chips, HUMTRELLIS_CHIP - 1, ram, 1, HUMTRELLIS_WHOLE, answer, HUMTRELLIS_ANSWER) == HUMTRELLIS_SIZE);
 }
 
 /* Two chips at one place: SA0 1, subaddress 2. A byte that both acknowledge counts once. */
@@ -158,7 +165,7 @@ static void one_chip(void) {
 }
 
 static uint8_t send_to_four(uint8_t part, const uint8_t *bytes, size_t length) {
-    return humtrellis_transfer(part, 4, 0, registers, sizeof registers, ram, RAM, bytes, length, answer, HUMTRELLIS_ANSWER);
+    return humtrellis_transfer(part, 4, 0, registers, sizeof registers, ram, RAM, bytes, length, HUMTRELLIS_WHOLE, answer, HUMTRELLIS_ANSWER);
 }
 
 static uint8_t show_four(uint8_t part, size_t length) {
@@ -197,6 +204,48 @@ static void smaller_chips(void) {
     EXPECT(send_plain(part, 17, data, sizeof data) == HUMTRELLIS_REFUSED_CHIP_LIST);
     chips[HUMTRELLIS_CHIP_SUBADDRESS] = 8;
     EXPECT(send_plain(part, 16, data, sizeof data) == HUMTRELLIS_REFUSED_CHIP);
+}
+
+/* The marks of group 0, or of a chip. */
+static int marks_are(const uint8_t *set, uint8_t high, uint8_t low, uint8_t device) {
+    return set[HUMTRELLIS_UNKNOWN_HIGH] == high && set[HUMTRELLIS_UNKNOWN_LOW] == low && set[HUMTRELLIS_UNKNOWN_DEVICE] == device;
+}
+
+/* A cut data byte stores nothing and leaves three marks; each command restores its own, and then data is taken again. */
+static void cut_bytes(void) {
+    const uint8_t data[] = {0x70, 0x80, 0xC8, 0x40, 0xA5, 0x5A}, high[] = {0x70, 0x00, 0x00}, low[] = {0x70, 0x00, 0x40}, device[] = {0x70, 0x00, 0xE0};
+    EXPECT(HUMTRELLIS_WHOLE == 8 && HUMTRELLIS_SET == 12 && HUMTRELLIS_REGISTERS == 24 && HUMTRELLIS_UNKNOWN_HIGH == 9 && HUMTRELLIS_UNKNOWN_DEVICE == 11);
+    EXPECT(power_on() == HUMTRELLIS_TAKEN && marks_are(registers, 0, 0, 0));
+    EXPECT(send_bits(data, sizeof data, 0) == HUMTRELLIS_REFUSED_BITS && send_bits(data, sizeof data, 9) == HUMTRELLIS_REFUSED_BITS);
+    EXPECT(HUMTRELLIS_REFUSED_BITS == 19 && answer[HUMTRELLIS_PLACE] == 0 && marks_are(registers, 0, 0, 0));
+    EXPECT(send_bits(data, sizeof data, 7) == HUMTRELLIS_TAKEN && marks_are(registers, 1, 1, 1) && registers[HUMTRELLIS_P] == 2);
+    EXPECT(answer[HUMTRELLIS_ACKNOWLEDGED] == 5 && answer[HUMTRELLIS_STORED] == 8 && answer[HUMTRELLIS_DISCARDED] == 0 && answer[HUMTRELLIS_ACKNOWLEDGED_BY] == 0);
+    EXPECT(ram[0] == 5 && ram[1] == 10 && ram[2] == 0 && marks_are(registers + HUMTRELLIS_SET, 0, 0, 0));
+    EXPECT(send(data, sizeof data) == HUMTRELLIS_REFUSED_UNKNOWN && HUMTRELLIS_REFUSED_UNKNOWN == 18 && answer[HUMTRELLIS_PLACE] == 4);
+    EXPECT(send(high, sizeof high) == HUMTRELLIS_TAKEN && marks_are(registers, 0, 1, 1));
+    EXPECT(send(low, sizeof low) == HUMTRELLIS_TAKEN && marks_are(registers, 0, 0, 1));
+    EXPECT(send_bits(device, sizeof device, 1) == HUMTRELLIS_TAKEN && marks_are(registers, 0, 0, 1) && answer[HUMTRELLIS_ACKNOWLEDGED] == 2);
+    EXPECT(send_bits(data, sizeof data, 7) == HUMTRELLIS_REFUSED_UNKNOWN);
+    EXPECT(send(device, sizeof device) == HUMTRELLIS_TAKEN && marks_are(registers, 0, 0, 0));
+    EXPECT(send(data, sizeof data) == HUMTRELLIS_TAKEN && ram[2] == 10 && ram[3] == 5);
+}
+
+/* The same of two plain PCA85133, of which one pointer command restores both pointer marks; power-on restores all. */
+static void cut_chips(void) {
+    const uint8_t part = HUMTRELLIS_PCA85133, data[] = {0x70, 0x40, 0xA5}, pointer[] = {0x70, 0x00, 0x4E}, device[] = {0x70, 0x00, 0xE0};
+    const uint8_t *second = chips + HUMTRELLIS_CHIP + HUMTRELLIS_CHIP_REGISTERS;
+    memset(chips, 0, sizeof chips);
+    EXPECT(HUMTRELLIS_CHIP == 174);
+    EXPECT(send_plain_bits(part, 2, data, sizeof data, 9) == HUMTRELLIS_REFUSED_BITS);
+    EXPECT(send_plain_bits(part, 2, data, sizeof data, 3) == HUMTRELLIS_TAKEN && answer[HUMTRELLIS_ACKNOWLEDGED] == 2);
+    EXPECT(answer[HUMTRELLIS_ACKNOWLEDGED_BY] == HUMTRELLIS_PCA85133_NONE && marks_are(second, 1, 1, 1) && chips[0] == 0);
+    EXPECT(send_plain(part, 2, pointer, sizeof pointer) == HUMTRELLIS_TAKEN && marks_are(second, 0, 0, 1));
+    EXPECT(power_on_chip(part, HUMTRELLIS_CHIP) == HUMTRELLIS_TAKEN && marks_are(chips + HUMTRELLIS_CHIP_REGISTERS, 0, 0, 0));
+    EXPECT(send_plain(part, 1, data, sizeof data) == HUMTRELLIS_TAKEN);
+    EXPECT(send_plain(part, 2, data, sizeof data) == HUMTRELLIS_REFUSED_UNKNOWN && answer[HUMTRELLIS_PLACE] == 2);
+    EXPECT(send_plain(part, 2, device, sizeof device) == HUMTRELLIS_TAKEN && send_plain(part, 2, data, sizeof data) == HUMTRELLIS_TAKEN);
+    chips[HUMTRELLIS_CHIP_REGISTERS + HUMTRELLIS_UNKNOWN_LOW] = 2;
+    EXPECT(send_plain(part, 2, data, sizeof data) == HUMTRELLIS_REFUSED_CHIP);
 }
 
 /* An unknown part comes before every refusal, but not before a wrong size; both power-ons still give power-on registers. */
@@ -253,6 +302,8 @@ int main(void) {
     one_chip();
     smaller_part();
     smaller_chips();
+    cut_bytes();
+    cut_chips();
     unknown_part();
     logs();
     rescues();

@@ -4,7 +4,7 @@ use crate::library::Numbers;
 use crate::samples::{self, Bus, Setup};
 use crate::ways::{Picture, Transfer, PICTURES, TRANSFERS};
 use humtrellis_tests::generate::{self, shape};
-use humtrellis_tests::model::SET;
+use humtrellis_tests::model::{REGISTERS, SET, WHOLE};
 use humtrellis_tests::random::Random;
 
 /// Buses of any kind, each with transfers of any kind.
@@ -13,9 +13,9 @@ const GENERATED: u64 = 40_000;
 /// What a transfer leaves, or what a picture gives.
 type Outcome = (Numbers, Bus, Vec<u8>);
 
-fn transferred(transfer: Transfer, before: &Bus, bytes: &[u8]) -> Outcome {
+fn transferred(transfer: Transfer, before: &Bus, bytes: &[u8], bits: u8) -> Outcome {
     let mut bus = before.clone();
-    let answer = bus.send(transfer, bytes);
+    let answer = bus.send(transfer, bytes, bits);
     (answer, bus, Vec::new())
 }
 
@@ -56,7 +56,9 @@ fn timed_transfers(setup: Setup) -> Result<(), String> {
     let what = format!("transfer, {}", setup.name());
     let mut bus = setup.bus(&mut Random::new(0));
     for bytes in setup.transfers() {
-        let outcome = agreed(&what, &TRANSFERS, |way| transferred(way, &bus, &bytes))?;
+        let outcome = agreed(&what, &TRANSFERS, |way| {
+            transferred(way, &bus, &bytes, WHOLE)
+        })?;
         bus = taken(&what, outcome)?;
     }
     Ok(())
@@ -75,10 +77,10 @@ fn timed_pictures(setup: Setup) -> Result<(), String> {
     Ok(())
 }
 
-/// Now and then a chip too many, a register at its greatest or of any value, a column of any value, columns too few, or another part.
+/// Now and then a chip too many, a register at its greatest or of any value, marks, a column of any value, columns too few, or another part.
 fn damage(random: &mut Random, bus: &mut Bus) {
     let part = shape(bus.part);
-    let (register, column) = (random.below(18), random.below(bus.ram.len().max(1)));
+    let (register, column) = (random.below(REGISTERS), random.below(bus.ram.len().max(1)));
     let greatest = part.greatest()[register % SET];
     match random.below(40) {
         0 => bus.chips[random.below(2)] = part.subaddresses() + 1,
@@ -87,11 +89,13 @@ fn damage(random: &mut Random, bus: &mut Bus) {
         3 | 4 if column < bus.ram.len() => bus.ram[column] = random.byte(),
         5 => bus.ram.truncate(column),
         6 => bus.part = generate::part(random),
+        7 => bus.registers[SET - 1 - random.below(3)] = 1,
+        8 => bus.registers[REGISTERS - 1 - random.below(3)] = 1,
         _ => {}
     }
 }
 
-/// Refusals, cut runs, both groups and every bank, so that no way is fast by leaving something out.
+/// Refusals, cut runs, cut bytes, unknown marks, both groups and every bank, so that no way is fast by leaving something out.
 fn generated(seed: u64) -> Result<(), String> {
     let random = &mut Random::new(seed);
     let number = generate::part(random);
@@ -103,8 +107,12 @@ fn generated(seed: u64) -> Result<(), String> {
             0 => generate::long_transfer(random),
             _ => generate::transfer(random, part),
         };
+        let bits = generate::bits(random);
         let what = format!("generated transfer {seed}");
-        bus = agreed(&what, &TRANSFERS, |way| transferred(way, &bus, &bytes))?.1;
+        let outcome = agreed(&what, &TRANSFERS, |way| {
+            transferred(way, &bus, &bytes, bits)
+        })?;
+        bus = outcome.1;
         damage(random, &mut bus);
     }
     let view = [0; 2].map(|_| random.below(20) as u8 % 3);

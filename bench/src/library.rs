@@ -11,7 +11,7 @@ pub type Numbers = [usize; ANSWER];
 extern "C" {
     fn humtrellis_transfer(
         part: u8, chips0: u8, chips1: u8, registers: *mut u8, registers_length: usize,
-        ram: *mut u8, ram_length: usize, bytes: *const u8, bytes_length: usize,
+        ram: *mut u8, ram_length: usize, bytes: *const u8, bytes_length: usize, bits: u8,
         answer: *mut usize, answer_length: usize,
     ) -> u8;
 
@@ -30,6 +30,7 @@ pub fn transfer(
     registers: &mut RegisterBytes,
     ram: &mut [u8],
     bytes: &[u8],
+    bits: u8,
 ) -> Numbers {
     let mut answer = [0; ANSWER];
     // Safety: each pointer goes with the length of the buffer that it points to.
@@ -44,6 +45,7 @@ pub fn transfer(
             ram.len(),
             bytes.as_ptr(),
             bytes.len(),
+            bits,
             answer.as_mut_ptr(),
             answer.len(),
         )

@@ -3,6 +3,7 @@
 use crate::samples::{Bus, Setup, TURNS};
 use crate::timing::{figures, Call, Figure};
 use crate::ways::{Picture, Transfer, PICTURES, TRANSFERS};
+use humtrellis_tests::model::WHOLE;
 use humtrellis_tests::random::Random;
 use std::hint::black_box;
 
@@ -20,7 +21,7 @@ pub fn all<const WAYS: usize>(
 fn transfer_call<'a>(transfer: Transfer, mut bus: Bus, transfers: &'a [Vec<u8>]) -> Call<'a> {
     Box::new(move |turn| {
         let bytes = black_box(transfers[turn % TURNS].as_slice());
-        black_box(bus.send(transfer, bytes));
+        black_box(bus.send(transfer, bytes, WHOLE));
     })
 }
 

@@ -62,9 +62,9 @@ impl Bus {
         columns_of(self.part, self.chips[group])
     }
 
-    pub fn send(&mut self, transfer: Transfer, bytes: &[u8]) -> Numbers {
+    pub fn send(&mut self, transfer: Transfer, bytes: &[u8], bits: u8) -> Numbers {
         let (registers, ram) = (&mut self.registers, &mut self.ram);
-        transfer(self.part, self.chips, registers, ram, bytes)
+        transfer(self.part, self.chips, registers, ram, bytes, bits)
     }
 
     pub fn view(&self, group: u8, phase: u8) -> View<'_> {

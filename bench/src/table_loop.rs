@@ -20,7 +20,7 @@ use part::Part;
 /// Numbers of an answer.
 const ANSWER: usize = 6;
 /// Bytes of one register set.
-const SET: usize = 9;
+const SET: usize = 12;
 
 /// Places of the registers in a set, in the order of the C interface.
 const E: usize = 0;
@@ -32,6 +32,10 @@ const I: usize = 5;
 const O: usize = 6;
 const AB: usize = 7;
 const BF: usize = 8;
+/// The marks of pointer high, pointer low and device-select: 1 where it is unknown.
+const HIGH: usize = 9;
+const LOW: usize = 10;
+const DEVICE: usize = 11;
 
 /// A refusal's number and place.
 type Refusal = (usize, usize);

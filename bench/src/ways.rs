@@ -4,7 +4,7 @@ use crate::library::{self, Numbers, RegisterBytes};
 use crate::table_loop;
 use humtrellis_tests::model::{self, View};
 
-pub type Transfer = fn(u8, [u8; 2], &mut RegisterBytes, &mut [u8], &[u8]) -> Numbers;
+pub type Transfer = fn(u8, [u8; 2], &mut RegisterBytes, &mut [u8], &[u8], u8) -> Numbers;
 pub type Picture = fn(View, &mut [u8]) -> Numbers;
 
 /// (a), (b) and (c), in the order of the printed columns.
@@ -28,8 +28,9 @@ fn model_transfer(
     registers: &mut RegisterBytes,
     ram: &mut [u8],
     bytes: &[u8],
+    bits: u8,
 ) -> Numbers {
-    model::transfer(part, chips0, chips1, registers, ram, bytes).numbers()
+    model::transfer(part, chips0, chips1, registers, ram, bytes, bits).numbers()
 }
 
 fn model_picture(view: View, out: &mut [u8]) -> Numbers {

@@ -1,6 +1,8 @@
 //! The library from Rust: the minus bar of a price, written in 1:3 over the edge of two chips.
 
 const PCF8532: u8 = 0;
+/// The bits of a whole last byte.
+const WHOLE: u8 = 8;
 
 #[rustfmt::skip]
 extern "C" {
@@ -11,13 +13,13 @@ extern "C" {
 
     fn humtrellis_transfer(
         part: u8, chips0: u8, chips1: u8, registers: *mut u8, registers_length: usize,
-        ram: *mut u8, ram_length: usize, bytes: *const u8, bytes_length: usize,
+        ram: *mut u8, ram_length: usize, bytes: *const u8, bytes_length: usize, bits: u8,
         answer: *mut usize, answer_length: usize,
     ) -> u8;
 }
 
 fn main() {
-    let (mut registers, mut ram, mut answer) = ([0u8; 18], [0u8; 320], [0usize; 6]);
+    let (mut registers, mut ram, mut answer) = ([0u8; 24], [0u8; 320], [0usize; 6]);
     // 1:3 with E, device 0, pointer 159, and two data bytes.
     let bytes = [
         0x70, 0x80, 0xCB, 0x80, 0xE0, 0x80, 0x09, 0x80, 0x4F, 0x40, 0x04, 0xA6,
@@ -26,12 +28,12 @@ fn main() {
     let taken = unsafe {
         #[rustfmt::skip]
         let on = humtrellis_power_on(
-            PCF8532, 2, 0, ram.as_ptr(), ram.len(), registers.as_mut_ptr(), 18, answer.as_mut_ptr(), 6,
+            PCF8532, 2, 0, ram.as_ptr(), ram.len(), registers.as_mut_ptr(), 24, answer.as_mut_ptr(), 6,
         );
         #[rustfmt::skip]
         let sent = humtrellis_transfer(
-            PCF8532, 2, 0, registers.as_mut_ptr(), 18, ram.as_mut_ptr(), ram.len(),
-            bytes.as_ptr(), bytes.len(), answer.as_mut_ptr(), 6,
+            PCF8532, 2, 0, registers.as_mut_ptr(), 24, ram.as_mut_ptr(), ram.len(),
+            bytes.as_ptr(), bytes.len(), WHOLE, answer.as_mut_ptr(), 6,
         );
         (on, sent)
     };

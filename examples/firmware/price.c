@@ -36,7 +36,7 @@ int main(int argc, char **argv) {
 
     if (humtrellis_power_on(HUMTRELLIS_PCF8532, CHIPS, 0, ram, sizeof ram, registers, sizeof registers, answer, HUMTRELLIS_ANSWER) != 0) return 2;
     const size_t n = firmware(faulty, bytes);
-    const uint8_t refused = humtrellis_transfer(HUMTRELLIS_PCF8532, CHIPS, 0, registers, sizeof registers, ram, sizeof ram, bytes, n, answer, HUMTRELLIS_ANSWER);
+    const uint8_t refused = humtrellis_transfer(HUMTRELLIS_PCF8532, CHIPS, 0, registers, sizeof registers, ram, sizeof ram, bytes, n, HUMTRELLIS_WHOLE, answer, HUMTRELLIS_ANSWER);
     if (refused != 0) {
         printf("FAIL: the transfer is refused: %u at byte %zu\n", refused, answer[1]);
         return 1;

@@ -73,7 +73,10 @@ fn unheard() {
     for address in [0x71, 0x72, 0x73, 0x50] {
         assert_eq!(sent(&[address, 0x3F, 0xFC, 0x81]), (0, 0));
     }
-    let heard_by = |sa0| plain_transfer(PCF8532, &mut [Chip::new(sa0, 0)], &[0x72, 0x3F]).number;
+    let heard_by = |sa0| {
+        let chips = &mut [Chip::new(sa0, 0)];
+        plain_transfer(PCF8532, chips, &[0x72, 0x3F], WHOLE).number
+    };
     assert_eq!([0, 1].map(heard_by), [0, 17]);
     assert_eq!(Bus::new(0, 0).send(&[0x70, 0x3F])[0], 0);
 }

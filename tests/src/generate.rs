@@ -1,6 +1,6 @@
 //! Generators of parts, transfers and logs, well-formed and damaged.
 
-use crate::model::{LogBus, Part, LOG_LIMIT, LOG_PART, TRANSFER_LIMIT};
+use crate::model::{LogBus, Part, LOG_LIMIT, LOG_PART, TRANSFER_LIMIT, WHOLE};
 use crate::random::Random;
 
 /// The log that the paper works out.
@@ -229,6 +229,13 @@ pub fn control_places(bytes: &[u8]) -> Vec<usize> {
     places
 }
 
+/// True where a byte of a transfer is data.
+pub fn is_data(bytes: &[u8], place: usize) -> bool {
+    let controls = control_places(bytes);
+    let last = controls.iter().rfind(|control| **control <= place);
+    last.is_some_and(|control| *control < place && bytes[*control] & 0x40 != 0)
+}
+
 /// An address with bytes after it that follow no plan, but for clean control bytes.
 fn noise(random: &mut Random) -> Vec<u8> {
     let mut bytes = vec![address(random)];
@@ -276,6 +283,15 @@ pub fn transfer(random: &mut Random, part: Part) -> Vec<u8> {
         stray_transfer(random, part)
     } else {
         clean_transfer(random, part)
+    }
+}
+
+/// The bits of a transfer's last byte: mostly all, often 1 to 7, now and then none that it can have.
+pub fn bits(random: &mut Random) -> u8 {
+    match random.below(24) {
+        0 => random.pick(&[0, 9, 255]),
+        1..=8 => random.between(1, 7) as u8,
+        _ => WHOLE,
     }
 }
 

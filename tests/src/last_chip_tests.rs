@@ -22,7 +22,8 @@ fn each_chip() {
         }
     }
     let bytes = [0x72, 0x80, 0xE2, 0x40, 0xA5];
-    let group1 = transfer(PCF8532, 1, 3, &mut [0; REGISTERS], &mut [0; 640], &bytes);
+    let (registers, ram) = (&mut [0; REGISTERS], &mut [0; 640]);
+    let group1 = transfer(PCF8532, 1, 3, registers, ram, &bytes, WHOLE);
     assert_eq!(group1.chip, 2);
 }
 
@@ -112,7 +113,7 @@ fn unheard() {
     }
     assert_eq!(chip(0, &[0x70, 0x40, 0xA5]), 4);
     let mut other = [Chip::new(1, 0)];
-    let unheard = plain_transfer(PCF8532, &mut other, &[0x70, 0x40, 0xA5]);
+    let unheard = plain_transfer(PCF8532, &mut other, &[0x70, 0x40, 0xA5], WHOLE);
     assert_eq!(unheard.chip, 4);
 }
 
@@ -121,8 +122,9 @@ fn unheard() {
 fn refused_transfers() {
     let data = [0x70, 0xC0, 0xA5];
     let refused = |chips, registers: [u8; REGISTERS], column, bytes: &[u8]| {
-        let mut ram = vec![column; COLUMNS];
-        transfer(PCF8532, chips, 0, &mut registers.clone(), &mut ram, bytes).numbers()
+        let (mut registers, mut ram) = (registers, vec![column; COLUMNS]);
+        let answer = transfer(PCF8532, chips, 0, &mut registers, &mut ram, bytes, WHOLE);
+        answer.numbers()
     };
     let zeros = [0; REGISTERS];
     let long = [&[0x70, 0x40][..], &[0; 4095]].concat();
@@ -143,7 +145,7 @@ fn refused_transfers() {
 fn refused_plain_transfers() {
     let good = Chip::new(0, 0);
     let refused = |chips: &[Chip], bytes: &[u8]| {
-        let answer = plain_transfer(PCF8532, &mut chips.to_vec(), bytes);
+        let answer = plain_transfer(PCF8532, &mut chips.to_vec(), bytes, WHOLE);
         answer.numbers()
     };
     let long = [&[0x70, 0x40][..], &[0; 4095]].concat();
@@ -173,8 +175,9 @@ fn unequal(sa0: u8, subaddress: u8, m: u8, a: u8, p: u8) -> Chip {
 fn chip_of_list(list: &[Chip], count: usize) -> usize {
     let bytes = [vec![0x70, 0x40], vec![0xA5; count]].concat();
     let mut turned: Vec<Chip> = list.iter().rev().copied().collect();
-    let number = plain_transfer(PCF8532, &mut list.to_vec(), &bytes).chip;
-    assert_eq!(plain_transfer(PCF8532, &mut turned, &bytes).chip, number);
+    let named = |list: &mut [Chip]| plain_transfer(PCF8532, list, &bytes, WHOLE).chip;
+    let number = named(&mut list.to_vec());
+    assert_eq!(named(&mut turned), number);
     number
 }
 

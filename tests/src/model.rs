@@ -1,13 +1,15 @@
-//! The model, bit by bit as paper 01 tells it, amended by requests 3, 4, 5, 7, 10 and 11 of paper 02: the long account, the plain account, bus logs and their rescue.
+//! The model, bit by bit as paper 01 tells it, amended by requests 3, 4, 5, 7, 8, 10 and 11 of paper 02: the long account, the plain account, bus logs and their rescue.
 
 /// Numbers of an answer.
 pub const ANSWER: usize = 6;
 /// Places for columns in a plain chip of either part.
 pub const COLUMNS: usize = 160;
 /// Bytes of one register set.
-pub const SET: usize = 9;
+pub const SET: usize = 12;
 /// Bytes of both groups' registers.
 pub const REGISTERS: usize = 2 * SET;
+/// Bits of a transfer's last byte that is whole.
+pub const WHOLE: u8 = 8;
 /// Most bytes of a transfer.
 pub const TRANSFER_LIMIT: usize = 4096;
 /// Most bytes of a log.
@@ -117,7 +119,8 @@ impl Part {
     /// The greatest value of each register, in the order of a set's bytes.
     pub fn greatest(self) -> [u8; SET] {
         let last_column = self.columns() as u8 - 1;
-        [1, 1, 3, last_column, self.subaddresses(), 1, 1, 1, 3]
+        let rest = self.subaddresses();
+        [1, 1, 3, last_column, rest, 1, 1, 1, 3, 1, 1, 1]
     }
 
     /// The command that a byte is: the table of paper 01, and that of data sheet 002 (tables 11 to 16).
@@ -184,6 +187,11 @@ fn transfer_answer(part: u8, outcome: Result<Counted, Refusal>) -> Answer {
 
 // ---- Registers -------------------------------------------------------------
 
+/// Places of the marks.
+const HIGH: usize = 0;
+const LOW: usize = 1;
+const DEVICE: usize = 2;
+
 /// Registers of a group, or of a plain chip.
 #[derive(Clone, Copy, Debug, Default, PartialEq, Eq)]
 pub struct Registers {
@@ -196,16 +204,19 @@ pub struct Registers {
     pub o: u8,
     pub ab: u8,
     pub bf: u8,
+    /// The marks of pointer high, pointer low and device-select: 1 from a cut data byte until the command has come.
+    pub unknown: [u8; 3],
 }
 
 impl Registers {
-    /// Power-on: M = 00, all else 0.
+    /// Power-on: M = 00, all else 0, so that pointer and counter are known.
     pub fn power_on() -> Self {
         Registers::default()
     }
 
     pub fn from_bytes(bytes: &[u8]) -> Self {
-        let [e, b, m, p, a, i, o, ab, bf] = *<&[u8; SET]>::try_from(bytes).expect("nine bytes");
+        let [e, b, m, p, a, i, o, ab, bf, unknown @ ..] =
+            *<&[u8; SET]>::try_from(bytes).expect("a set's bytes");
         Registers {
             e,
             b,
@@ -216,12 +227,15 @@ impl Registers {
             o,
             ab,
             bf,
+            unknown,
         }
     }
 
     pub fn to_bytes(self) -> [u8; SET] {
+        let [high, low, device] = self.unknown;
         [
-            self.e, self.b, self.m, self.p, self.a, self.i, self.o, self.ab, self.bf,
+            self.e, self.b, self.m, self.p, self.a, self.i, self.o, self.ab, self.bf, high, low,
+            device,
         ]
     }
 
@@ -287,15 +301,36 @@ impl Registers {
             return;
         };
         match command {
-            Command::PointerHigh(high) => self.p = 16 * high + self.p % 16,
-            Command::PointerLow(low) => self.p = self.p - self.p % 16 + low,
-            Command::Pointer(p) => self.p = p,
+            Command::PointerHigh(high) => {
+                self.p = 16 * high + self.p % 16;
+                self.unknown[HIGH] = 0;
+            }
+            Command::PointerLow(low) => {
+                self.p = self.p - self.p % 16 + low;
+                self.unknown[LOW] = 0;
+            }
+            Command::Pointer(p) => {
+                self.p = p;
+                (self.unknown[HIGH], self.unknown[LOW]) = (0, 0);
+            }
             Command::ModeSet(e, b, m) => (self.e, self.b, self.m) = (e, b, m),
-            Command::DeviceSelect(a) => self.a = a,
+            Command::DeviceSelect(a) => {
+                self.a = a;
+                self.unknown[DEVICE] = 0;
+            }
             Command::FrequencyControl => {}
             Command::BlinkSelect(ab, bf) => (self.ab, self.bf) = (ab, bf),
             Command::BankSelect(i, o) => (self.i, self.o) = (i, o),
         }
+    }
+
+    /// A data byte is cut: P and A keep their numbers, and nobody knows them.
+    fn lose_position(&mut self) {
+        self.unknown = [1; 3];
+    }
+
+    fn position_known(self) -> bool {
+        self.unknown == [0; 3]
     }
 
     /// First row shown at a phase, or nothing if all is dark.
@@ -351,25 +386,8 @@ enum Role {
     Control(u8),
     Command(u8),
     Data(u8),
-}
-
-/// The role of each byte after the address.
-fn roles(bytes: &[u8]) -> Vec<Role> {
-    let mut roles = Vec::new();
-    let mut at = 1;
-    while at < bytes.len() {
-        let control = bytes[at];
-        roles.push(Role::Control(control));
-        let rest = &bytes[at + 1..];
-        let length = if control & 0x80 == 0 {
-            rest.len()
-        } else {
-            rest.len().min(1)
-        };
-        roles.extend(rest[..length].iter().map(|byte| role(control, *byte)));
-        at += 1 + length;
-    }
-    roles
+    /// A data byte that ends before its eighth bit.
+    CutData,
 }
 
 fn role(control: u8, byte: u8) -> Role {
@@ -380,35 +398,81 @@ fn role(control: u8, byte: u8) -> Role {
     }
 }
 
-/// A byte of a heard transfer at its place: an undefined command is refused, and a control byte with one of bits 5 to 0 set.
-fn check_role(part: Part, role: Role, place: usize) -> Check {
+/// A transfer as it is sent: its bytes, and the bits of the last one.
+#[derive(Clone, Copy, Debug)]
+struct Sent<'a> {
+    bytes: &'a [u8],
+    bits: u8,
+}
+
+impl Sent<'_> {
+    fn check_size(self) -> Check {
+        refuse_if(self.bytes.is_empty(), 1)?;
+        refuse_if(self.bytes.len() > TRANSFER_LIMIT, 2)?;
+        refuse_if(!(1..=WHOLE).contains(&self.bits), 19)
+    }
+
+    fn cut(self) -> bool {
+        self.bits < WHOLE
+    }
+
+    /// The group that the address calls, if it is whole.
+    fn addressed(self) -> Option<usize> {
+        let cut_in_address = self.cut() && self.bytes.len() == 1;
+        match self.bytes.first()? {
+            112 if !cut_in_address => Some(0),
+            114 if !cut_in_address => Some(1),
+            _ => None,
+        }
+    }
+
+    /// The role of each byte after the address; a cut one has none, unless it is data.
+    fn roles(self) -> Vec<Role> {
+        let mut roles = Vec::new();
+        let mut at = 1;
+        while at < self.bytes.len() {
+            let control = self.bytes[at];
+            roles.push(Role::Control(control));
+            let rest = &self.bytes[at + 1..];
+            let length = if control & 0x80 == 0 {
+                rest.len()
+            } else {
+                rest.len().min(1)
+            };
+            roles.extend(rest[..length].iter().map(|byte| role(control, *byte)));
+            at += 1 + length;
+        }
+        if self.cut() {
+            if let Some(Role::Data(_)) = roles.pop() {
+                roles.push(Role::CutData);
+            }
+        }
+        roles
+    }
+}
+
+/// A byte of a heard transfer at its place: an undefined command is refused, a control byte with one of bits 5 to 0 set, and data where a listener does not know its position.
+fn check_role(part: Part, listeners: &[Registers], role: Role, place: usize) -> Check {
+    let lost = || !listeners.iter().all(|state| state.position_known());
     match role {
         Role::Command(byte) if !part.defines(byte) => Err((7, place)),
         Role::Control(byte) if byte & 0x3F != 0 => Err((17, place)),
+        Role::Data(_) | Role::CutData if lost() => Err((18, place)),
         _ => Ok(()),
     }
 }
 
-/// The walk through a heard transfer, in which the first wrong byte counts.
-fn check_roles(part: Part, bytes: &[u8]) -> Check {
-    for (role, place) in roles(bytes).into_iter().zip(1..) {
-        check_role(part, role, place)?;
+/// The first byte of a heard transfer that is refused; commands on the way restore marks.
+fn check_roles(part: Part, mut listeners: Vec<Registers>, sent: Sent) -> Check {
+    for (place, role) in (1..).zip(sent.roles()) {
+        check_role(part, &listeners, role, place)?;
+        if let Role::Command(byte) = role {
+            listeners
+                .iter_mut()
+                .for_each(|state| state.obey(part, byte));
+        }
     }
     Ok(())
-}
-
-/// The group that an address byte calls.
-fn addressed(address: u8) -> Option<usize> {
-    match address {
-        112 => Some(0),
-        114 => Some(1),
-        _ => None,
-    }
-}
-
-fn check_length(bytes: &[u8]) -> Check {
-    refuse_if(bytes.is_empty(), 1)?;
-    refuse_if(bytes.len() > TRANSFER_LIMIT, 2)
 }
 
 // ---- The long account ------------------------------------------------------
@@ -471,8 +535,8 @@ impl Bench {
     }
 
     /// The group that hears a transfer, if one does.
-    fn hearing_group(self, bytes: &[u8]) -> Option<usize> {
-        let group = addressed(*bytes.first()?)?;
+    fn hearing_group(self, sent: Sent) -> Option<usize> {
+        let group = sent.addressed()?;
         if self.chips[group] > 0 {
             Some(group)
         } else {
@@ -505,9 +569,10 @@ pub fn transfer(
     registers: &mut [u8; REGISTERS],
     ram: &mut [u8],
     bytes: &[u8],
+    bits: u8,
 ) -> Answer {
-    let bench = Bench::new(part, chips0, chips1);
-    let counted = bench.and_then(|bench| long_counted(bench, registers, ram, bytes));
+    let (bench, sent) = (Bench::new(part, chips0, chips1), Sent { bytes, bits });
+    let counted = bench.and_then(|bench| long_counted(bench, registers, ram, sent));
     transfer_answer(part, counted)
 }
 
@@ -515,27 +580,27 @@ fn long_counted(
     bench: Bench,
     registers: &mut [u8; REGISTERS],
     ram: &mut [u8],
-    bytes: &[u8],
+    sent: Sent,
 ) -> Result<Counted, Refusal> {
     bench.check(registers, ram)?;
-    check_length(bytes)?;
-    let Some(group) = bench.hearing_group(bytes) else {
+    sent.check_size()?;
+    let Some(group) = bench.hearing_group(sent) else {
         return Ok(([0; 3], None));
     };
-    check_roles(bench.part, bytes)?;
     let columns = &mut ram[bench.range(group)];
     let set = &mut registers[SET * group..SET * group + SET];
     let mut state = Registers::from_bytes(set);
-    let counted = carry_out(bench.part, &mut state, columns, bytes);
+    check_roles(bench.part, vec![state], sent)?;
+    let counted = carry_out(bench.part, &mut state, columns, sent);
     set.copy_from_slice(&state.to_bytes());
     Ok(counted)
 }
 
 /// Carries out a heard transfer on a group: bytes acknowledged, bits stored, bits discarded, and the last data byte's chip.
-fn carry_out(part: Part, state: &mut Registers, columns: &mut [u8], bytes: &[u8]) -> Counted {
+fn carry_out(part: Part, state: &mut Registers, columns: &mut [u8], sent: Sent) -> Counted {
     let mut counts = [1, 0, 0];
     let mut last = None;
-    for role in roles(bytes) {
+    for role in sent.roles() {
         match role {
             Role::Control(_) => counts[0] += 1,
             Role::Command(byte) => {
@@ -543,6 +608,7 @@ fn carry_out(part: Part, state: &mut Registers, columns: &mut [u8], bytes: &[u8]
                 state.obey(part, byte);
             }
             Role::Data(byte) => last = store(part, state, columns, byte, &mut counts),
+            Role::CutData => state.lose_position(),
         }
     }
     (counts, last)
@@ -642,8 +708,8 @@ impl Chip {
         self.body_in_range(part) && self.registers.in_range(part)
     }
 
-    fn hears(&self, bytes: &[u8]) -> bool {
-        bytes.first().and_then(|byte| addressed(*byte)) == Some(self.sa0 as usize)
+    fn hears(&self, sent: Sent) -> bool {
+        sent.addressed() == Some(self.sa0 as usize)
     }
 
     fn selected(&self) -> bool {
@@ -659,6 +725,10 @@ impl Chip {
                 true
             }
             Role::Data(byte) => self.take_data(part, byte),
+            Role::CutData => {
+                self.registers.lose_position();
+                false
+            }
         }
     }
 
@@ -686,14 +756,16 @@ impl Chip {
     }
 }
 
-fn check_plain(part: Part, chips: &[Chip], bytes: &[u8]) -> Check {
+fn check_plain(part: Part, chips: &[Chip], sent: Sent) -> Check {
     refuse_if(chips.len() > part.most_chips(), 10)?;
     refuse_at(chips.iter().position(|chip| !chip.in_range(part)), 11)?;
-    check_length(bytes)?;
-    if chips.iter().any(|chip| chip.hears(bytes)) {
-        check_roles(part, bytes)?;
+    sent.check_size()?;
+    let hearing = chips.iter().filter(|chip| chip.hears(sent));
+    let listeners: Vec<Registers> = hearing.map(|chip| chip.registers).collect();
+    if listeners.is_empty() {
+        return Ok(());
     }
-    Ok(())
+    check_roles(part, listeners, sent)
 }
 
 /// All hearing chips take a byte: the smallest subaddress that acknowledges it, if one does.
@@ -708,20 +780,21 @@ fn take_by_all(part: Part, hearing: &mut [&mut Chip], role: Role) -> Option<u8> 
 }
 
 /// A transfer over plain chips; the first count is the bytes acknowledged.
-pub fn plain_transfer(part: u8, chips: &mut [Chip], bytes: &[u8]) -> Answer {
-    let counted = known(part).and_then(|part| plain_counted(part, chips, bytes));
+pub fn plain_transfer(part: u8, chips: &mut [Chip], bytes: &[u8], bits: u8) -> Answer {
+    let sent = Sent { bytes, bits };
+    let counted = known(part).and_then(|part| plain_counted(part, chips, sent));
     transfer_answer(part, counted)
 }
 
-fn plain_counted(part: Part, chips: &mut [Chip], bytes: &[u8]) -> Result<Counted, Refusal> {
-    check_plain(part, chips, bytes)?;
-    let mut hearing: Vec<&mut Chip> = chips.iter_mut().filter(|c| c.hears(bytes)).collect();
+fn plain_counted(part: Part, chips: &mut [Chip], sent: Sent) -> Result<Counted, Refusal> {
+    check_plain(part, chips, sent)?;
+    let mut hearing: Vec<&mut Chip> = chips.iter_mut().filter(|c| c.hears(sent)).collect();
     if hearing.is_empty() {
         return Ok(([0; 3], None));
     }
     let mut acknowledged = 1;
     let mut last = None;
-    for role in roles(bytes) {
+    for role in sent.roles() {
         let chip = take_by_all(part, &mut hearing, role);
         acknowledged += chip.is_some() as usize;
         if let Role::Data(_) = role {
@@ -841,10 +914,11 @@ impl LogBus {
         }
     }
 
+    /// Sends a record's bytes, which are whole.
     pub fn send(&mut self, bytes: &[u8]) -> Answer {
-        let (chips0, chips1) = (self.chips0, self.chips1);
+        let (part, chips0, chips1) = (LOG_PART.number(), self.chips0, self.chips1);
         let (registers, ram) = (&mut self.registers, &mut self.ram);
-        transfer(LOG_PART.number(), chips0, chips1, registers, ram, bytes)
+        transfer(part, chips0, chips1, registers, ram, bytes, WHOLE)
     }
 
     fn view(&self, group: u8) -> View<'_> {

@@ -2,6 +2,8 @@
 
 #[path = "control_tests.rs"]
 mod control;
+#[path = "cut_tests.rs"]
+mod cut;
 #[path = "last_chip_tests.rs"]
 mod last_chip;
 #[path = "part_tests.rs"]
@@ -43,12 +45,17 @@ impl Bus {
 
     /// The long account's answer; the same chips one by one give the same, and hold the same afterwards.
     fn answer(&mut self, bytes: &[u8]) -> Answer {
+        self.answer_to(bytes, WHOLE)
+    }
+
+    /// The same where the last byte has so many bits.
+    fn answer_to(&mut self, bytes: &[u8], bits: u8) -> Answer {
         let mut chips = self.plain_chips();
         let (part, registers, ram) = (self.part, &mut self.registers, &mut self.ram);
-        let long = transfer(part, self.chips, 0, registers, ram, bytes);
-        let plain = plain_transfer(part, &mut chips, bytes);
-        assert_eq!(common(long), common(plain), "{bytes:02X?}");
-        assert_eq!(chips, self.plain_chips(), "{bytes:02X?}");
+        let long = transfer(part, self.chips, 0, registers, ram, bytes, bits);
+        let plain = plain_transfer(part, &mut chips, bytes, bits);
+        assert_eq!(common(long), common(plain), "{bytes:02X?} {bits}");
+        assert_eq!(chips, self.plain_chips(), "{bytes:02X?} {bits}");
         long
     }
 
@@ -327,24 +334,24 @@ fn order_of_transfer_refusals() {
     let mut wrong = [0; REGISTERS];
     wrong[REGISTERS - 1] = 4;
     let number = |chips: u8, mut registers: [u8; REGISTERS], mut ram: Vec<u8>, bytes: &[u8]| {
-        let answer = transfer(PCF8532, chips, 0, &mut registers, &mut ram, bytes);
+        let answer = transfer(PCF8532, chips, 0, &mut registers, &mut ram, bytes, WHOLE);
         (answer.number, answer.place)
     };
     assert_eq!(number(5, wrong, vec![16; 3], &[]), (3, 0));
     assert_eq!(number(1, wrong, vec![16; 3], &[]), (6, 0));
-    assert_eq!(number(1, [0; 18], vec![16; 161], &[]), (4, 0));
+    assert_eq!(number(1, [0; REGISTERS], vec![16; 161], &[]), (4, 0));
     let mut ram = vec![0; COLUMNS];
     ram[17] = 16;
     ram[18] = 255;
-    assert_eq!(number(1, [0; 18], ram, &[]), (5, 17));
-    assert_eq!(number(1, [0; 18], vec![0; COLUMNS], &[]), (1, 0));
-    assert_eq!(number(1, [0; 18], vec![0; COLUMNS], &long), (2, 0));
+    assert_eq!(number(1, [0; REGISTERS], ram, &[]), (5, 17));
+    assert_eq!(number(1, [0; REGISTERS], vec![0; COLUMNS], &[]), (1, 0));
+    assert_eq!(number(1, [0; REGISTERS], vec![0; COLUMNS], &long), (2, 0));
 }
 
 #[test]
 fn order_of_plain_refusals() {
     let sent = |chips: &[Chip], bytes: &[u8]| {
-        let answer = plain_transfer(PCF8532, &mut chips.to_vec(), bytes);
+        let answer = plain_transfer(PCF8532, &mut chips.to_vec(), bytes, WHOLE);
         answer.numbers()
     };
     let mut bad = Chip::new(0, 3);
@@ -382,7 +389,7 @@ fn one_plain_chip() {
 #[test]
 fn plain_acknowledgement_counts_once() {
     let mut chips = [Chip::new(0, 0), Chip::new(0, 0), Chip::new(0, 2)];
-    let answer = plain_transfer(PCF8532, &mut chips, &[0x70, 0x40, 0xFF, 0xFF]);
+    let answer = plain_transfer(PCF8532, &mut chips, &[0x70, 0x40, 0xFF, 0xFF], WHOLE);
     assert_eq!(answer.numbers(), [0, 0, 4, 0, 0, 0]);
     assert_eq!(chips[1].columns[..5], [15, 15, 15, 15, 0]);
     assert_eq!(chips[2].columns, [0; COLUMNS]);
@@ -430,9 +437,10 @@ fn both_accounts_agree() {
         let mut chips = plain_chips(part, counts, &registers, &ram);
         for _ in 0..20 {
             let bytes = generate::transfer(&mut random, generate::shape(part));
+            let bits = generate::bits(&mut random);
             let [chips0, chips1] = counts;
-            let long = transfer(part, chips0, chips1, &mut registers, &mut ram, &bytes);
-            let plain = plain_transfer(part, &mut chips, &bytes);
+            let long = transfer(part, chips0, chips1, &mut registers, &mut ram, &bytes, bits);
+            let plain = plain_transfer(part, &mut chips, &bytes, bits);
             assert_eq!(common(long), common(plain));
             assert_eq!(chips, plain_chips(part, counts, &registers, &ram));
         }

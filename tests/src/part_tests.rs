@@ -201,11 +201,11 @@ fn run_over_eight_chips() {
 fn second_group() {
     let (mut registers, mut ram) = ([0; REGISTERS], [0; 880]);
     let bytes = [0x72, 0x80, 0xE7, 0x40, 0xA5];
-    let answer = transfer(PCA85133, 3, 8, &mut registers, &mut ram, &bytes);
+    let answer = transfer(PCA85133, 3, 8, &mut registers, &mut ram, &bytes, WHOLE);
     assert_eq!(answer.numbers(), [0, 0, 5, 8, 0, 7]);
     assert_eq!((ram[799], ram[800], ram[801], ram[802]), (0, 5, 10, 0));
     assert_eq!(registers[..SET], [0; SET]);
-    assert_eq!(registers[SET..], [0, 0, 0, 2, 7, 0, 0, 0, 0]);
+    assert_eq!(registers[SET..], [0, 0, 0, 2, 7, 0, 0, 0, 0, 0, 0, 0]);
 }
 
 // ---- Commands --------------------------------------------------------------
@@ -232,7 +232,7 @@ fn every_command() {
     expect_taken(PCF8532, &large, 66);
 }
 
-/// Commands after power-on, and the registers that they leave: E B M P A I O AB BF.
+/// Commands after power-on, and the registers that they leave: E B M P A I O AB BF, and no mark.
 #[test]
 fn what_commands_set() {
     let commands = [
@@ -256,7 +256,8 @@ fn what_commands_set() {
     for (command, set) in commands {
         let mut bus = Bus::of(PCA85133, 2, 0);
         assert_eq!(bus.send(&[0x70, 0x00, command]), [0, 0, 3, 0, 0, 8]);
-        assert_eq!(bus.registers[..SET], set, "{command:02X}");
+        assert_eq!(bus.registers[..9], set, "{command:02X}");
+        assert_eq!(bus.registers[9..], [0; REGISTERS - 9]);
     }
 }
 
@@ -287,6 +288,7 @@ struct Given {
     registers: [u8; REGISTERS],
     ram: Vec<u8>,
     bytes: Vec<u8>,
+    bits: u8,
     shown: [u8; 2],
     room: usize,
 }
@@ -300,6 +302,7 @@ impl Given {
             registers: [0; REGISTERS],
             ram: vec![0; length(chips[0]) + length(chips[1])],
             bytes: vec![0x70],
+            bits: WHOLE,
             shown: [0, 0],
             room: length(chips[0]),
         }
@@ -311,6 +314,7 @@ impl Given {
         given.registers.fill(255);
         given.ram = vec![16; 7];
         given.bytes.clear();
+        given.bits = 0;
         given.shown = [2, 2];
         given
     }
@@ -327,7 +331,8 @@ impl Given {
     fn transfer(&self, part: u8) -> [usize; ANSWER] {
         let (mut registers, mut ram) = (self.registers, self.ram.clone());
         let [chips0, chips1] = self.chips;
-        let answer = transfer(part, chips0, chips1, &mut registers, &mut ram, &self.bytes);
+        let (bytes, bits) = (&self.bytes, self.bits);
+        let answer = transfer(part, chips0, chips1, &mut registers, &mut ram, bytes, bits);
         if answer.number != 0 {
             assert_eq!((registers, &ram), (self.registers, &self.ram));
         }
@@ -401,10 +406,14 @@ fn expect_order(part: u8, columns: usize, none: usize) {
     (given.bytes, given.shown) = (vec![0x70; 4097], [0, 0]);
     given.expect(part, [0, 2, 9]);
     (given.bytes, given.room) = (vec![0x70, 0x00, 0xFC], 2 * columns);
+    given.expect(part, [0, 19, 0]);
+    given.bits = 8;
     given.expect(part, [0, 7, 0]);
     assert_eq!(given.transfer(part), [7, 2, 0, 0, 0, none]);
     given.bytes = vec![0x70, 0x3F];
     assert_eq!(given.transfer(part), [17, 1, 0, 0, 0, none]);
+    (given.bytes, given.registers[11]) = (vec![0x70, 0x40, 0x3F], 1);
+    assert_eq!(given.transfer(part), [18, 2, 0, 0, 0, none]);
 }
 
 #[test]
@@ -441,12 +450,12 @@ fn ram_lengths() {
     }
 }
 
-/// The greatest value of each register, E B M P A I O AB BF, and one more, in either group.
+/// The greatest value of each register, E B M P A I O AB BF, and of the three marks, and one more, in either group.
 #[test]
 fn registers_in_range() {
     let parts = [
-        (PCF8532, 160, [1, 1, 3, 159, 4, 1, 1, 1, 3]),
-        (PCA85133, 80, [1, 1, 3, 79, 8, 1, 1, 1, 3]),
+        (PCF8532, 160, [1, 1, 3, 159, 4, 1, 1, 1, 3, 1, 1, 1]),
+        (PCA85133, 80, [1, 1, 3, 79, 8, 1, 1, 1, 3, 1, 1, 1]),
     ];
     for (part, columns, greatest) in parts {
         for place in 0..REGISTERS {
@@ -484,7 +493,7 @@ fn picture_lengths() {
 /// A transfer to copies of some chips; refused, it leaves them.
 fn sent(part: u8, chips: &[Chip], bytes: &[u8]) -> [usize; ANSWER] {
     let mut after = chips.to_vec();
-    let answer = plain_transfer(part, &mut after, bytes).numbers();
+    let answer = plain_transfer(part, &mut after, bytes, WHOLE).numbers();
     if answer[0] != 0 {
         assert_eq!(after, chips);
     }
@@ -615,7 +624,10 @@ fn places_behind_the_columns() {
         let data = vec![0xFF; 160 / columns.len() + 9];
         let mut chips = [first, second];
         let bytes = generate::commands_then_data(0x70, &[0xC8 | mode], &data);
-        assert_eq!(plain_transfer(PCA85133, &mut chips, &bytes).number, 0);
+        assert_eq!(
+            plain_transfer(PCA85133, &mut chips, &bytes, WHOLE).number,
+            0
+        );
         for chip in chips {
             let mut out = [9; 80];
             let shown = plain_picture(PCA85133, &chip, 0, &mut out);

@@ -6,7 +6,9 @@ use super::{Refusal, SET};
 /// The highest value of each register, for both groups.
 const fn limits<Chosen: Part>() -> [u8; 2 * SET] {
     let (p, a) = (Chosen::COLUMNS as u8 - 1, Chosen::MOST as u8);
-    [1, 1, 3, p, a, 1, 1, 1, 3, 1, 1, 3, p, a, 1, 1, 1, 3]
+    [
+        1, 1, 3, p, a, 1, 1, 1, 3, 1, 1, 1, 1, 1, 3, p, a, 1, 1, 1, 3, 1, 1, 1,
+    ]
 }
 
 pub fn check_state<Chosen: Part>(

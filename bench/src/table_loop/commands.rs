@@ -1,6 +1,7 @@
 //! The commands: which bytes are any, and what they do to a group's registers.
 
-use super::{Refusal, AB, B, BF, E, I, M, O, SET};
+use super::part::Part;
+use super::{Refusal, AB, B, BF, DEVICE, E, HIGH, I, M, O, SET};
 
 /// Says of each byte whether it is a command.
 pub type Defined = [bool; 256];
@@ -20,15 +21,36 @@ pub const fn defined(ranges: &[[usize; 2]]) -> Defined {
     table
 }
 
-/// The first undefined command or control byte with stray bits; a data run ends the search.
-pub fn check_bytes(bytes: &[u8], defined: &Defined) -> Result<(), Refusal> {
+/// True where a data byte would go to a place that nobody knows.
+fn lost(set: &[u8; SET]) -> bool {
+    set[HIGH..=DEVICE] != [0; 3]
+}
+
+/// The first undefined command, control byte with stray bits, or data byte while a mark is left; a data run ends the search.
+/// Of the bytes so many are whole: a cut one is looked at as data only.
+pub fn check_bytes<Chosen: Part>(
+    set: &[u8; SET],
+    bytes: &[u8],
+    whole: usize,
+) -> Result<(), Refusal> {
+    // Follows the marks; there is nothing to follow once all are known.
+    let mut ahead = *set;
     let mut at = 1;
-    while at < bytes.len() {
-        let rest = &bytes[at + 1..];
+    while at < whole {
+        let next = at + 1;
         match bytes[at] {
-            0x00 => return check_commands(rest, defined, at + 1),
+            0x00 => return check_commands(&bytes[next..whole], Chosen::DEFINED, next),
+            0x40 | 0xC0 if lost(&ahead) && next < bytes.len() => return Err((18, next)),
             0x40 => return Ok(()),
-            0x80 => check_commands(&rest[..rest.len().min(1)], defined, at + 1)?,
+            0x80 => {
+                let command = &bytes[next..whole.min(next + 1)];
+                check_commands(command, Chosen::DEFINED, next)?;
+                if lost(&ahead) {
+                    command
+                        .iter()
+                        .for_each(|byte| Chosen::obey(&mut ahead, *byte));
+                }
+            }
             0xC0 => {}
             _ => return Err((17, at)),
         }

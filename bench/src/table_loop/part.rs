@@ -1,7 +1,7 @@
 //! What each part has of its own. A path is compiled for one part, so that what it divides by is a literal.
 
 use super::commands::{defined, obey_common, Defined};
-use super::{A, P, SET};
+use super::{A, DEVICE, HIGH, LOW, P, SET};
 
 pub trait Part {
     /// Columns of one chip.
@@ -32,9 +32,18 @@ impl Part for Pcf8532 {
 
     fn obey(set: &mut [u8; SET], byte: u8) {
         match byte {
-            0x00..=0x09 => set[P] = byte << 4 | set[P] & 15,
-            0x40..=0x4F => set[P] = set[P] & 0xF0 | byte & 15,
-            0xE0..=0xE3 => set[A] = byte & 3,
+            0x00..=0x09 => {
+                set[P] = byte << 4 | set[P] & 15;
+                set[HIGH] = 0;
+            }
+            0x40..=0x4F => {
+                set[P] = set[P] & 0xF0 | byte & 15;
+                set[LOW] = 0;
+            }
+            0xE0..=0xE3 => {
+                set[A] = byte & 3;
+                set[DEVICE] = 0;
+            }
             _ => obey_common(set, byte),
         }
     }
@@ -48,8 +57,14 @@ impl Part for Pca85133 {
 
     fn obey(set: &mut [u8; SET], byte: u8) {
         match byte {
-            0x00..=0x4F => set[P] = byte,
-            0xE0..=0xE7 => set[A] = byte & 7,
+            0x00..=0x4F => {
+                set[P] = byte;
+                set[HIGH..=LOW].fill(0);
+            }
+            0xE0..=0xE7 => {
+                set[A] = byte & 7;
+                set[DEVICE] = 0;
+            }
             _ => obey_common(set, byte),
         }
     }

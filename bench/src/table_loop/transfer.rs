@@ -1,7 +1,8 @@
 //! A transfer: the checks, then its bytes.
 
 use super::part::{Part, Pca85133, Pcf8532};
-use super::{checks, commands, group_range, refused, run, Refusal, ANSWER, SET, UNKNOWN_PART};
+use super::{checks, commands, group_range, refused, run};
+use super::{Refusal, ANSWER, DEVICE, HIGH, SET, UNKNOWN_PART};
 
 #[inline(never)]
 pub fn transfer(
@@ -10,10 +11,11 @@ pub fn transfer(
     registers: &mut [u8; 2 * SET],
     ram: &mut [u8],
     bytes: &[u8],
+    bits: u8,
 ) -> [usize; ANSWER] {
     match part {
-        0 => transfer_to::<Pcf8532>(chips, registers, ram, bytes),
-        1 => transfer_to::<Pca85133>(chips, registers, ram, bytes),
+        0 => transfer_to::<Pcf8532>(chips, registers, ram, bytes, bits),
+        1 => transfer_to::<Pca85133>(chips, registers, ram, bytes, bits),
         // Paper 02, request 5: the number for none is then the PCF8532's.
         _ => refused(UNKNOWN_PART, Pcf8532::MOST),
     }
@@ -24,16 +26,23 @@ fn transfer_to<Chosen: Part>(
     registers: &mut [u8; 2 * SET],
     ram: &mut [u8],
     bytes: &[u8],
+    bits: u8,
 ) -> [usize; ANSWER] {
-    let group = match hearing_group::<Chosen>(chips, registers, ram, bytes) {
+    let group = match hearing_group::<Chosen>(chips, registers, ram, bytes, bits) {
         Err(refusal) => return refused(refusal, Chosen::MOST),
         Ok(None) => return [0, 0, 0, 0, 0, Chosen::MOST],
         Ok(Some(group)) => group,
     };
     let columns = &mut ram[group_range::<Chosen>(chips, group)];
     let set = &mut registers.as_chunks_mut::<SET>().0[group];
-    let ([acknowledged, stored, discarded], last) = carry_out::<Chosen>(set, columns, bytes);
+    let counted = carry_out::<Chosen>(set, columns, bytes, whole_bytes(bytes, bits));
+    let ([acknowledged, stored, discarded], last) = counted;
     [0, 0, acknowledged, stored, discarded, last]
+}
+
+/// All bytes, but for a last one that is cut.
+fn whole_bytes(bytes: &[u8], bits: u8) -> usize {
+    bytes.len() - (bits < 8) as usize
 }
 
 /// The group that hears a transfer, if one does, after all checks.
@@ -42,6 +51,7 @@ fn hearing_group<Chosen: Part>(
     registers: &[u8; 2 * SET],
     ram: &[u8],
     bytes: &[u8],
+    bits: u8,
 ) -> Result<Option<usize>, Refusal> {
     checks::check_state::<Chosen>(chips, registers, ram)?;
     let Some(address) = bytes.first() else {
@@ -50,24 +60,32 @@ fn hearing_group<Chosen: Part>(
     if bytes.len() > 4096 {
         return Err((2, 0));
     }
+    if !matches!(bits, 1..=8) {
+        return Err((19, 0));
+    }
+    let whole = whole_bytes(bytes, bits);
     let group = match address {
-        112 if chips[0] > 0 => 0,
-        114 if chips[1] > 0 => 1,
+        112 if chips[0] > 0 && whole > 0 => 0,
+        114 if chips[1] > 0 && whole > 0 => 1,
         _ => return Ok(None),
     };
-    commands::check_bytes(bytes, Chosen::DEFINED)?;
+    let set = &registers.as_chunks::<SET>().0[group];
+    commands::check_bytes::<Chosen>(set, bytes, whole)?;
     Ok(Some(group))
 }
 
-/// Goes from control byte to control byte; every byte but a data byte is acknowledged. The counts, and the chip of the last data byte.
+/// Goes from control byte to control byte; every whole byte but a data byte is acknowledged. The counts, and the chip of the last data byte.
 fn carry_out<Chosen: Part>(
     set: &mut [u8; SET],
     columns: &mut [u8],
     bytes: &[u8],
+    whole: usize,
 ) -> ([usize; 3], usize) {
     let mut counts = [1, 0, 0];
     let mut last = Chosen::MOST;
-    let mut rest = &bytes[1..];
+    let mut rest = &bytes[1..whole];
+    // Data would come next, which only the end of the whole bytes leaves so.
+    let mut open = false;
     while let Some((control, after)) = rest.split_first() {
         counts[0] += 1;
         let length = match control & 0x80 {
@@ -78,10 +96,16 @@ fn carry_out<Chosen: Part>(
         if control & 0x40 == 0 {
             counts[0] += length;
             some.iter().for_each(|byte| Chosen::obey(set, *byte));
-        } else if !some.is_empty() {
-            last = run::store::<Chosen>(set, columns, some, &mut counts);
+        } else {
+            if !some.is_empty() {
+                last = run::store::<Chosen>(set, columns, some, &mut counts);
+            }
+            open = control & 0x80 == 0 || some.is_empty();
         }
         rest = next;
+    }
+    if open && whole < bytes.len() {
+        set[HIGH..=DEVICE].fill(1);
     }
     (counts, last)
 }

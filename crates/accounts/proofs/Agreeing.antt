@@ -16,6 +16,7 @@ use Rattle.sheet.specs.declared.Check.{Check}
 use Rattle.sheet.specs.declared.Check.the-variants.{Passed}
 use Rattle.sheet.specs.declared.PlainAnswer.{PlainAnswer}
 use Rattle.sheet.specs.Parts.{Part, partOf}
+use Rattle.sheet.specs.Protocol.{Sent}
 use Rattle.sheet.specs.Checks.{checkPart}
 use Rattle.sheet.specs.Long.{After, State, stateOf, answered, transferCall, stateAfter, transferPart}
 use Rattle.sheet.specs.Plain.{plainAnswered, plainCall, plainPart}
@@ -41,59 +42,59 @@ first-of k a l e =
     (lt-or-le (length l) k)
 
 -- what the two calls make of a list whose own columns are the state's
-record Together (K : Part) (n : Chips) (s : State) (bytes : List ℕ) (cs : List Chip) : Type 0 where
-  hold : map (trimmed K) (plainCall K cs bytes .chips) ≡ chipsOf K n (stateAfter K n s bytes)
-  acknowledge : plainCall K cs bytes .answer ≡ plainly (transferCall K n (s .registers) (s .ram) bytes .result .answer)
-  valid : Valid K n (stateAfter K n s bytes)
-  size : length (plainCall K cs bytes .chips) ≡ length cs
+record Together (K : Part) (n : Chips) (s : State) (t : Sent) (cs : List Chip) : Type 0 where
+  hold : map (trimmed K) (plainCall K cs t .chips) ≡ chipsOf K n (stateAfter K n s t)
+  acknowledge : plainCall K cs t .answer ≡ plainly (transferCall K n (s .registers) (s .ram) t .result .answer)
+  valid : Valid K n (stateAfter K n s t)
+  size : length (plainCall K cs t .chips) ≡ length cs
 
-together : (part : ℕ) (n : Chips) (s : State) (bytes : List ℕ) (cs : List Chip) → Valid (partOf part) n s → map (trimmed (partOf part)) cs ≡ chipsOf (partOf part) n s → Together (partOf part) n s bytes cs
-together part n s bytes cs v e =
+together : (part : ℕ) (n : Chips) (s : State) (t : Sent) (cs : List Chip) → Valid (partOf part) n s → map (trimmed (partOf part)) cs ≡ chipsOf (partOf part) n s → Together (partOf part) n s t cs
+together part n s t cs v e =
     let K = partOf part in
-    let agreed = part-agrees part .transfer n s bytes v in
-    let past = past-stays K (part-keeps part) cs bytes in
-    let hold = past .own ∙ ap (λ (ds : List Chip). plainCall K ds bytes .chips) e ∙ agreed .hold in
+    let agreed = part-agrees part .transfer n s t v in
+    let past = past-stays K (part-keeps part) cs t in
+    let hold = past .own ∙ ap (λ (ds : List Chip). plainCall K ds t .chips) e ∙ agreed .hold in
     record {
       hold = hold;
-      acknowledge = past .answer ∙ ap (λ (ds : List Chip). plainCall K ds bytes .answer) e ∙ agreed .acknowledge;
+      acknowledge = past .answer ∙ ap (λ (ds : List Chip). plainCall K ds t .answer) e ∙ agreed .acknowledge;
       valid = agreed .valid;
       size =
-          sym (length-map (plainCall K cs bytes .chips) (trimmed K)) ∙ ap length hold ∙ length-chips K n (stateAfter K n s bytes)
+          sym (length-map (plainCall K cs t .chips) (trimmed K)) ∙ ap length hold ∙ length-chips K n (stateAfter K n s t)
           ∙ sym (ap length e ∙ length-chips K n s) ∙ length-map cs (trimmed K);
     }
 
 -- a known part's calls are the part's
-known-plain : (part : ℕ) (cs : List Chip) (bytes : List ℕ) → checkPart part ≡ Passed → plainPart part cs bytes ≡ plainCall (partOf part) cs bytes
+known-plain : (part : ℕ) (cs : List Chip) (t : Sent) → checkPart part ≡ Passed → plainPart part cs t ≡ plainCall (partOf part) cs t
 unfolding plainPart
-known-plain part cs bytes e = ap (λ (k : Check). plainAnswered k cs (plainCall (partOf part) cs bytes)) e
+known-plain part cs t e = ap (λ (k : Check). plainAnswered k cs (plainCall (partOf part) cs t)) e
 
-known-long : (part : ℕ) (n : Chips) (r : Both) (ram bytes : List ℕ) → checkPart part ≡ Passed → transferPart part n r ram bytes ≡ transferCall (partOf part) n r ram bytes
+known-long : (part : ℕ) (n : Chips) (r : Both) (ram : List ℕ) (t : Sent) → checkPart part ≡ Passed → transferPart part n r ram t ≡ transferCall (partOf part) n r ram t
 unfolding transferPart
-known-long part n r ram bytes e = ap (λ (k : Check). answered k r ram (transferCall (partOf part) n r ram bytes)) e
+known-long part n r ram t e = ap (λ (k : Check). answered k r ram (transferCall (partOf part) n r ram t)) e
 
 -- what both functions ensure, put together
-pub sides-agree : (part : ℕ) (n : Chips) (r : Both) (ram : List ℕ) (b : Bench) (bytes : List ℕ) (long : After) (plain : BenchTransferred)
-    → Alike part n r ram b → long ≡ transferPart part n r ram bytes → plain ≡ benchTransferred part b bytes
+pub sides-agree : (part : ℕ) (n : Chips) (r : Both) (ram : List ℕ) (b : Bench) (t : Sent) (long : After) (plain : BenchTransferred)
+    → Alike part n r ram b → long ≡ transferPart part n r ram t → plain ≡ benchTransferred part b t
     → Agreed part n (long .ram) (record { long = long .result; plain = plain })
-sides-agree part n r ram b bytes long plain like el ep =
+sides-agree part n r ram b t long plain like el ep =
     let cs = take (b .count) (b .chips) in
-    let made = together part n (stateOf r ram) bytes cs (like .valid) (like .chips) in
-    rw (el, ep, le-leb (b .count) 16 (like .count), known-long part n r ram bytes (like .known), known-plain part cs bytes (like .known))
+    let made = together part n (stateOf r ram) t cs (like .valid) (like .chips) in
+    rw (el, ep, le-leb (b .count) 16 (like .count), known-long part n r ram t (like .known), known-plain part cs t (like .known))
     (record {
       alike = record {
         known = like .known;
         valid = made .valid;
         count = like .count;
-        chips = ap (map (trimmed (partOf part))) (first-of (b .count) (plainCall (partOf part) cs bytes .chips) (b .chips) (made .size)) ∙ made .hold;
+        chips = ap (map (trimmed (partOf part))) (first-of (b .count) (plainCall (partOf part) cs t .chips) (b .chips) (made .size)) ∙ made .hold;
       };
       answer = made .acknowledge;
     })
 
 -- the same of `plain::transfer`, over a lent list: what it ensures and what `long::transfer` ensures
-pub lists-agree : (part : ℕ) (n : Chips) (s : State) (bytes : List ℕ) (long : After) (before chips : List Chip) (answer : PlainAnswer)
-    → checkPart part ≡ Passed → Valid (partOf part) n s → map (trimmed (partOf part)) before ≡ chipsOf (partOf part) n s → long ≡ transferPart part n (s .registers) (s .ram) bytes
-    → answer ≡ plainPart part before bytes .answer → chips ≡ plainPart part before bytes .chips
+pub lists-agree : (part : ℕ) (n : Chips) (s : State) (t : Sent) (long : After) (before chips : List Chip) (answer : PlainAnswer)
+    → checkPart part ≡ Passed → Valid (partOf part) n s → map (trimmed (partOf part)) before ≡ chipsOf (partOf part) n s → long ≡ transferPart part n (s .registers) (s .ram) t
+    → answer ≡ plainPart part before t .answer → chips ≡ plainPart part before t .chips
     → (map (trimmed (partOf part)) chips ≡ chipsOf (partOf part) n (stateOf (long .result .registers) (long .ram))) × (answer ≡ plainly (long .result .answer))
-lists-agree part n s bytes long before chips answer known v eb el ea ec =
-    let made = together part n s bytes before v eb in
-    rw (el, ea, ec, known-long part n (s .registers) (s .ram) bytes known, known-plain part before bytes known) (made .hold, made .acknowledge)
+lists-agree part n s t long before chips answer known v eb el ea ec =
+    let made = together part n s t before v eb in
+    rw (el, ea, ec, known-long part n (s .registers) (s .ram) t known, known-plain part before t known) (made .hold, made .acknowledge)

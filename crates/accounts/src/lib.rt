@@ -5,6 +5,7 @@ use sheet::Both;
 use sheet::Chips;
 use sheet::Transferred;
 ghost use mathlib.Core.Path.{_≡_};
+ghost use Rattle.sheet.specs.Protocol.{sent};
 ghost use Rattle.sheet.specs.Long.{transferPart};
 ghost use Rattle.plain.specs.Benches.{benchTransferred};
 ghost use Rattle.accounts.specs.Alike.{Alike, Agreed};
@@ -22,13 +23,14 @@ pub fn side_by_side(
     ram: &mut [u8],
     bench: Bench,
     bytes: &[u8],
+    bits: u8,
 ) -> Sides
     requires { ⌜ Alike part chips registers (now ram) bench ⌝ }
-    ensures { λ r. ⌜ record { result = r .long; ram = now (ram .exit) } ≡ transferPart part chips registers (now (ram .entry)) (now (bytes .entry)) ⌝ }
-    ensures { λ r. ⌜ r .plain ≡ benchTransferred part bench (now (bytes .entry)) ⌝ }
+    ensures { λ r. ⌜ record { result = r .long; ram = now (ram .exit) } ≡ transferPart part chips registers (now (ram .entry)) (sent (now (bytes .entry)) bits) ⌝ }
+    ensures { λ r. ⌜ r .plain ≡ benchTransferred part bench (sent (now (bytes .entry)) bits) ⌝ }
     ensures { λ r. ⌜ Agreed part chips (now (ram .exit)) r ⌝ }
 {
-    let plain = plain::transfer_bench(part, bench, bytes);
-    let long = long::transfer(part, chips, registers, ram, bytes);
+    let plain = plain::transfer_bench(part, bench, bytes, bits);
+    let long = long::transfer(part, chips, registers, ram, bytes, bits);
     Sides { long, plain }
 }

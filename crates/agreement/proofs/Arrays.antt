@@ -6,8 +6,9 @@ use mathlib.Core.List.{List, [], _∷_, map}
 use Prim.Native.Nat.{ℕ, zero, suc, _+_, _*_, _/_, _<_}
 use native.Mathlib.Omega.{arith}
 use lib.Dec.{eqb, leb}
-use lib.ListN.{length, getD, drop, length-map}
+use lib.ListN.{length, drop, length-map}
 use lib.Seq.{take-take}
+use Rattle.sheet.specs.declared.Marks.{Marks}
 use Rattle.sheet.specs.declared.Chip.{Chip}
 use Rattle.sheet.specs.declared.Kind.{Kind}
 use Rattle.sheet.specs.declared.Expect.{Expect}
@@ -18,9 +19,9 @@ use Rattle.sheet.specs.declared.Check.the-variants.{Passed, Refused}
 use Rattle.sheet.specs.declared.Refusal.the-variants.{ManyChips, ChipField}
 use Rattle.sheet.specs.Parts.{Part}
 use Rattle.sheet.specs.Registers.{inRange, backplanes}
-use Rattle.sheet.specs.Protocol.{next}
-use Rattle.sheet.specs.Checks.{unless}
-use Rattle.sheet.specs.Plain.{afterColumn, afterColumns, chipData, acknowledgesData, chipByte, acknowledgesByte, hears, any, takes, lower, smallest, acknowledgedBy, once, lastAfter, Plain, plainHeard, chipFits, chipPowerOn, checkChipPicture, chipPictureCall, misfitIn, checkPlain, plainTaken, begunBy, plainSaid, plainCall}
+use Rattle.sheet.specs.Protocol.{next, Sent, wholeOf, addressByte, cutData}
+use Rattle.sheet.specs.Checks.{unless, orElse, checkSent, faultOfSent}
+use Rattle.sheet.specs.Plain.{afterColumn, afterColumns, chipData, acknowledgesData, chipByte, acknowledgesByte, hears, any, takes, lower, smallest, acknowledgedBy, once, lastAfter, Plain, plainHeard, chipLost, chipEnded, plainEnded, plainWhole, unknownIn, marksIn, chipFits, chipPowerOn, checkChipPicture, chipPictureCall, misfitIn, checkPlain, plainTaken, begunBy, plainSaid, plainCall}
 use Rattle.sheet.specs.Data.{widthOf}
 use Rattle.sheet.specs.Agree.{AllIn, Keeps, trimmed, pastColumns, PastStays, PastUnread}
 use Rattle.laws.proofs.Ranges.{range-of}
@@ -47,13 +48,25 @@ unfolding misfitIn
 misfits-own K i [] = refl
 misfits-own K i (c ∷ cs) = rw (fits-own K c) (ap (λ (k : Check). cond (chipFits K c) k (Refused (ChipField i))) (misfits-own K (suc i) cs))
 
-hears-own : (K : Part) (address : ℕ) (cs : List Chip) → any (hears address) (map (trimmed K) cs) ≡ any (hears address) cs
-hears-own K address [] = refl
-hears-own K address (c ∷ cs) = ap (λ (b : Bool). hears address c || b) (hears-own K address cs)
+-- what is asked of chips but for their columns
+any-own : (K : Part) (f : Chip → Bool) → ((c : Chip) → f (trimmed K c) ≡ f c) → (cs : List Chip) → any f (map (trimmed K) cs) ≡ any f cs
+any-own K f e [] = refl
+any-own K f e (c ∷ cs) = ap₂ (λ (a b : Bool). a || b) (e c) (any-own K f e cs)
 
-checks-own : (K : Part) (cs : List Chip) (bytes : List ℕ) → checkPlain K (map (trimmed K) cs) bytes ≡ checkPlain K cs bytes
+hears-own : (K : Part) (address : ℕ) (cs : List Chip) → any (hears address) (map (trimmed K) cs) ≡ any (hears address) cs
+hears-own K address cs = any-own K (hears address) (λ c. refl) cs
+
+unknown-own : (K : Part) (address : ℕ) (mark : Marks → ℕ) (cs : List Chip) → unknownIn address mark (map (trimmed K) cs) ≡ unknownIn address mark cs
+unknown-own K address mark cs = ap (λ (b : Bool). cond b 1 0) (any-own K (λ c. hears address c && eqb (mark (c .registers .unknown)) 1) (λ c. refl) cs)
+
+marks-own : (K : Part) (address : ℕ) (cs : List Chip) → marksIn address (map (trimmed K) cs) ≡ marksIn address cs
+marks-own K address cs i = record { high = unknown-own K address (λ u. u .high) cs i; low = unknown-own K address (λ u. u .low) cs i; device = unknown-own K address (λ u. u .device) cs i }
+
+checks-own : (K : Part) (cs : List Chip) (t : Sent) → checkPlain K (map (trimmed K) cs) t ≡ checkPlain K cs t
 unfolding checkPlain
-checks-own K cs bytes = rw (length-map cs (trimmed K), misfits-own K 0 cs, hears-own K (getD bytes 0 0) cs) refl
+checks-own K cs t =
+    rw (length-map cs (trimmed K), misfits-own K 0 cs, hears-own K (addressByte t) cs)
+    (ap (λ (u : Marks). orElse (unless (leb (length cs) (2 * K .limit)) ManyChips) (orElse (misfitIn K 0 cs) (orElse (checkSent t) (cond (any (hears (addressByte t)) cs) (faultOfSent K u t) Passed)))) (marks-own K (addressByte t) cs))
 
 -- ---- a byte lands before what stands behind
 
@@ -151,30 +164,54 @@ module _ (K : Part) (keeps : Keeps K) (address : ℕ) where
   heard-past e [] s h = refl
   heard-past e (x ∷ xs) s h = heard-past (next e x) xs (after e x s) (all-kept e x (s .chips) h) ∙ all-past e x (s .chips) h
 
+  -- the byte that is cut, after them
+  ended-own : (d : Bool) (c : Chip) → Own K (chipEnded address d) c
+  ended-own d c = let made = by-test (hears address c) in record { own = made .0; past = made .1 }
+    where
+      by-test : (b : Bool) → (trimmed K (cond b (chipLost d c) c) ≡ cond b (chipLost d (trimmed K c)) (trimmed K c)) × (pastColumns K (cond b (chipLost d c) c) ≡ pastColumns K c)
+      by-test true = (refl, refl)
+      by-test false = (refl, refl)
+
+  all-ended : (d : Bool) (cs : List Chip) → map (trimmed K) (map (chipEnded address d) cs) ≡ map (chipEnded address d) (map (trimmed K) cs)
+  all-ended d [] = refl
+  all-ended d (c ∷ cs) = ap₂ (λ (a : Chip) (others : List Chip). a ∷ others) (ended-own d c .own) (all-ended d cs)
+
+  ended-past : (d : Bool) (cs : List Chip) → map (pastColumns K) (map (chipEnded address d) cs) ≡ map (pastColumns K) cs
+  ended-past d [] = refl
+  ended-past d (c ∷ cs) = ap₂ (λ (a : List ℕ) (others : List (List ℕ)). a ∷ others) (ended-own d c .past) (ended-past d cs)
+
+  whole-own : (t : Sent) (s : Plain) → AllIn K (s .chips) → plainWhole K address t (own-of s) ≡ own-of (plainWhole K address t s)
+  whole-own t s h =
+      ap (plainEnded address t) (heard-own Control (drop 1 (wholeOf t)) s h)
+      ∙ (λ i. let w = plainHeard K address Control (drop 1 (wholeOf t)) s in record { acknowledged = w .acknowledged; last = w .last; chips = sym (all-ended (cutData t) (w .chips)) i })
+
+  whole-past : (t : Sent) (s : Plain) → AllIn K (s .chips) → map (pastColumns K) (plainWhole K address t s .chips) ≡ map (pastColumns K) (s .chips)
+  whole-past t s h = ended-past (cutData t) (plainHeard K address Control (drop 1 (wholeOf t)) s .chips) ∙ heard-past Control (drop 1 (wholeOf t)) s h
+
 -- ---- the law
 
-module _ (K : Part) (keeps : Keeps K) (cs : List Chip) (bytes : List ℕ) where
-  passed-in : checkPlain K cs bytes ≡ Passed → AllIn K cs
+module _ (K : Part) (keeps : Keeps K) (cs : List Chip) (t : Sent) where
+  passed-in : checkPlain K cs t ≡ Passed → AllIn K cs
   unfolding checkPlain
   passed-in e = all-in K 0 cs (both-pass (misfitIn K 0 cs) _ (both-pass (unless (leb (length cs) (2 * K .limit)) ManyChips) _ e .1) .0)
 
   -- what a transfer that is taken makes of the chips without it
-  taken-own : AllIn K cs → (plainTaken K (map (trimmed K) cs) bytes ≡ own-of K keeps (getD bytes 0 0) (plainTaken K cs bytes)) × (map (pastColumns K) (plainTaken K cs bytes .chips) ≡ map (pastColumns K) cs)
-  taken-own h = rw (hears-own K (getD bytes 0 0) cs) (by-test (any (hears (getD bytes 0 0)) cs))
+  taken-own : AllIn K cs → (plainTaken K (map (trimmed K) cs) t ≡ own-of K keeps (addressByte t) (plainTaken K cs t)) × (map (pastColumns K) (plainTaken K cs t .chips) ≡ map (pastColumns K) cs)
+  taken-own h = rw (hears-own K (addressByte t) cs) (by-test (any (hears (addressByte t)) cs))
     where
-      by-test : (b : Bool) → (cond b (plainHeard K (getD bytes 0 0) Control (drop 1 bytes) (begunBy 1 (map (trimmed K) cs))) (begunBy 0 (map (trimmed K) cs)) ≡ own-of K keeps (getD bytes 0 0) (cond b (plainHeard K (getD bytes 0 0) Control (drop 1 bytes) (begunBy 1 cs)) (begunBy 0 cs)))
-          × (map (pastColumns K) (cond b (plainHeard K (getD bytes 0 0) Control (drop 1 bytes) (begunBy 1 cs)) (begunBy 0 cs) .chips) ≡ map (pastColumns K) cs)
-      by-test true = (heard-own K keeps (getD bytes 0 0) Control (drop 1 bytes) (begunBy 1 cs) h, heard-past K keeps (getD bytes 0 0) Control (drop 1 bytes) (begunBy 1 cs) h)
+      by-test : (b : Bool) → (cond b (plainWhole K (addressByte t) t (begunBy 1 (map (trimmed K) cs))) (begunBy 0 (map (trimmed K) cs)) ≡ own-of K keeps (addressByte t) (cond b (plainWhole K (addressByte t) t (begunBy 1 cs)) (begunBy 0 cs)))
+          × (map (pastColumns K) (cond b (plainWhole K (addressByte t) t (begunBy 1 cs)) (begunBy 0 cs) .chips) ≡ map (pastColumns K) cs)
+      by-test true = (whole-own K keeps (addressByte t) t (begunBy 1 cs) h, whole-past K keeps (addressByte t) t (begunBy 1 cs) h)
       by-test false = (refl, refl)
 
-  pub past-stays : PastStays K cs bytes
+  pub past-stays : PastStays K cs t
   unfolding plainCall
-  past-stays = by-check (checkPlain K cs bytes) refl
+  past-stays = by-check (checkPlain K cs t) refl
     where
-      by-check : (k : Check) → checkPlain K cs bytes ≡ k → PastStays K cs bytes
+      by-check : (k : Check) → checkPlain K cs t ≡ k → PastStays K cs t
       by-check Passed e = let made = taken-own (passed-in e) in record {
-        answer = rw (checks-own K cs bytes, e) (sym (ap (λ (s : Plain). plainSaid s .answer) (made .0)));
-        own = rw (checks-own K cs bytes, e) (sym (ap (λ (s : Plain). s .chips) (made .0)));
+        answer = rw (checks-own K cs t, e) (sym (ap (λ (s : Plain). plainSaid s .answer) (made .0)));
+        own = rw (checks-own K cs t, e) (sym (ap (λ (s : Plain). s .chips) (made .0)));
         past = rw e (made .1);
       }
-      by-check (Refused r) e = record { answer = rw (checks-own K cs bytes, e) refl; own = rw (checks-own K cs bytes, e) refl; past = rw e refl }
+      by-check (Refused r) e = record { answer = rw (checks-own K cs t, e) refl; own = rw (checks-own K cs t, e) refl; past = rw e refl }

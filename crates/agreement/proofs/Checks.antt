@@ -2,34 +2,35 @@
 -- Assumes nothing.
 use mathlib.Core.Path.{_≡_, refl, sym, ap, ap₂, _∙_}
 use mathlib.Core.Logic.{_≢_, ⊎-elim}
-use mathlib.Core.Bool.{Bool, true, false, cond, _&&_, _||_, and-false}
+use mathlib.Core.Bool.{Bool, true, false, cond, _&&_, _||_, and-false, or-false}
 use mathlib.Core.List.{List, [], _++_, append-nil}
 use Prim.Native.Nat.{ℕ, zero, suc, _+_, _*_, _≤_, _<_}
-use native.Mathlib.Nat.{add-zero}
+use native.Mathlib.Nat.{add-zero, not-suc-le-zero, le-of-suc-le-suc}
 use native.Mathlib.Omega.{arith}
 use lib.Dec.{eqb, ltb}
-use lib.ListN.{length, getD, take, drop, length-append}
+use lib.ListN.{length, take, drop, length-append}
 use lib.Seq.{take-take}
-use borrow.Author.Tests.{eq-eqb, ne-eqb, lt-ltb, le-leb}
+use borrow.Author.Tests.{eq-eqb, ne-eqb, eqb-true, lt-ltb, ltb-true, le-leb}
+use Rattle.lemmas.proofs.Tests.{both-true}
 use Rattle.lemmas.proofs.Order.{equal-or-not}
+use Rattle.sheet.specs.declared.Marks.{Marks}
 use Rattle.sheet.specs.declared.Registers.{Registers}
 use Rattle.sheet.specs.declared.Chips.{Chips}
 use Rattle.sheet.specs.declared.Chip.{Chip}
 use Rattle.sheet.specs.declared.Check.{Check}
 use Rattle.sheet.specs.declared.Check.the-variants.{Passed}
-use Rattle.sheet.specs.declared.Expect.the-variants.{Control}
 use Rattle.sheet.specs.declared.Addressed.the-variants.{To, Nobody}
 use Rattle.sheet.specs.Parts.{Part}
-use Rattle.sheet.specs.Protocol.{addressOf, heardBy}
-use Rattle.sheet.specs.Checks.{orElse, checkLength, faultIn, checkBytes, checkTransfer}
+use Rattle.sheet.specs.Protocol.{addressOf, heardBy, Sent, addressByte}
+use Rattle.sheet.specs.Checks.{orElse, checkSent, faultOfSent, checkBytes, checkTransfer}
 use Rattle.sheet.specs.Long.{State}
-use Rattle.sheet.specs.Plain.{any, hears, chipFits, misfitIn, checkPlain}
+use Rattle.sheet.specs.Plain.{any, hears, unknownIn, marksIn, chipFits, misfitIn, checkPlain}
 use Rattle.sheet.specs.Agree.{groupChips, groupOf, chipsOf, Valid}
-use Rattle.laws.proofs.Ranges.{InRange, in-range}
+use Rattle.laws.proofs.Ranges.{MarksIn, InRange, in-range}
 use Rattle.laws.proofs.Nibbles.{Nibbles, check-nibbles, take-nibbles, drop-nibbles}
 use Rattle.laws.proofs.Fits.{Fits, fits-of}
 use Rattle.agreement.proofs.Acknowledge.{any-all, any-none}
-use Rattle.agreement.proofs.Deaf.{any-join}
+use Rattle.agreement.proofs.Deaf.{any-join, Deaf, deaf-any}
 
 -- ---- fields and columns
 
@@ -89,26 +90,90 @@ chips-hear K n s address =
     any-join (hears address) (groupChips K (n .zero) 0 0 (s .registers .zero) (s .ram)) (groupChips K (n .one) 1 0 (s .registers .one) rest)
     ∙ ap₂ (λ (a b : Bool). a || b) (group-hears address K (n .zero) 0 (s .registers .zero) (s .ram)) (group-hears address K (n .one) 1 (s .registers .one) rest)
 
--- a chip hears the commands that are looked at
-same-commands : (K : Part) (n : Chips) (s : State) (bytes : List ℕ)
-    → cond (any (hears (getD bytes 0 0)) (chipsOf K n s)) (faultIn K Control 1 (drop 1 bytes)) Passed ≡ checkBytes K (heardBy n (getD bytes 0 0)) bytes
-unfolding heardBy
-same-commands K n s bytes =
-    let address : ℕ = getD bytes 0 0 in
-    ap (λ (b : Bool). cond b (faultIn K Control 1 (drop 1 bytes)) Passed) (chips-hear K n s address)
-    ∙ either (eqb address (addressOf 0) && ltb 0 (n .zero)) (eqb address (addressOf 1) && ltb 0 (n .one))
+-- ---- marks: those of the chips that hear are the group's
+
+-- of a group's chips, of which there is one
+group-unknown : (K : Part) (n g : ℕ) (r : Registers) (ram : List ℕ) (mark : Marks → ℕ) → 0 < n
+    → any (λ c. hears (addressOf g) c && eqb (mark (c .registers .unknown)) 1) (groupChips K n g 0 r ram) ≡ eqb (mark (r .unknown)) 1
+group-unknown K n g r ram mark pn = by-test (eqb (mark (r .unknown)) 1) refl
   where
-    either : (a b : Bool) → cond (a || b) (faultIn K Control 1 (drop 1 bytes)) Passed ≡ checkBytes K (cond a (To 0) (cond b (To 1) Nobody)) bytes
-    either true b = refl
-    either false true = refl
-    either false false = refl
+    by-test : (b : Bool) → eqb (mark (r .unknown)) 1 ≡ b → any (λ c. hears (addressOf g) c && eqb (mark (c .registers .unknown)) 1) (groupChips K n g 0 r ram) ≡ b
+    by-test true e = any-all (λ c. hears (addressOf g) c && eqb (mark (c .registers .unknown)) 1) K g r n 0 ram pn (λ c. rw (eq-eqb (addressOf g) (addressOf g) refl) e)
+    by-test false e = any-none (λ c. hears (addressOf g) c && eqb (mark (c .registers .unknown)) 1) K g r n 0 ram (λ i c. rw (eq-eqb (addressOf g) (addressOf g) refl) e)
+
+-- a mark is 0 or 1
+as-mark : (t : ℕ) → t < 2 → cond (eqb t 1) 1 0 ≡ t
+as-mark zero l = refl
+as-mark (suc zero) l = refl
+as-mark (suc (suc t)) l = absurd (not-suc-le-zero (le-of-suc-le-suc (le-of-suc-le-suc l)))
+
+-- the group's chips stand among chips that do not hear
+module _ (K : Part) (n g : ℕ) (r : Registers) (ram : List ℕ) (before after : List Chip) (deaf-before : Deaf (addressOf g) before) (deaf-after : Deaf (addressOf g) after) (pn : 0 < n) where
+  abbrev list : List Chip
+  list = before ++ (groupChips K n g 0 r ram ++ after)
+
+  unknown-is : (mark : Marks → ℕ) → mark (r .unknown) < 2 → unknownIn (addressOf g) mark list ≡ mark (r .unknown)
+  unknown-is mark l =
+      let f : Chip → Bool = λ c. eqb (mark (c .registers .unknown)) 1 in
+      ap (λ (b : Bool). cond b 1 0)
+      (any-join _ before (groupChips K n g 0 r ram ++ after)
+      ∙ ap₂ (λ (a b : Bool). a || b) (deaf-any (addressOf g) f before deaf-before)
+      (any-join _ (groupChips K n g 0 r ram) after
+      ∙ ap₂ (λ (a b : Bool). a || b) (group-unknown K n g r ram mark pn) (deaf-any (addressOf g) f after deaf-after)
+      ∙ or-false (eqb (mark (r .unknown)) 1)))
+      ∙ as-mark (mark (r .unknown)) l
+
+  marks-are : MarksIn (r .unknown) → marksIn (addressOf g) list ≡ r .unknown
+  marks-are l i = record { high = unknown-is (λ u. u .high) (l .high-in) i; low = unknown-is (λ u. u .low) (l .low-in) i; device = unknown-is (λ u. u .device) (l .device-in) i }
+
+module _ (K : Part) (n : Chips) (s : State) (f : Fits K n (s .registers) (s .ram)) where
+  abbrev zeros : List Chip
+  zeros = groupOf K 0 n s
+
+  abbrev ones : List Chip
+  ones = groupOf K 1 n s
+
+  marks-zero : 0 < n .zero → marksIn (addressOf 0) (chipsOf K n s) ≡ s .registers .zero .unknown
+  marks-zero pn = marks-are K (n .zero) 0 (s .registers .zero) (s .ram) [] ones refl (group-hears (addressOf 0) K (n .one) 1 (s .registers .one) _) pn (f .zero-in .marks-in)
+
+  marks-one : 0 < n .one → marksIn (addressOf 1) (chipsOf K n s) ≡ s .registers .one .unknown
+  marks-one pn =
+      ap (λ (cs : List Chip). marksIn (addressOf 1) (zeros ++ cs)) (sym (append-nil ones))
+      ∙ marks-are K (n .one) 1 (s .registers .one) (drop (K .columns * n .zero) (s .ram)) zeros [] (group-hears (addressOf 1) K (n .zero) 0 (s .registers .zero) (s .ram)) refl pn (f .one-in .marks-in)
+
+  -- byte 0 is the group's address, and the group has a chip
+  pub called-true : (address g k : ℕ) → (eqb address (addressOf g) && ltb 0 k) ≡ true → (address ≡ addressOf g) × (0 < k)
+  called-true address g k e =
+      let t = both-true (eqb address (addressOf g)) (ltb 0 k) e in
+      (eqb-true address (addressOf g) (t .0), ltb-true 0 k (t .1))
+
+  -- a chip hears the bytes that are looked at
+  same-faults : (t : Sent)
+      → cond (any (hears (addressByte t)) (chipsOf K n s)) (faultOfSent K (marksIn (addressByte t) (chipsOf K n s)) t) Passed ≡ checkBytes K (s .registers) (heardBy n (addressByte t)) t
+  unfolding heardBy
+  same-faults t =
+      let address : ℕ = addressByte t in
+      ap (λ (b : Bool). cond b (faults address) Passed) (chips-hear K n s address)
+      ∙ either (eqb address (addressOf 0) && ltb 0 (n .zero)) (eqb address (addressOf 1) && ltb 0 (n .one)) (called-true address 0 (n .zero)) (called-true address 1 (n .one))
+    where
+      faults : ℕ → Check
+      faults address = faultOfSent K (marksIn address (chipsOf K n s)) t
+
+      looked : (address g : ℕ) (u : Marks) → address ≡ addressOf g → marksIn (addressOf g) (chipsOf K n s) ≡ u → faults address ≡ faultOfSent K u t
+      looked address g u e m = ap faults e ∙ ap (λ (v : Marks). faultOfSent K v t) m
+
+      either : (a b : Bool) → (a ≡ true → (addressByte t ≡ addressOf 0) × (0 < n .zero)) → (b ≡ true → (addressByte t ≡ addressOf 1) × (0 < n .one))
+          → cond (a || b) (faults (addressByte t)) Passed ≡ checkBytes K (s .registers) (cond a (To 0) (cond b (To 1) Nobody)) t
+      either true b hz ho = looked (addressByte t) 0 (s .registers .zero .unknown) (hz refl .0) (marks-zero (hz refl .1))
+      either false true hz ho = looked (addressByte t) 1 (s .registers .one .unknown) (ho refl .0) (marks-one (ho refl .1))
+      either false false hz ho = refl
 
 -- ---- the law
 
-pub same-checks : (K : Part) (n : Chips) (s : State) (bytes : List ℕ) → Valid K n s
-    → checkPlain K (chipsOf K n s) bytes ≡ checkTransfer K n (s .registers) (s .ram) bytes
+pub same-checks : (K : Part) (n : Chips) (s : State) (t : Sent) → Valid K n s
+    → checkPlain K (chipsOf K n s) t ≡ checkTransfer K n (s .registers) (s .ram) t
 unfolding checkPlain checkTransfer
-same-checks K n s bytes v =
+same-checks K n s t v =
     let f = fits-of K n (s .registers) (s .ram) v in
     rw (v, le-leb (length (chipsOf K n s)) (2 * K .limit) (not-many K n s f), none-misfits K n s f)
-    (ap (λ (k : Check). orElse (checkLength (length bytes)) k) (same-commands K n s bytes))
+    (ap (λ (k : Check). orElse (checkSent t) k) (same-faults K n s f t))

@@ -7,9 +7,7 @@ use Prim.Native.Nat.{ℕ}
 use Rattle.lemmas.proofs.Tests.{either-false}
 use Rattle.sheet.specs.declared.Chip.{Chip}
 use Rattle.sheet.specs.declared.Acknowledger.{Acknowledger}
-use Rattle.sheet.specs.declared.Expect.{Expect}
-use Rattle.sheet.specs.Parts.{Part}
-use Rattle.sheet.specs.Plain.{any, hears, takes, lower, smallest}
+use Rattle.sheet.specs.Plain.{any, hears, lower, smallest}
 
 pub any-join : (f : Chip → Bool) (a b : List Chip) → any f (a ++ b) ≡ (any f a || any f b)
 any-join f [] b = refl
@@ -19,11 +17,18 @@ abbrev pub Deaf : ℕ → List Chip → Type 0
 Deaf address cs = any (hears address) cs ≡ false
 
 -- they keep all
-pub deaf-keep : (K : Part) (address x : ℕ) (e : Expect) (cs : List Chip) → Deaf address cs → map (takes K address e x) cs ≡ cs
-deaf-keep K address x e [] h = refl
-deaf-keep K address x e (c ∷ cs) h =
+pub deaf-keep : (address : ℕ) (f : Chip → Chip) (cs : List Chip) → Deaf address cs → map (λ c. cond (hears address c) (f c) c) cs ≡ cs
+deaf-keep address f [] h = refl
+deaf-keep address f (c ∷ cs) h =
     let d = either-false (hears address c) (any (hears address) cs) h in
-    rw (d .0) (ap (λ (r : List Chip). c ∷ r) (deaf-keep K address x e cs (d .1)))
+    rw (d .0) (ap (λ (r : List Chip). c ∷ r) (deaf-keep address f cs (d .1)))
+
+-- and say nothing
+pub deaf-any : (address : ℕ) (f : Chip → Bool) (cs : List Chip) → Deaf address cs → any (λ c. hears address c && f c) cs ≡ false
+deaf-any address f [] h = refl
+deaf-any address f (c ∷ cs) h =
+    let d = either-false (hears address c) (any (hears address) cs) h in
+    rw (d .0) (deaf-any address f cs (d .1))
 
 -- and acknowledge nothing, before other chips
 silent : (address : ℕ) (f : Chip → Bool) (deaf cs : List Chip) → Deaf address deaf → smallest (λ c. hears address c && f c) (deaf ++ cs) ≡ smallest (λ c. hears address c && f c) cs

@@ -14,7 +14,7 @@ use Rattle.agreement.proofs.Power as powers
 pub demand3 : Claim
 unfolding powerOnCall
 demand3 K pc keeps = record {
-  transfer = λ n s bytes v. transfers.transfer K keeps n s bytes v;
+  transfer = λ n s t v. transfers.transfer K keeps n s t v;
   sequence = λ n s ts v. sequences.sequence K keeps n s ts v;
   powered-on = λ n r ram ts e. rw (powers.power-on K n r ram) (sequences.sequence K keeps n (stateOf bothOn ram) ts (powered-passes K n ram pc e));
 }

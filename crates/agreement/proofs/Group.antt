@@ -6,7 +6,7 @@ use mathlib.Core.List.{List, [], _∷_, _++_, map, map-append}
 use Prim.Native.Nat.{ℕ, _+_, _*_, _≤_, _<_}
 use native.Mathlib.Nat.{mul-le-mul-left}
 use lib.Dec.{eqb}
-use lib.ListN.{length}
+use lib.ListN.{length, drop}
 use borrow.Author.Tests.{eq-eqb}
 use Rattle.sheet.specs.declared.Chip.{Chip}
 use Rattle.sheet.specs.declared.Acknowledger.{Acknowledger}
@@ -14,11 +14,11 @@ use Rattle.sheet.specs.declared.Expect.{Expect}
 use Rattle.sheet.specs.declared.Kind.{Kind}
 use Rattle.sheet.specs.declared.Expect.the-variants.{Control, One, All}
 use Rattle.sheet.specs.Parts.{Part}
-use Rattle.sheet.specs.Registers.{backplanes}
+use Rattle.sheet.specs.Registers.{backplanes, lostBy}
 use Rattle.sheet.specs.Commands.{obeyed}
-use Rattle.sheet.specs.Protocol.{addressOf, next}
-use Rattle.sheet.specs.Long.{Group, byteOf, byte, dataByte, heard}
-use Rattle.sheet.specs.Plain.{hears, chipByteOf, chipByte, acknowledgesData, acknowledgesByte, takes, smallest, acknowledgedBy, once, lastAfter, Plain, plainHeard}
+use Rattle.sheet.specs.Protocol.{addressOf, next, Sent, wholeOf, cutData}
+use Rattle.sheet.specs.Long.{Group, byteOf, byte, dataByte, heard, ended, heardWhole}
+use Rattle.sheet.specs.Plain.{hears, chipByteOf, chipByte, acknowledgesData, acknowledgesByte, takes, smallest, acknowledgedBy, once, lastAfter, Plain, plainHeard, chipLost, plainEnded, plainWhole}
 use Rattle.sheet.specs.Places.{position}
 use Rattle.sheet.specs.Data.{counted, acknowledger}
 use Rattle.sheet.specs.Agree.{groupChips, Keeps}
@@ -99,24 +99,28 @@ plainOf K n g before after s = record { acknowledged = s .counts .acknowledged; 
 
 module _ (K : Part) (n g : ℕ) (keeps : Keeps K) (pn : 0 < n) (l : n ≤ K .limit) (before after : List Chip)
     (deaf-before : Deaf (addressOf g) before) (deaf-after : Deaf (addressOf g) after) where
+  -- what makes of the group's chips those of another state, of the chips that hear
+  around : (f : Chip → Chip) (s u : Group) → map f (chipsOfGroup K n g s) ≡ chipsOfGroup K n g u
+      → map (λ c. cond (hears (addressOf g) c) (f c) c) (before ++ (chipsOfGroup K n g s ++ after)) ≡ before ++ (chipsOfGroup K n g u ++ after)
+  around f s u e =
+      let h : Chip → Chip = λ c. cond (hears (addressOf g) c) (f c) c in
+      map-append h before (chipsOfGroup K n g s ++ after)
+      ∙ ap₂ (λ (a b : List Chip). a ++ b) (deaf-keep (addressOf g) f before deaf-before)
+      (map-append h (chipsOfGroup K n g s) after
+      ∙ ap₂ (λ (a b : List Chip). a ++ b)
+      (alike h f g (s .registers) (s .registers) (λ i c. rw (eq-eqb (addressOf g) (addressOf g) refl)) K n 0 (s .ram) ∙ e)
+      (deaf-keep (addressOf g) f after deaf-after))
+
   hold : (e : Expect) (x : ℕ) (s : Group) → Kept K (K .columns * n) s
       → map (takes K (addressOf g) e x) (before ++ (chipsOfGroup K n g s ++ after)) ≡ before ++ (chipsOfGroup K n g (byte K e x s) ++ after)
-  hold e x s k =
-      let f = takes K (addressOf g) e x in
-      map-append f before (chipsOfGroup K n g s ++ after)
-      ∙ ap₂ (λ (a b : List Chip). a ++ b) (deaf-keep K (addressOf g) x e before deaf-before)
-      (map-append f (chipsOfGroup K n g s) after
-      ∙ ap₂ (λ (a b : List Chip). a ++ b)
-      (alike f (chipByte K e x) g (s .registers) (s .registers) (λ i c. rw (eq-eqb (addressOf g) (addressOf g) refl)) K n 0 (s .ram) ∙ byte-agrees K n g x s l k e)
-      (deaf-keep K (addressOf g) x e after deaf-after))
+  hold e x s k = around (chipByte K e x) s (byte K e x s) (byte-agrees K n g x s l k e)
 
   -- who acknowledges is one of the group's chips
   among : (e : Expect) (x : ℕ) (s : Group) → Kept K (K .columns * n) s
       → acknowledgedBy K (addressOf g) e x (before ++ (chipsOfGroup K n g s ++ after)) ≡ smallest (λ c. hears (addressOf g) c && acknowledgesByte K e x c) (chipsOfGroup K n g s)
   among e x s k = deaf-around (addressOf g) (acknowledgesByte K e x) before (chipsOfGroup K n g s) after deaf-before deaf-after
 
-  -- the law
-  pub heard-agrees : (xs : List ℕ) (e : Expect) (s : Group) → Kept K (K .columns * n) s
+  heard-agrees : (xs : List ℕ) (e : Expect) (s : Group) → Kept K (K .columns * n) s
       → plainHeard K (addressOf g) e xs (plainOf K n g before after s) ≡ plainOf K n g before after (heard K e xs s)
   unfolding plainHeard heard
   heard-agrees [] e s k = refl
@@ -124,3 +128,15 @@ module _ (K : Part) (n g : ℕ) (keeps : Keeps K) (pn : 0 < n) (l : n ≤ K .lim
       (λ i. let who = among e x s k i in plainHeard K (addressOf g) (next e x) xs (record { acknowledged = s .counts .acknowledged + once who; last = lastAfter e who (s .last); chips = hold e x s k i }))
       ∙ (λ i. let t = told K n g x s l k e pn in plainHeard K (addressOf g) (next e x) xs (record { acknowledged = t .acknowledged i; last = t .last i; chips = before ++ (chipsOfGroup K n g (byte K e x s) ++ after) }))
       ∙ heard-agrees xs (next e x) (byte K e x s) (byte-keeps K (K .columns * n) keeps e x s k)
+
+  -- the law: the whole bytes, and the one that is cut
+  pub whole-agrees : (t : Sent) (s : Group) → Kept K (K .columns * n) s
+      → plainWhole K (addressOf g) t (plainOf K n g before after s) ≡ plainOf K n g before after (heardWhole K t s)
+  whole-agrees t s k =
+      let w = heard K Control (drop 1 (wholeOf t)) s in
+      ap (plainEnded (addressOf g) t) (heard-agrees (drop 1 (wholeOf t)) Control s k)
+      ∙ (λ i. record {
+        acknowledged = w .counts .acknowledged;
+        last = w .last;
+        chips = around (chipLost (cutData t)) w (ended t w) (set-alike (chipLost (cutData t)) g (w .registers) (lostBy (cutData t) (w .registers)) (λ j c. refl) K n 0 (w .ram)) i;
+      })

@@ -10,7 +10,8 @@ use lib.Seq.{length-take-le, take-all, drop-at}
 use Rattle.sheet.specs.declared.Chips.{Chips}
 use Rattle.sheet.specs.declared.Chip.{Chip}
 use Rattle.sheet.specs.Parts.{Part}
-use Rattle.sheet.specs.Long.{Group, begun, registersOf, columnsOf, State}
+use Rattle.sheet.specs.Registers.{registersOf}
+use Rattle.sheet.specs.Long.{Group, begun, columnsOf, State}
 use Rattle.sheet.specs.Agree.{groupChips, chipsOf, Valid}
 use Rattle.laws.proofs.Nibbles.{take-nibbles, drop-nibbles, join-nibbles}
 use Rattle.laws.proofs.Kept.{Kept}

@@ -2,18 +2,18 @@
 -- Assumes nothing.
 use mathlib.Core.Path.{_≡_, refl, ap, ap₂, _∙_}
 use mathlib.Core.List.{List, [], _∷_}
-use Prim.Native.Nat.{ℕ}
 use Rattle.sheet.specs.declared.Chips.{Chips}
 use Rattle.sheet.specs.declared.Chip.{Chip}
 use Rattle.sheet.specs.declared.PlainAnswer.{PlainAnswer}
 use Rattle.sheet.specs.Parts.{Part}
+use Rattle.sheet.specs.Protocol.{Sent}
 use Rattle.sheet.specs.Long.{State, stateAfter, stateAfterAll}
 use Rattle.sheet.specs.Plain.{plainCall}
 use Rattle.sheet.specs.Agree.{chipsOf, answerTo, longAnswers, plainAll, plainAnswers, Keeps, Valid, AgreesAll}
 use Rattle.agreement.proofs.Transfer.{transfer}
 use Rattle.agreement.proofs.Show.{show}
 
-pub sequence : (K : Part) → Keeps K → (n : Chips) (s : State) (ts : List (List ℕ)) → Valid K n s → AgreesAll K n s (chipsOf K n s) ts
+pub sequence : (K : Part) → Keeps K → (n : Chips) (s : State) (ts : List Sent) → Valid K n s → AgreesAll K n s (chipsOf K n s) ts
 unfolding stateAfterAll longAnswers plainAll plainAnswers
 sequence K keeps n s [] v = record { hold = refl; acknowledge = refl; show = λ g phase out pg pp e. show K n s g phase out v pg pp e; valid = v }
 sequence K keeps n s (t ∷ ts) v =

@@ -19,7 +19,8 @@ use Rattle.sheet.specs.Parts.{Part}
 use Rattle.sheet.specs.Protocol.{chipsIn}
 use Rattle.sheet.specs.Checks.{checkPicture}
 use Rattle.sheet.specs.Pictures.{pictureOf, litIn, Seen}
-use Rattle.sheet.specs.Long.{State, registersOf, columnsOf, pictureCall}
+use Rattle.sheet.specs.Registers.{registersOf}
+use Rattle.sheet.specs.Long.{State, columnsOf, pictureCall}
 use Rattle.sheet.specs.Plain.{chipFits, checkChipPicture, chipPictureCall}
 use Rattle.sheet.specs.Agree.{groupChips, groupOf, chipsOf, Valid, chipSeen, litOf, chipPictures, chipsLit, withAddress, Shows}
 use Rattle.laws.proofs.Ranges.{InRange, in-range}

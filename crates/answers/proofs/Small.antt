@@ -11,7 +11,7 @@ use Rattle.sheet.specs.declared.Pictured.{Pictured}
 use Rattle.sheet.specs.declared.Rescued.{Rescued}
 use Rattle.sheet.specs.declared.Check.{Check}
 use Rattle.sheet.specs.declared.Refusal.{Refusal}
-use Rattle.sheet.specs.declared.Refusal.the-variants.{EmptyTransfer, LongTransfer, ChipCount, RamLength, RamByte, Register, UndefinedCommand, GroupOrPhase, OutputLength, ManyChips, ChipField, LogHead, CutRecord, LongLog, UnknownPart, StrayBits, ShortBody}
+use Rattle.sheet.specs.declared.Refusal.the-variants.{EmptyTransfer, LongTransfer, ChipCount, RamLength, RamByte, Register, UndefinedCommand, GroupOrPhase, OutputLength, ManyChips, ChipField, LogHead, CutRecord, LongLog, UnknownPart, StrayBits, UnknownPlace, BitCount, ShortBody}
 use Rattle.sheet.specs.Parts.{Part}
 use Rattle.sheet.specs.Refusals.{numberOf, numbers, plainNumbers, pictureNumbers, rescuedNumbers, checkNumbers}
 
@@ -32,6 +32,8 @@ small (CutRecord at) = omega arith
 small LongLog = omega arith
 small UnknownPart = omega arith
 small (StrayBits at) = omega arith
+small (UnknownPlace at) = omega arith
+small BitCount = omega arith
 small (ShortBody at) = omega arith
 
 module _ {l : List ℕ} where

@@ -32,6 +32,8 @@ pub fn number_of(refusal: Refusal) -> usize
         Refusal::LongLog => 14,
         Refusal::UnknownPart => 16,
         Refusal::StrayBits(_) => 17,
+        Refusal::UnknownPlace(_) => 18,
+        Refusal::BitCount => 19,
         Refusal::ShortBody(_) => 20,
     }
 }
@@ -46,6 +48,7 @@ pub fn place_of(refusal: Refusal) -> usize
         Refusal::ChipField(at) => at,
         Refusal::CutRecord(at) => at,
         Refusal::StrayBits(at) => at,
+        Refusal::UnknownPlace(at) => at,
         Refusal::ShortBody(at) => at,
         Refusal::EmptyTransfer => 0,
         Refusal::LongTransfer => 0,
@@ -58,6 +61,7 @@ pub fn place_of(refusal: Refusal) -> usize
         Refusal::LogHead => 0,
         Refusal::LongLog => 0,
         Refusal::UnknownPart => 0,
+        Refusal::BitCount => 0,
     }
 }
 

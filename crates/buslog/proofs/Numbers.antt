@@ -13,18 +13,20 @@ use Rattle.sheet.specs.declared.Chips.{Chips}
 use Rattle.sheet.specs.declared.Addressed.{Addressed}
 use Rattle.sheet.specs.declared.Addressed.the-variants.{To, Nobody}
 use Rattle.sheet.specs.declared.Kind.{Kind}
+use Rattle.sheet.specs.declared.Marks.{Marks}
 use Rattle.sheet.specs.declared.Expect.{Expect}
 use Rattle.sheet.specs.declared.Expect.the-variants.{Control, One, All}
 use Rattle.sheet.specs.declared.Refusal.{Refusal}
-use Rattle.sheet.specs.declared.Refusal.the-variants.{EmptyTransfer, LongTransfer, ChipCount, UndefinedCommand, LogHead, LongLog, StrayBits}
+use Rattle.sheet.specs.declared.Refusal.the-variants.{EmptyTransfer, LongTransfer, ChipCount, UndefinedCommand, LogHead, LongLog, StrayBits, UnknownPlace}
 use Rattle.sheet.specs.declared.Check.{Check}
 use Rattle.sheet.specs.declared.Check.the-variants.{Passed, Refused}
 use Rattle.sheet.specs.Refusals.{numberOf, placeOf, lastNumber, numbers}
-use Rattle.sheet.specs.Parts.{pcf8532}
+use Rattle.sheet.specs.Parts.{pcf8532, within}
+use Rattle.sheet.specs.Registers.{known, registersOf}
 use Rattle.sheet.specs.Commands.{defined}
-use Rattle.sheet.specs.Protocol.{heardBy, chipsIn, next}
-use Rattle.sheet.specs.Checks.{unless, orElse, checkChips, checkLength, faultOf, fault, faultIn, checkBytes, checkTransfer}
-use Rattle.sheet.specs.Long.{begun, State, Group, heard, taken, answered, transferCall, registersOf, columnsOf}
+use Rattle.sheet.specs.Protocol.{heardBy, chipsIn, next, whole, wholeOf}
+use Rattle.sheet.specs.Checks.{unless, orElse, checkChips, checkLength, checkBits, checkSent, faultOf, fault, marksAfter, faultIn, checkBytes, checkTransfer}
+use Rattle.sheet.specs.Long.{begun, State, Group, heard, taken, answered, transferCall, columnsOf}
 use Rattle.sheet.specs.Records.{Records, lengthOf, sizeOf, readIn, recordsFrom}
 use Rattle.sheet.specs.Logs.{seenBytes, logRecords, checkHead, checkLog}
 use Rattle.sheet.specs.Agree.{Valid}
@@ -55,23 +57,23 @@ unless-few true r s = tt
 unless-few false r s = s
 
 -- the place of a fault, of bytes from place i on
-kind-few : (k : Kind) (i x : ℕ) → i ≤ 99999 → Few (faultOf pcf8532 k i x)
-kind-few Kind.Command i x h = unless-few (defined (pcf8532 .command x)) (UndefinedCommand i) (omega arith)
-kind-few Kind.Data i x h = tt
+kind-few : (u : Marks) (k : Kind) (i x : ℕ) → i ≤ 99999 → Few (faultOf pcf8532 u k i x)
+kind-few u Kind.Command i x h = unless-few (defined (pcf8532 .command x)) (UndefinedCommand i) (omega arith)
+kind-few u Kind.Data i x h = unless-few (known u) (UnknownPlace i) (omega arith)
 
-fault-few : (e : Expect) (i x : ℕ) → i ≤ 99999 → Few (fault pcf8532 e i x)
-fault-few Control i x h = unless-few (eqb (x % 64) 0) (StrayBits i) (omega arith)
-fault-few (One k) i x h = kind-few k i x h
-fault-few (All k) i x h = kind-few k i x h
+fault-few : (u : Marks) (e : Expect) (i x : ℕ) → i ≤ 99999 → Few (fault pcf8532 u e i x)
+fault-few u Control i x h = unless-few (eqb (x % 64) 0) (StrayBits i) (omega arith)
+fault-few u (One k) i x h = kind-few u k i x h
+fault-few u (All k) i x h = kind-few u k i x h
 
 either : (a b : Check) → Few a → Few b → Few (orElse a b)
 either Passed b fa fb = fb
 either (Refused r) b fa fb = fa
 
-faults-few : (e : Expect) (i : ℕ) (xs : List ℕ) → i + length xs ≤ 99999 → Few (faultIn pcf8532 e i xs)
+faults-few : (u : Marks) (e : Expect) (i : ℕ) (xs : List ℕ) → i + length xs ≤ 99999 → Few (faultIn pcf8532 false u e i xs)
 unfolding faultIn
-faults-few e i [] h = tt
-faults-few e i (x ∷ xs) h = either (fault pcf8532 e i x) _ (fault-few e i x (omega arith)) (faults-few (next e x) (suc i) xs (omega arith))
+faults-few u e i [] h = tt
+faults-few u e i (x ∷ xs) h = either (fault pcf8532 u e i x) _ (fault-few u e i x (omega arith)) (faults-few (marksAfter pcf8532 u e x) (next e x) (suc i) xs (omega arith))
 
 -- each body has the bytes of what was seen
 abbrev pub Begun : ℕ → List (List ℕ) → Type 0
@@ -143,47 +145,48 @@ heard-few g bytes begun few last =
 -- in a state that no call refuses
 module _ (n : Chips) (s : State) (bytes : List ℕ) (v : Valid pcf8532 n s) (short : length bytes ≤ 65536) where
   -- a refusal's place
-  transfer-refused : Few (checkTransfer pcf8532 n (s .registers) (s .ram) bytes)
-  unfolding checkTransfer checkLength
+  transfer-refused : Few (checkTransfer pcf8532 n (s .registers) (s .ram) (whole bytes))
+  unfolding checkTransfer checkSent checkLength checkBits within wholeOf
   transfer-refused = rw v (lengths (ltb 0 (length bytes)) (leb (length bytes) 4096))
     where
-      commands : (to : Addressed) → Few (checkBytes pcf8532 to bytes)
-      commands (To g) = faults-few Control 1 (drop 1 bytes) (omega (arith, length-drop 1 bytes))
+      commands : (to : Addressed) → Few (checkBytes pcf8532 (s .registers) to (whole bytes))
+      commands (To g) = faults-few (registersOf g (s .registers) .unknown) Control 1 (drop 1 bytes) (omega (arith, length-drop 1 bytes))
       commands Nobody = tt
 
-      lengths : (t u : Bool) → Few (orElse (orElse (unless t EmptyTransfer) (unless u LongTransfer)) (checkBytes pcf8532 (heardBy n (getD bytes 0 0)) bytes))
+      lengths : (t u : Bool) → Few (orElse (orElse (orElse (unless t EmptyTransfer) (unless u LongTransfer)) Passed) (checkBytes pcf8532 (s .registers) (heardBy n (getD bytes 0 0)) (whole bytes)))
       lengths true true = commands (heardBy n (getD bytes 0 0))
       lengths true false = omega arith
       lengths false u = omega arith
 
   -- a taken transfer's counts
-  transfer-taken : checkTransfer pcf8532 n (s .registers) (s .ram) bytes ≡ Passed → (to : Addressed) → Told (taken pcf8532 n (s .registers) (s .ram) bytes to .result .answer)
+  transfer-taken : checkTransfer pcf8532 n (s .registers) (s .ram) (whole bytes) ≡ Passed → (to : Addressed) → Told (taken pcf8532 n (s .registers) (s .ram) (whole bytes) to .result .answer)
+  unfolding wholeOf
   transfer-taken e (To g) =
       let f = fits-of pcf8532 n (s .registers) (s .ram) v in
       let on = begun (registersOf g (s .registers)) (columnsOf pcf8532 n g (s .ram)) in
       let who = heard pcf8532 Control (drop 1 bytes) on .last in
       heard-few on bytes (record { acknowledged = omega arith; bits = omega arith })
-      (transfer-passed pcf8532 n (s .registers) (s .ram) bytes e .1 .1)
+      (transfer-passed pcf8532 n (s .registers) (s .ram) (whole bytes) e .1 .1)
       (last-few pcf8532 (chipsIn g n) who (few-chips-in pcf8532 n (s .registers) (s .ram) f g)
       (heard-among pcf8532 pcf8532-keeps (chipsIn g n) (drop 1 bytes) Control on (group-kept pcf8532 n (s .registers) (s .ram) f g) tt))
   transfer-taken e Nobody = (omega arith, omega arith)
 
   -- an answer's numbers
-  pub transfer-few : Told (transferCall pcf8532 n (s .registers) (s .ram) bytes .result .answer)
-  unfolding transferCall
-  transfer-few = by-check (checkTransfer pcf8532 n (s .registers) (s .ram) bytes) refl transfer-refused
+  pub transfer-few : Told (transferCall pcf8532 n (s .registers) (s .ram) (whole bytes) .result .answer)
+  unfolding transferCall wholeOf
+  transfer-few = by-check (checkTransfer pcf8532 n (s .registers) (s .ram) (whole bytes)) refl transfer-refused
     where
-      by-check : (k : Check) → checkTransfer pcf8532 n (s .registers) (s .ram) bytes ≡ k → Few k → Told (answered k (s .registers) (s .ram) (taken pcf8532 n (s .registers) (s .ram) bytes (heardBy n (getD bytes 0 0))) .result .answer)
+      by-check : (k : Check) → checkTransfer pcf8532 n (s .registers) (s .ram) (whole bytes) ≡ k → Few k → Told (answered k (s .registers) (s .ram) (taken pcf8532 n (s .registers) (s .ram) (whole bytes) (heardBy n (getD bytes 0 0))) .result .answer)
       by-check Passed e f = transfer-taken e (heardBy n (getD bytes 0 0))
       by-check (Refused r) e f = (omega arith, omega arith)
 
 -- of a transfer of no byte, or of the address alone, they have one digit each
-pub transfer-short : (n : Chips) (s : State) (bytes : List ℕ) → Valid pcf8532 n s → length bytes < 2 → Below 0 (numbers pcf8532 (transferCall pcf8532 n (s .registers) (s .ram) bytes .result .answer))
-unfolding transferCall checkTransfer checkLength faultIn heard
+pub transfer-short : (n : Chips) (s : State) (bytes : List ℕ) → Valid pcf8532 n s → length bytes < 2 → Below 0 (numbers pcf8532 (transferCall pcf8532 n (s .registers) (s .ram) (whole bytes) .result .answer))
+unfolding transferCall checkTransfer checkSent checkLength checkBits within wholeOf faultIn heard
 transfer-short n s [] v l = rw v (omega arith)
 transfer-short n s (x ∷ []) v l = rw v (by-address (heardBy n x))
   where
-    by-address : (to : Addressed) → Below 0 (numbers pcf8532 (answered (checkBytes pcf8532 to (x ∷ [])) (s .registers) (s .ram) (taken pcf8532 n (s .registers) (s .ram) (x ∷ []) to) .result .answer))
+    by-address : (to : Addressed) → Below 0 (numbers pcf8532 (answered (checkBytes pcf8532 (s .registers) to (whole (x ∷ []))) (s .registers) (s .ram) (taken pcf8532 n (s .registers) (s .ram) (whole (x ∷ [])) to) .result .answer))
     by-address (To g) = omega arith
     by-address Nobody = omega arith
 transfer-short n s (x ∷ y ∷ xs) v l = absurd (omega arith)

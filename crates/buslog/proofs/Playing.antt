@@ -11,6 +11,7 @@ use Rattle.lemmas.proofs.Lists.{drop-take}
 use Rattle.sheet.specs.declared.Chips.{Chips}
 use Rattle.sheet.specs.declared.Check.the-variants.{Passed}
 use Rattle.sheet.specs.Parts.{pcf8532}
+use Rattle.sheet.specs.Protocol.{whole}
 use Rattle.sheet.specs.Long.{State, After, stateOf, transferCall, stateAfterAll}
 use Rattle.sheet.specs.Logs.{seenBytes, logRecords, transfersIn, logTransfers, recordLines, transferLines}
 use Rattle.text.specs.Texts.{Puts}
@@ -35,7 +36,7 @@ transfer-in seen start size log h =
 -- a turn: the record there is whole, and its transfer is carried out
 module _ {log : List ℕ} {n : Chips} {s₀ : State} {out₀ : List ℕ} {s : State} {out : List ℕ} {i at place start size count : ℕ} {t : After}
     (p : Playing log n s₀ out₀ s out i at place) (f : Next (seenBytes log) log place start size count)
-    (told : t ≡ transferCall pcf8532 n (s .registers) (s .ram) (take (start + size - (start + seenBytes log)) (drop (start + seenBytes log) log))) where
+    (told : t ≡ transferCall pcf8532 n (s .registers) (s .ram) (whole (take (start + size - (start + seenBytes log)) (drop (start + seenBytes log) log)))) where
   -- the record's lines, and those after it
   pub one-more : Writing 0 (transferLines (seenBytes log) n 0 s₀ (logRecords log .bodies)) out₀ at
       (recordLines (seenBytes log) i count (t .result .answer) ++ transferLines (seenBytes log) n (i + 1) (stateOf (t .result .registers) (t .ram)) (recordsAt (seenBytes log) log (start + size) .bodies)) out

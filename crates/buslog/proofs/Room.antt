@@ -19,12 +19,12 @@ use Rattle.sheet.specs.declared.Check.{Check}
 use Rattle.sheet.specs.declared.Check.the-variants.{Passed, Refused}
 use Rattle.sheet.specs.Refusals.{numberOf, placeOf, numbers}
 use Rattle.sheet.specs.Parts.{pcf8532}
-use Rattle.sheet.specs.Registers.{backplanes}
-use Rattle.sheet.specs.Protocol.{chipsIn}
+use Rattle.sheet.specs.Registers.{backplanes, registersOf}
+use Rattle.sheet.specs.Protocol.{chipsIn, whole}
 use Rattle.sheet.specs.Records.{sizeOf}
 use Rattle.sheet.specs.Pictures.{shown, lit, pictureOf, litIn}
-use Rattle.sheet.specs.Long.{State, stateAfter, transferCall, registersOf, columnsOf, startOf, stateAfterAll}
-use Rattle.sheet.specs.Logs.{logChips, seenBytes, logRecords, logTransfers, checkLog, line, transferLetter, seenLetter, columnLetter, groupLetter, refusalLetter, transferLine, modelled, seenIn, seenLine, recordLines, transferLines, columnLine, columnLines, groupLine, shownAt, endLines, logStart, logLines, textBy, textOf}
+use Rattle.sheet.specs.Long.{State, stateAfter, transferCall, columnsOf, startOf, stateAfterAll}
+use Rattle.sheet.specs.Logs.{logChips, seenBytes, logRecords, transferIn, logTransfers, checkLog, line, transferLetter, seenLetter, columnLetter, groupLetter, refusalLetter, transferLine, modelled, seenIn, seenLine, recordLines, transferLines, columnLine, columnLines, groupLine, shownAt, endLines, logStart, logLines, textBy, textOf}
 use Rattle.sheet.specs.Agree.{Valid}
 use Rattle.laws.proofs.Nibbles.{Nibbles, take-nibbles, drop-nibbles}
 use Rattle.laws.proofs.Fits.{fits-of}
@@ -51,9 +51,9 @@ and-last (Answer.Refused r) = refl
 
 -- ten bytes at most for each byte of the record: a line of one digit a count for a record of no byte or one, and else 40
 transfer-line : (n : Chips) (i : ℕ) (s : State) (t : List ℕ) → Valid pcf8532 n s → length t ≤ 65536 → i < 100000
-    → length (transferLine i (transferCall pcf8532 n (s .registers) (s .ram) t .result .answer)) ≤ 10 * (length t + 2)
+    → length (transferLine i (transferCall pcf8532 n (s .registers) (s .ram) (whole t) .result .answer)) ≤ 10 * (length t + 2)
 transfer-line n i s t v short h =
-    let a = transferCall pcf8532 n (s .registers) (s .ram) t .result .answer in
+    let a = transferCall pcf8532 n (s .registers) (s .ram) (whole t) .result .answer in
     ⊎-elim (λ (l : length t < 2). omega (arith, line-short transferLetter i (numbers pcf8532 a) h (transfer-short n s t v l) (six a)))
     (λ (l : 2 ≤ length t).
     let told = transfer-few n s t v short in
@@ -77,14 +77,14 @@ seenBy two = cond two 2 0
 
 -- the bytes seen are two of the record's, and make room for their line
 record-lines : (two : Bool) (n : Chips) (i : ℕ) (s : State) (body : List ℕ) → Valid pcf8532 n s → length body ≤ 65536 → i < 100000 → seenIn body < 65536
-    → let seen = seenBy two in seen ≤ length body → length (recordLines seen i (seenIn body) (transferCall pcf8532 n (s .registers) (s .ram) (drop seen body) .result .answer)) ≤ 10 * (length body + 2)
+    → let seen = seenBy two in seen ≤ length body → length (recordLines seen i (seenIn body) (transferCall pcf8532 n (s .registers) (s .ram) (transferIn seen body) .result .answer)) ≤ 10 * (length body + 2)
 record-lines true n i s body v short h c two =
-    let a = transferCall pcf8532 n (s .registers) (s .ram) (drop 2 body) .result .answer in
+    let a = transferCall pcf8532 n (s .registers) (s .ram) (whole (drop 2 body)) .result .answer in
     let less = length-drop 2 body in
     let told = transfer-few n s (drop 2 body) v (omega arith) in
     omega (arith, length-append (transferLine i a) (seenLine i (seenIn body) (modelled a)), transfer-line n i s (drop 2 body) v (omega arith) h, seen-few i (seenIn body) (modelled a) h (omega arith) (modelled-few a told))
 record-lines false n i s body v short h c two =
-    let a = transferCall pcf8532 n (s .registers) (s .ram) body .result .answer in
+    let a = transferCall pcf8532 n (s .registers) (s .ram) (whole body) .result .answer in
     omega (arith, length-append (transferLine i a) [], transfer-line n i s body v short h)
 
 -- i records before these had two bytes at least
@@ -94,13 +94,13 @@ unfolding transferLines
 transfers-few two n i s [] v h b c = omega arith
 transfers-few two n i s (body ∷ bodies) v h b c =
     let seen = seenBy two in
-    let after = stateAfter pcf8532 n s (drop seen body) in
-    let lines = recordLines seen i (seenIn body) (transferCall pcf8532 n (s .registers) (s .ram) (drop seen body) .result .answer) in
+    let after = stateAfter pcf8532 n s (transferIn seen body) in
+    let lines = recordLines seen i (seenIn body) (transferCall pcf8532 n (s .registers) (s .ram) (transferIn seen body) .result .answer) in
     omega (
       arith,
       length-append lines (transferLines seen n (suc i) after bodies),
       record-lines two n i s body v (omega arith) (omega arith) (c .0) (b .0),
-      transfers-few two n (suc i) after bodies (demand3 pcf8532 (omega arith) pcf8532-keeps .transfer n s (drop seen body) v .valid) (omega arith) (b .1) (c .1),
+      transfers-few two n (suc i) after bodies (demand3 pcf8532 (omega arith) pcf8532-keeps .transfer n s (transferIn seen body) v .valid) (omega arith) (b .1) (c .1),
     )
 
 -- ---- pictures

@@ -54,7 +54,7 @@ fn put_transfers(log: &[u8], chips: Chips, initial: Both, ram: &mut [u8], out: &
     while let Record::Body { start, size, count } = cursor.read(log) {
         let end = start + size;
         let from = start + seen;
-        let done = long::transfer(sheet::PCF8532, chips, registers, ram, &log[from..end]);
+        let done = long::transfer(sheet::PCF8532, chips, registers, ram, &log[from..end], 8);
         registers = done.registers;
         let answer = done.answer;
         at = lines::put_record(out, at, seen, index, count, answer);

@@ -7,6 +7,7 @@ use lib.ListN.{length, getD}
 use Rattle.sheet.specs.declared.Chips.{Chips}
 use Rattle.sheet.specs.Refusals.{numbers, plainNumbers, pictureNumbers, rescuedNumbers, checkNumbers}
 use Rattle.sheet.specs.Parts.{partOf}
+use Rattle.sheet.specs.Protocol.{Sent}
 use Rattle.sheet.specs.Pictures.{Seen}
 use Rattle.sheet.specs.Long.{powerOnPart, transferPart, picturePart}
 use Rattle.sheet.specs.Plain.{chipPowerOnPart, chipPicturePart}
@@ -26,10 +27,10 @@ pub record Called : Type 0 where
   pub buffer : List ℕ
   pub answer : List ℕ
 
--- 255, and nothing is written, unless registers are 18 bytes and an answer has six numbers
+-- 255, and nothing is written, unless registers are 24 bytes and an answer has six numbers
 abbrev pub sized : List ℕ → List ℕ → List ℕ → Called → Called
 sized registers buffer answer c =
-    cond (eqb (length registers) 18 && eqb (length answer) 6) c (record { number = 255; registers = registers; buffer = buffer; answer = answer })
+    cond (eqb (length registers) 24 && eqb (length answer) 6) c (record { number = 255; registers = registers; buffer = buffer; answer = answer })
 
 unfoldable pub powerOnC : ℕ → ℕ → ℕ → List ℕ → List ℕ → List ℕ → Called
 powerOnC part z o ram registers answer =
@@ -37,9 +38,9 @@ powerOnC part z o ram registers answer =
     let k = checkNumbers (p .check) in
     sized registers ram answer (record { number = getD k 0 0; registers = bothBytes (p .registers); buffer = ram; answer = k })
 
-unfoldable pub transferC : ℕ → ℕ → ℕ → List ℕ → List ℕ → List ℕ → List ℕ → Called
-transferC part z o registers ram bytes answer =
-    let t = transferPart part (chipsOf z o) (bothOf registers) ram bytes in
+unfoldable pub transferC : ℕ → ℕ → ℕ → List ℕ → List ℕ → Sent → List ℕ → Called
+transferC part z o registers ram transfer answer =
+    let t = transferPart part (chipsOf z o) (bothOf registers) ram transfer in
     let k = numbers (partOf part) (t .result .answer) in
     sized registers ram answer (record { number = getD k 0 0; registers = bothBytes (t .result .registers); buffer = t .ram; answer = k })
 
@@ -63,24 +64,24 @@ seenC whole s out answer =
 -- of a group, and of one chip
 unfoldable pub pictureC : ℕ → ℕ → ℕ → List ℕ → List ℕ → ℕ → ℕ → List ℕ → List ℕ → Filled
 pictureC part z o registers ram group phase out answer =
-    seenC (eqb (length registers) 18) (picturePart part (chipsOf z o) (bothOf registers) ram group phase out) out answer
+    seenC (eqb (length registers) 24) (picturePart part (chipsOf z o) (bothOf registers) ram group phase out) out answer
 
 unfoldable pub chipPictureC : ℕ → List ℕ → ℕ → List ℕ → List ℕ → Filled
-chipPictureC part chip phase out answer = seenC (eqb (length chip) 171) (chipPicturePart part (chipIn chip) phase out) out answer
+chipPictureC part chip phase out answer = seenC (eqb (length chip) 174) (chipPicturePart part (chipIn chip) phase out) out answer
 
--- one chip, 171 bytes: taken or refused, only the registers are new
+-- one chip, 174 bytes: taken or refused, only the registers are new
 unfoldable pub chipPowerOnC : ℕ → List ℕ → List ℕ → Filled
 chipPowerOnC part chip answer =
     let p = chipPowerOnPart part (chipIn chip) in
     let k = checkNumbers (p .check) in
-    filled (eqb (length chip) 171) chip answer (record { number = getD k 0 0; buffer = chipBytes (p .chip); answer = k })
+    filled (eqb (length chip) 174) chip answer (record { number = getD k 0 0; buffer = chipBytes (p .chip); answer = k })
 
--- a list of chips, 171 bytes each
-unfoldable pub plainC : ℕ → List ℕ → List ℕ → List ℕ → Filled
-plainC part chips bytes answer =
-    let s = lentCall part chips bytes in
+-- a list of chips, 174 bytes each
+unfoldable pub plainC : ℕ → List ℕ → Sent → List ℕ → Filled
+plainC part chips transfer answer =
+    let s = lentCall part chips transfer in
     let k = plainNumbers (partOf part) (s .answer) in
-    filled (eqb (length chips % 171) 0) chips answer (record { number = getD k 0 0; buffer = s .chips; answer = k })
+    filled (eqb (length chips % 174) 0) chips answer (record { number = getD k 0 0; buffer = s .chips; answer = k })
 
 -- what is whole of a torn log
 unfoldable pub rescueC : List ℕ → List ℕ → List ℕ → Filled

@@ -1,8 +1,9 @@
-// The model for C and Rust: numbers and lent buffers only. A part is its number, 0 the PCF8532 and 1 the PCA85133. Registers are 18 bytes, group 0's nine and then group 1's, in the order E B M P A I O AB BF;
-// a chip is 171 bytes (`wire`); an answer is six numbers: answer, place, acknowledged, stored, discarded, and who acknowledged the last data byte. A buffer of another size is answered 255 and nothing is written.
+// The model for C and Rust: numbers and lent buffers only. A part is its number, 0 the PCF8532 and 1 the PCA85133. Registers are 24 bytes, group 0's twelve and then group 1's, in the order E B M P A I O AB BF and the marks of pointer high, pointer low and device-select;
+// a chip is 174 bytes (`wire`); an answer is six numbers: answer, place, acknowledged, stored, discarded, and who acknowledged the last data byte. A buffer of another size is answered 255 and nothing is written.
 use buslog::Replayed;
 use sheet::Chips;
 ghost use mathlib.Core.Path.{_≡_};
+ghost use Rattle.sheet.specs.Protocol.{sent};
 ghost use Rattle.buslog.specs.Replays.{replayCall};
 ghost use Rattle.cabi.specs.Calls.{powerOnC, transferC, pictureC, chipPowerOnC, chipPictureC, plainC, rescueC, replayNumber};
 
@@ -18,7 +19,7 @@ pub extern "C" fn humtrellis_power_on(
 ) -> u8
     ensures { λ r. ⌜ powerOnC part chips0 chips1 (now (ram .entry)) (now (registers .entry)) (now (answer .entry)) ≡ record { number = r; registers = now (registers .exit); buffer = now (ram .entry); answer = now (answer .exit) } ⌝ }
 {
-    if (registers.len() == 18) & (answer.len() == 6) {
+    if (registers.len() == 24) & (answer.len() == 6) {
         let chips = Chips {
             zero: chips0,
             one: chips1,
@@ -33,7 +34,7 @@ pub extern "C" fn humtrellis_power_on(
     }
 }
 
-// A transfer of the long account, taken or refused by 16, 3, 6, 4, 5, 1, 2, then 7 and 17.
+// A transfer of the long account, of whose last byte so many bits came, taken or refused by 16, 3, 6, 4, 5, 1, 2, 19, then 7, 17 and 18.
 #[no_mangle]
 pub extern "C" fn humtrellis_transfer(
     part: u8,
@@ -42,17 +43,18 @@ pub extern "C" fn humtrellis_transfer(
     registers: &mut [u8],
     ram: &mut [u8],
     bytes: &[u8],
+    bits: u8,
     answer: &mut [usize],
 ) -> u8
-    ensures { λ r. ⌜ transferC part chips0 chips1 (now (registers .entry)) (now (ram .entry)) (now (bytes .entry)) (now (answer .entry)) ≡ record { number = r; registers = now (registers .exit); buffer = now (ram .exit); answer = now (answer .exit) } ⌝ }
+    ensures { λ r. ⌜ transferC part chips0 chips1 (now (registers .entry)) (now (ram .entry)) (sent (now (bytes .entry)) bits) (now (answer .entry)) ≡ record { number = r; registers = now (registers .exit); buffer = now (ram .exit); answer = now (answer .exit) } ⌝ }
 {
-    if (registers.len() == 18) & (answer.len() == 6) {
+    if (registers.len() == 24) & (answer.len() == 6) {
         let chips = Chips {
             zero: chips0,
             one: chips1,
         };
         let before = wire::both_of(registers);
-        let done = long::transfer(part, chips, before, ram, bytes);
+        let done = long::transfer(part, chips, before, ram, bytes, bits);
         let after = done.registers;
         let said = done.answer;
         wire::put_both(after, registers);
@@ -77,7 +79,7 @@ pub extern "C" fn humtrellis_picture(
 ) -> u8
     ensures { λ r. ⌜ pictureC part chips0 chips1 (now (registers .entry)) (now (ram .entry)) group phase (now (out .entry)) (now (answer .entry)) ≡ record { number = r; buffer = now (out .exit); answer = now (answer .exit) } ⌝ }
 {
-    if (registers.len() == 18) & (answer.len() == 6) {
+    if (registers.len() == 24) & (answer.len() == 6) {
         let chips = Chips {
             zero: chips0,
             one: chips1,
@@ -95,7 +97,7 @@ pub extern "C" fn humtrellis_picture(
 pub extern "C" fn humtrellis_chip_power_on(part: u8, chip: &mut [u8], answer: &mut [usize]) -> u8
     ensures { λ r. ⌜ chipPowerOnC part (now (chip .entry)) (now (answer .entry)) ≡ record { number = r; buffer = now (chip .exit); answer = now (answer .exit) } ⌝ }
 {
-    if (chip.len() == 171) & (answer.len() == 6) {
+    if (chip.len() == 174) & (answer.len() == 6) {
         let before = wire::chip_of(chip);
         let done = chip::power_on(part, before);
         let after = done.chip;
@@ -118,7 +120,7 @@ pub extern "C" fn humtrellis_chip_picture(
 ) -> u8
     ensures { λ r. ⌜ chipPictureC part (now (chip .entry)) phase (now (out .entry)) (now (answer .entry)) ≡ record { number = r; buffer = now (out .exit); answer = now (answer .exit) } ⌝ }
 {
-    if (chip.len() == 171) & (answer.len() == 6) {
+    if (chip.len() == 174) & (answer.len() == 6) {
         let before = wire::chip_of(chip);
         let shown = chip::picture(part, before, phase, out);
         wire::put_numbers(answers::picture_numbers(shown), answer)
@@ -127,18 +129,19 @@ pub extern "C" fn humtrellis_chip_picture(
     }
 }
 
-// A transfer to a list of chips, taken or refused by 16, 10, 11, 1, 2, then 7 and 17.
+// A transfer to a list of chips, of whose last byte so many bits came, taken or refused by 16, 10, 11, 1, 2, 19, then 7, 17 and 18.
 #[no_mangle]
 pub extern "C" fn humtrellis_plain_transfer(
     part: u8,
     chips: &mut [u8],
     bytes: &[u8],
+    bits: u8,
     answer: &mut [usize],
 ) -> u8
-    ensures { λ r. ⌜ plainC part (now (chips .entry)) (now (bytes .entry)) (now (answer .entry)) ≡ record { number = r; buffer = now (chips .exit); answer = now (answer .exit) } ⌝ }
+    ensures { λ r. ⌜ plainC part (now (chips .entry)) (sent (now (bytes .entry)) bits) (now (answer .entry)) ≡ record { number = r; buffer = now (chips .exit); answer = now (answer .exit) } ⌝ }
 {
-    if (chips.len() % 171 == 0) & (answer.len() == 6) {
-        let said = lent::transfer(part, chips, bytes);
+    if (chips.len() % 174 == 0) & (answer.len() == 6) {
+        let said = lent::transfer(part, chips, bytes, bits);
         wire::put_numbers(answers::plain_numbers(part, said), answer)
     } else {
         255

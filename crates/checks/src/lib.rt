@@ -7,7 +7,8 @@ ghost use Prim.Native.Nat.{max};
 ghost use lib.ListN.{getD};
 ghost use Rattle.checks.specs.Highest.{highestOf};
 ghost use Rattle.sheet.specs.Parts.{partOf};
-ghost use Rattle.sheet.specs.Checks.{unless, overIn, checkPart, checkChips, checkLength, passed};
+ghost use Rattle.sheet.specs.Protocol.{sent, wholeCount, addressByte};
+ghost use Rattle.sheet.specs.Checks.{unless, orElse, overIn, checkPart, checkChips, checkLength, checkBits, passed};
 
 // Refused unless a test holds.
 pub fn unless(holds: bool, refusal: Refusal) -> Check
@@ -109,4 +110,35 @@ pub fn check_length(size: usize) -> Check
     } else {
         Check::Refused(Refusal::EmptyTransfer)
     }
+}
+
+// A transfer of so many bytes, of the last of which so many bits came: 1, 2, 19.
+pub fn check_sent(size: usize, bits: u8) -> Check
+    ensures { λ r. ⌜ r ≡ orElse (checkLength size) (checkBits bits) ⌝ }
+{
+    match check_length(size) {
+        Check::Refused(refusal) => Check::Refused(refusal),
+        Check::Passed => unless((1 <= bits) & (bits <= 8), Refusal::BitCount),
+    }
+}
+
+// How many of a transfer's bytes are whole: all, or all but the one that is cut.
+pub fn whole_count(size: usize, bits: u8) -> usize
+    ensures { λ r. ⌜ r ≡ wholeCount size bits ⌝ }
+{
+    if 8 <= bits {
+        size
+    } else if size == 0 {
+        0
+    } else {
+        size - 1
+    }
+}
+
+// Byte 0 of a transfer; 0, which is nobody's address, where it is cut or not there.
+pub fn address_byte(bytes: &[u8], bits: u8) -> u8
+    ensures { λ r. ⌜ r ≡ addressByte (sent (now (bytes .entry)) bits) ⌝ }
+{
+    let whole = whole_count(bytes.len(), bits);
+    byte_at(&bytes[..whole], 0)
 }

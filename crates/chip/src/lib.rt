@@ -4,6 +4,7 @@ use sheet::Chip;
 use sheet::ChipPowerOn;
 use sheet::Expect;
 use sheet::Kind;
+use sheet::Marks;
 use sheet::Pictured;
 use sheet::Refusal;
 use sheet::Registers;
@@ -17,7 +18,7 @@ ghost use Rattle.sheet.specs.Registers.{inRange};
 ghost use Rattle.sheet.specs.Commands.{obeyed};
 ghost use Rattle.sheet.specs.Checks.{orElse, checkPart, overIn, passed};
 ghost use Rattle.sheet.specs.Pictures.{pictureOf, litIn};
-ghost use Rattle.sheet.specs.Plain.{withRegisters, chipByteOf, chipByte, acknowledgesOf, acknowledgesByte, chipStepped, chipAnswers, hears, chipFits, chipPowerOn, checkChipPicture, chipPowerOnPart, chipPicturePart};
+ghost use Rattle.sheet.specs.Plain.{withRegisters, chipByteOf, chipByte, acknowledgesOf, acknowledgesByte, chipStepped, chipAnswers, chipLost, hears, chipFits, chipPowerOn, checkChipPicture, chipPowerOnPart, chipPicturePart};
 
 // The chip's registers after a command byte: it obeys every command, selected or not.
 fn obey(part: u8, chip: Chip, byte: u8) -> Registers
@@ -101,6 +102,23 @@ pub fn acknowledges(part: u8, chip: Chip, expect: Expect, byte: u8) -> bool
     } else {
         false
     }
+}
+
+// The chip after a byte that is cut: data makes its pointer and counter unknown.
+pub fn lose(mut chip: Chip, is_data: bool) -> Chip
+    ensures { λ r. ⌜ r ≡ chipLost is_data chip ⌝ }
+{
+    let registers = command::lose(is_data, chip.registers);
+    chip.registers = registers;
+    chip
+}
+
+// Its marks.
+pub fn marks(chip: Chip) -> Marks
+    ensures { λ r. ⌜ r ≡ chip .registers .unknown ⌝ }
+{
+    let registers = chip.registers;
+    registers.unknown
 }
 
 // Whether an address byte is the chip's.

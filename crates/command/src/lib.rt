@@ -1,11 +1,14 @@
 // The command bytes of each part and what they do to a group's registers.
 use sheet::Command;
+use sheet::Marks;
 use sheet::Registers;
 use sheet::Settings;
 ghost use mathlib.Core.Path.{_≡_};
+ghost use mathlib.Core.Bool.{_&&_};
+ghost use lib.Dec.{ltb};
 ghost use Rattle.sheet.specs.Parts.{partOf, pcf8532, pca85133, modeSet, blinkSelect, bankSelect};
-ghost use Rattle.sheet.specs.Registers.{powerOn, inRange};
-ghost use Rattle.sheet.specs.Commands.{defined, obeyed};
+ghost use Rattle.sheet.specs.Registers.{known, powerOn, lostBy, inRange};
+ghost use Rattle.sheet.specs.Commands.{defined, restored, obeyed};
 
 // ---- what both sheets have
 
@@ -112,21 +115,77 @@ pub fn is_defined(part: u8, byte: u8) -> bool
 
 // ---- what it does
 
-// The registers after a command byte.
+// Whether no mark is unknown.
+pub fn all_known(marks: Marks) -> bool
+    ensures { λ r. ⌜ r ≡ known marks ⌝ }
+{
+    (marks.high == 0) & ((marks.low == 0) & (marks.device == 0))
+}
+
+// The marks after a command byte, which restores its own.
+fn restore_own(part: u8, mut marks: Marks, byte: u8) -> Marks
+    ensures { λ r. ⌜ r ≡ restored ((partOf part .command) byte) marks ⌝ }
+{
+    match decode(part, byte) {
+        Command::PointerHigh(_) => {
+            marks.high = 0;
+            marks
+        }
+        Command::PointerLow(_) => {
+            marks.low = 0;
+            marks
+        }
+        Command::Pointer(_) => {
+            marks.high = 0;
+            marks.low = 0;
+            marks
+        }
+        Command::ModeSet(_) => marks,
+        Command::DeviceSelect(_) => {
+            marks.device = 0;
+            marks
+        }
+        Command::BlinkSelect { ab: _, bf: _ } => marks,
+        Command::BankSelect { i: _, o: _ } => marks,
+        Command::FrequencyCtrl => marks,
+        Command::Undefined => marks,
+    }
+}
+
+// The marks after a command byte. Mostly none is unknown, and then the byte is not looked at.
+pub fn restore(part: u8, marks: Marks, byte: u8) -> Marks
+    ensures { λ r. ⌜ r ≡ restored ((partOf part .command) byte) marks ⌝ }
+{
+    if all_known(marks) {
+        marks
+    } else {
+        restore_own(part, marks, byte)
+    }
+}
+
+// The registers after a command byte: what it sets, and the marks that it restores, in the same arm, so that the call stays small enough to be inlined.
 pub fn obey(part: u8, mut registers: Registers, byte: u8) -> Registers
     ensures { λ r. ⌜ r ≡ obeyed registers ((partOf part .command) byte) ⌝ }
 {
+    let mut unknown = registers.unknown;
     match decode(part, byte) {
         Command::PointerHigh(n) => {
             registers.p = 16 * (n as usize) + registers.p % 16;
+            unknown.high = 0;
+            registers.unknown = unknown;
             registers
         }
         Command::PointerLow(n) => {
             registers.p = registers.p - registers.p % 16 + (n as usize);
+            unknown.low = 0;
+            registers.unknown = unknown;
             registers
         }
         Command::Pointer(p) => {
             registers.p = p as usize;
+            unknown.high = 0;
+            unknown.low = 0;
+            registers.unknown = unknown;
             registers
         }
         Command::ModeSet(s) => {
@@ -137,6 +196,8 @@ pub fn obey(part: u8, mut registers: Registers, byte: u8) -> Registers
         }
         Command::DeviceSelect(n) => {
             registers.a = n as usize;
+            unknown.device = 0;
+            registers.unknown = unknown;
             registers
         }
         Command::BlinkSelect { ab, bf } => {
@@ -154,10 +215,35 @@ pub fn obey(part: u8, mut registers: Registers, byte: u8) -> Registers
     }
 }
 
+// The registers after a byte that is cut: data makes pointer and counter unknown, which keep their numbers.
+pub fn lose(lost: bool, mut registers: Registers) -> Registers
+    ensures { λ r. ⌜ r ≡ lostBy lost registers ⌝ }
+{
+    if lost {
+        let all = Marks {
+            high: 1,
+            low: 1,
+            device: 1,
+        };
+        registers.unknown = all;
+        registers
+    } else {
+        registers
+    }
+}
+
+// Whether every mark is 0 or 1.
+fn marks_fit(marks: Marks) -> bool
+    ensures { λ r. ⌜ r ≡ (ltb (marks .high) 2 && (ltb (marks .low) 2 && ltb (marks .device) 2)) ⌝ }
+{
+    (marks.high < 2) & ((marks.low < 2) & (marks.device < 2))
+}
+
 // Whether every register is in its range.
 pub fn in_range(part: u8, registers: Registers) -> bool
     ensures { λ r. ⌜ r ≡ inRange (partOf part) registers ⌝ }
 {
+    let unknown = registers.unknown;
     (registers.e < 2)
         & (registers.b < 2)
         & (registers.m < 4)
@@ -167,6 +253,7 @@ pub fn in_range(part: u8, registers: Registers) -> bool
         & (registers.o < 2)
         & (registers.ab < 2)
         & (registers.bf < 4)
+        & marks_fit(unknown)
 }
 
 // The registers at power-on.
@@ -183,5 +270,10 @@ pub fn power_on() -> Registers
         o: 0,
         ab: 0,
         bf: 0,
+        unknown: Marks {
+            high: 0,
+            low: 0,
+            device: 0,
+        },
     }
 }

@@ -5,8 +5,9 @@ use sheet::Chips;
 use sheet::Registers;
 ghost use mathlib.Core.Path.{_≡_};
 ghost use Rattle.sheet.specs.Parts.{partOf};
+ghost use Rattle.sheet.specs.Registers.{registersOf};
 ghost use Rattle.sheet.specs.Protocol.{heardBy, chipsIn};
-ghost use Rattle.sheet.specs.Long.{registersOf, replaced, startOf, endOf};
+ghost use Rattle.sheet.specs.Long.{replaced, startOf, endOf};
 
 // The group that hears an address byte. An empty transfer has none, and the 0 that stands for it is nobody's.
 pub fn heard_by(chips: Chips, address: u8) -> Addressed

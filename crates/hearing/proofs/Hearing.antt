@@ -1,11 +1,13 @@
 -- What holds while `hear` goes over the bytes: what is left gives the whole answer, the group keeps its ranges, and the counts are few.
 -- Assumes nothing.
 use mathlib.Core.Path.{_≡_, refl, sym, ap, ap₂, _∙_, subst}
+use mathlib.Core.Bool.{_&&_}
 use mathlib.Core.List.{List, [], _∷_, _++_}
 use Prim.Native.Nat.{ℕ, _+_, _-_, _*_, _≤_, _<_}
 use native.Mathlib.Nat.{le-of-lt}
 use native.Mathlib.Omega.{arith}
 use lib.ListN.{length, getD, take, drop, drop-of-length-le, length-drop, length-take, take-append-drop}
+use lib.Dec.{ltb}
 use lib.Seq.{drop-drop}
 use Rattle.lemmas.proofs.Lists.{part-one}
 use Rattle.sheet.specs.declared.Registers.{Registers}
@@ -13,27 +15,33 @@ use Rattle.sheet.specs.declared.Kind.{Kind}
 use Rattle.sheet.specs.declared.Expect.{Expect}
 use Rattle.sheet.specs.declared.Expect.the-variants.{Control, One, All}
 use Rattle.sheet.specs.Parts.{Part}
-use Rattle.sheet.specs.Protocol.{next}
-use Rattle.sheet.specs.Long.{Group, begun, byte, heard}
+use Rattle.sheet.specs.Registers.{lostBy}
+use Rattle.sheet.specs.Protocol.{next, nextAfter, sent, wholeOf, wholeCount, isData, cutData}
+use Rattle.sheet.specs.Long.{Group, begun, byte, heard, heardWhole}
 use Rattle.sheet.specs.Runs.{writtenBy}
 use Rattle.sheet.specs.Agree.{Keeps}
 use Rattle.laws.proofs.Runs.{run-at-once}
 use Rattle.laws.proofs.Kept.{Kept, heard-keeps}
 use Rattle.laws.proofs.Sums.{Few, heard-few}
-use Rattle.laws.proofs.Joined.{nextAfter, heard-joined}
+use Rattle.laws.proofs.Wholes.{whole-taken}
+use Rattle.laws.proofs.Joined.{next-joined, heard-joined}
 use Rattle.protocol.specs.declared.Listener.{Listener}
-use Rattle.protocol.specs.Listeners.{groupOf, dataEnd, stepped, ran}
+use Rattle.protocol.specs.Listeners.{groupOf, dataEnd, stepped, ran, endedBy}
 
 pub record Hearing (K : Part) (ram₀ bytes : List ℕ) (r : Registers) (ram : List ℕ) (l : Listener) (i : ℕ) : Type 0 where
   pub rest : heard K (l .expect) (drop i bytes) (groupOf l ram) ≡ heard K Control (drop 1 bytes) (begun r ram₀)
   pub kept : Kept K (length ram₀) (groupOf l ram)
   pub few : Few i (l .counts)
-  pub most : i ≤ length bytes
+  pub then : nextAfter (l .expect) (drop i bytes) ≡ nextAfter Control (drop 1 bytes)
+  pub most : i ≤ length bytes + 1
 
 -- past the last byte nothing is heard
 pub at-end : (K : Part) (e : Expect) (bytes : List ℕ) (n : ℕ) → length bytes ≤ n → (g : Group) → heard K e (drop n bytes) g ≡ g
 unfolding heard
 at-end K e bytes n m g = rw (drop-of-length-le bytes m)
+
+pub at-end-next : (e : Expect) (bytes : List ℕ) (n : ℕ) → length bytes ≤ n → nextAfter e (drop n bytes) ≡ e
+at-end-next e bytes n m = rw (drop-of-length-le bytes m)
 
 -- the part of a list from i to end, and the rest
 parts : (bytes : List ℕ) (i end : ℕ) → i ≤ end → drop i bytes ≡ take (end - i) (drop i bytes) ++ drop end bytes
@@ -88,7 +96,12 @@ module _ (K : Part) (keeps : Keeps K) (ram₀ bytes : List ℕ) (r : Registers) 
         few =
             subst (λ (n : ℕ). Few n (l′ .counts)) {x = i + length xs} (omega (arith, part-length bytes i end most))
             (subst (λ (k : Group). Few (i + length xs) (k .counts)) (sym g) (heard-few K (l .expect) xs (groupOf l ram) i (inv .few)));
-        most = most;
+        then =
+            ap (λ (e : Expect). nextAfter e (drop end bytes)) then
+            ∙ sym (next-joined (l .expect) xs (drop end bytes))
+            ∙ ap (nextAfter (l .expect)) (sym (parts bytes i end le))
+            ∙ inv .then;
+        most = omega arith;
       }
 
   -- a byte that is no data
@@ -120,3 +133,23 @@ module _ (K : Part) (keeps : Keeps K) (ram₀ bytes : List ℕ) (r : Registers) 
       ∙ ap₂ (λ (n size : ℕ). groupOf (ran K l n size) (writtenBy K (l .registers) xs ram)) (sym (part-length bytes i end most)) (sym (inv .kept .columns))
       ∙ sym (run-at-once K xs (groupOf l ram) (inv .kept .range .p-in) (inv .kept .range .a-in) (rw (inv .kept .columns) small))
       ∙ sym (run .alike (groupOf l ram)))
+
+-- ---- all of a transfer: its whole bytes are the first k, and the listener ends with the one that is cut
+
+module _ (K : Part) (bytes : List ℕ) (bits k : ℕ) (ek : k ≡ wholeCount (length bytes) bits) (g : Group) (l : Listener) (ram : List ℕ) where
+  whole-is : take k bytes ≡ wholeOf (sent bytes bits)
+  whole-is = ap (λ (n : ℕ). take n bytes) ek ∙ whole-taken bytes bits
+
+  pub whole-heard : groupOf l ram ≡ heard K Control (drop 1 (take k bytes)) g → l .expect ≡ nextAfter Control (drop 1 (take k bytes))
+      → (l′ : Listener) → l′ ≡ endedBy (ltb bits 8) l → groupOf l′ ram ≡ heardWhole K (sent bytes bits) g
+  unfolding cutData
+  whole-heard eg ee l′ el =
+      let group : groupOf l ram ≡ heard K Control (drop 1 (wholeOf (sent bytes bits))) g = eg ∙ ap (λ (xs : List ℕ). heard K Control (drop 1 xs) g) whole-is in
+      let expect : l .expect ≡ nextAfter Control (drop 1 (wholeOf (sent bytes bits))) = ee ∙ ap (λ (xs : List ℕ). nextAfter Control (drop 1 xs)) whole-is in
+      ap (λ (m : Listener). groupOf m ram) el
+      ∙ (λ j. record {
+        registers = lostBy (ltb bits 8 && isData (expect j)) (group j .registers);
+        ram = group j .ram;
+        counts = group j .counts;
+        last = group j .last;
+      })

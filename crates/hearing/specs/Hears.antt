@@ -14,5 +14,4 @@ pub record Hears (K : Part) (ram : List ℕ) (r : Registers) (bytes : List ℕ) 
   pub range : inRange K r ≡ true
   pub few : length ram ≤ 640
   pub nibbles : overIn 0 ram ≡ Passed
-  pub some : 0 < length bytes
   pub short : length bytes < 4097

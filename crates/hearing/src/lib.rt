@@ -5,14 +5,16 @@ ghost use mathlib.Core.Path.{_≡_};
 ghost use lib.ListN.{drop};
 ghost use Rattle.sheet.specs.declared.Expect.the-variants.{Control};
 ghost use Rattle.sheet.specs.Parts.{partOf};
-ghost use Rattle.sheet.specs.Long.{begun, heard};
+ghost use Rattle.sheet.specs.Protocol.{nextAfter, sent};
+ghost use Rattle.sheet.specs.Long.{begun, heard, heardWhole};
 ghost use Rattle.protocol.specs.Listeners.{groupOf};
 ghost use Rattle.hearing.specs.Hears.{Hears};
 
-// What a group makes of a transfer that is for it. A run is handed on as a part of the bytes, from one place, so that the call is inlined.
-pub fn hear(part: u8, ram: &mut [u8], registers: Registers, bytes: &[u8]) -> Listener
+// What a group makes of the whole bytes of a transfer. A run is handed on as a part of the bytes, from one place, so that the call is inlined.
+fn hear_bytes(part: u8, ram: &mut [u8], registers: Registers, bytes: &[u8]) -> Listener
     requires { ⌜ Hears (partOf part) (now ram) registers (now bytes) ⌝ }
     ensures { λ r. ⌜ groupOf r (now (ram .exit)) ≡ heard (partOf part) Control (drop 1 (now (bytes .entry))) (begun registers (now (ram .entry))) ⌝ }
+    ensures { λ r. ⌜ r .expect ≡ nextAfter Control (drop 1 (now (bytes .entry))) ⌝ }
 {
     let n = bytes.len();
     let size = ram.len();
@@ -32,4 +34,14 @@ pub fn hear(part: u8, ram: &mut [u8], registers: Registers, bytes: &[u8]) -> Lis
         }
     }
     listener
+}
+
+// What a group makes of a transfer that is for it.
+pub fn hear(part: u8, ram: &mut [u8], registers: Registers, bytes: &[u8], bits: u8) -> Listener
+    requires { ⌜ Hears (partOf part) (now ram) registers (now bytes) ⌝ }
+    ensures { λ r. ⌜ groupOf r (now (ram .exit)) ≡ heardWhole (partOf part) (sent (now (bytes .entry)) bits) (begun registers (now (ram .entry))) ⌝ }
+{
+    let whole = checks::whole_count(bytes.len(), bits);
+    let listener = hear_bytes(part, ram, registers, &bytes[..whole]);
+    listener.end(bits < 8)
 }

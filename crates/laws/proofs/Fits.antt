@@ -18,8 +18,8 @@ use Rattle.sheet.specs.declared.Check.{Check}
 use Rattle.sheet.specs.declared.Check.the-variants.{Passed, Refused}
 use Rattle.sheet.specs.Parts.{Part}
 use Rattle.sheet.specs.Registers.{inRange, powerOn}
-use Rattle.sheet.specs.Protocol.{chipsIn}
-use Rattle.sheet.specs.Checks.{unless, orElse, overIn, checkChips, checkRegisters, checkRam, checkLength, checkState, checkPowerOn, checkTransfer, checkPicture, passed}
+use Rattle.sheet.specs.Protocol.{chipsIn, Sent}
+use Rattle.sheet.specs.Checks.{unless, orElse, overIn, checkChips, checkRegisters, checkRam, checkLength, checkSent, checkState, checkPowerOn, checkTransfer, checkPicture, passed}
 use Rattle.sheet.specs.Plain.{chipFits, checkChipPicture, misfitIn}
 use Rattle.sheet.specs.Agree.{AllIn}
 use Rattle.sheet.specs.Long.{bothOn}
@@ -84,7 +84,7 @@ pub power-on-in : (K : Part) → 0 < K .columns → InRange K powerOn
 power-on-in K pc =
     let two : 0 < 2 = omega arith in
     let four : 0 < 4 = omega arith in
-    record { e-in = two; b-in = two; m-in = four; p-in = pc; a-in = zero-le; i-in = two; o-in = two; ab-in = two; bf-in = four }
+    record { e-in = two; b-in = two; m-in = four; p-in = pc; a-in = zero-le; i-in = two; o-in = two; ab-in = two; bf-in = four; marks-in = record { high-in = two; low-in = two; device-in = two } }
 
 pub powered-passes : (K : Part) (n : Chips) (ram : List ℕ) → 0 < K .columns → checkPowerOn K n ram ≡ Passed
     → checkState K n bothOn ram ≡ Passed
@@ -93,14 +93,20 @@ powered-passes K n ram pc e = rw (in-range K powerOn (power-on-in K pc)) e
 
 -- ---- what a call that passed its checks may rely on
 
-pub transfer-passed : (K : Part) (n : Chips) (r : Both) (ram bytes : List ℕ) → checkTransfer K n r ram bytes ≡ Passed
-    → (checkState K n r ram ≡ Passed) × ((0 < length bytes) × (length bytes < 4097))
-unfolding checkTransfer checkLength
-transfer-passed K n r ram bytes e =
+-- 1, 2 and 19 of a transfer
+pub sent-passed : (t : Sent) → checkSent t ≡ Passed → (0 < length (t .bytes)) × (length (t .bytes) < 4097)
+unfolding checkSent checkLength
+sent-passed t e =
+    let s = both-pass (checkLength (length (t .bytes))) _ e in
+    let u = both-pass (unless (ltb 0 (length (t .bytes))) EmptyTransfer) _ (s .0) in
+    (ltb-true 0 (length (t .bytes)) (unless-passes _ EmptyTransfer (u .0)), suc-le-suc (leb-true (length (t .bytes)) 4096 (unless-passes _ LongTransfer (u .1))))
+
+pub transfer-passed : (K : Part) (n : Chips) (r : Both) (ram : List ℕ) (t : Sent) → checkTransfer K n r ram t ≡ Passed
+    → (checkState K n r ram ≡ Passed) × ((0 < length (t .bytes)) × (length (t .bytes) < 4097))
+unfolding checkTransfer
+transfer-passed K n r ram t e =
     let s = both-pass (checkState K n r ram) _ e in
-    let t = both-pass (checkLength (length bytes)) _ (s .1) in
-    let u = both-pass (unless (ltb 0 (length bytes)) EmptyTransfer) _ (t .0) in
-    (s .0, (ltb-true 0 (length bytes) (unless-passes _ EmptyTransfer (u .0)), suc-le-suc (leb-true (length bytes) 4096 (unless-passes _ LongTransfer (u .1)))))
+    (s .0, sent-passed t (both-pass (checkSent t) _ (s .1) .0))
 
 pub picture-passed : (K : Part) (n : Chips) (r : Both) (ram : List ℕ) (group phase size : ℕ) → checkPicture K n r ram group phase size ≡ Passed
     → (checkState K n r ram ≡ Passed) × (size ≡ K .columns * chipsIn group n)

@@ -6,7 +6,7 @@ use mathlib.Core.List.{List, [], _∷_}
 use Prim.Native.Nat.{ℕ, _*_, _<_}
 use native.Mathlib.Omega.{arith}
 use lib.Dec.{eqb, ltb}
-use lib.ListN.{length, getD, drop}
+use lib.ListN.{length, drop}
 use borrow.Author.Tests.{eqb-true}
 use Rattle.lemmas.proofs.Tests.{both-true}
 use Rattle.sheet.specs.declared.Both.{Both}
@@ -19,9 +19,10 @@ use Rattle.sheet.specs.declared.Kind.{Kind}
 use Rattle.sheet.specs.declared.Expect.{Expect}
 use Rattle.sheet.specs.declared.Expect.the-variants.{Control, One, All}
 use Rattle.sheet.specs.Parts.{Part}
-use Rattle.sheet.specs.Protocol.{addressOf, heardBy, chipsIn, next}
+use Rattle.sheet.specs.Registers.{registersOf}
+use Rattle.sheet.specs.Protocol.{addressOf, heardBy, chipsIn, next, Sent, wholeOf, addressByte}
 use Rattle.sheet.specs.Checks.{checkState, checkTransfer}
-use Rattle.sheet.specs.Long.{Group, After, begun, byteOf, byte, dataByte, heard, registersOf, columnsOf, taken, answered, transferCall}
+use Rattle.sheet.specs.Long.{Group, After, begun, byteOf, byte, dataByte, heard, heardWhole, columnsOf, taken, answered, transferCall}
 use Rattle.laws.proofs.Runs.{length-bits}
 use Rattle.laws.proofs.Fits.{Fits, both-pass, fits-of}
 use Rattle.laws.proofs.Lens.{length-columns, other-columns, other-registers}
@@ -63,17 +64,17 @@ calls n x = go (eqb x (addressOf 0) && ltb 0 (n .zero)) (eqb x (addressOf 1) && 
 
 -- ---- what holds of a state that fits and a transfer that is taken holds of the call
 
-module _ (K : Part) (n : Chips) (r : Both) (ram bytes : List ℕ) where
-  fitting : checkTransfer K n r ram bytes ≡ Passed → Fits K n r ram
+module _ (K : Part) (n : Chips) (r : Both) (ram : List ℕ) (t : Sent) where
+  fitting : checkTransfer K n r ram t ≡ Passed → Fits K n r ram
   unfolding checkTransfer
   fitting e = fits-of K n r ram (both-pass (checkState K n r ram) _ e .0)
 
   pub of-call : (P : After → Type 0) → ((x : After) → x .result .registers ≡ r → x .ram ≡ ram → P x)
-      → (Fits K n r ram → P (taken K n r ram bytes (heardBy n (getD bytes 0 0)))) → P (transferCall K n r ram bytes)
+      → (Fits K n r ram → P (taken K n r ram t (heardBy n (addressByte t)))) → P (transferCall K n r ram t)
   unfolding transferCall
-  of-call P same took = go (checkTransfer K n r ram bytes) fitting
+  of-call P same took = go (checkTransfer K n r ram t) fitting
     where
-      go : (k : Check) → (k ≡ Passed → Fits K n r ram) → P (answered k r ram (taken K n r ram bytes (heardBy n (getD bytes 0 0))))
+      go : (k : Check) → (k ≡ Passed → Fits K n r ram) → P (answered k r ram (taken K n r ram t (heardBy n (addressByte t))))
       go Passed fits = took (fits refl)
       go (Refused x) fits = same _ refl refl
 
@@ -83,25 +84,25 @@ pub record Stays (K : Part) (n : Chips) (h : ℕ) (r : Both) (ram : List ℕ) (a
   pub columns : columnsOf K n h (a .ram) ≡ columnsOf K n h ram
 
 -- group g after the bytes: its columns are as many
-abbrev pub groupAfter : Part → Chips → Both → List ℕ → List ℕ → ℕ → Group
-groupAfter K n r ram bytes g = heard K Control (drop 1 bytes) (begun (registersOf g r) (columnsOf K n g ram))
+abbrev pub groupAfter : Part → Chips → Both → List ℕ → Sent → ℕ → Group
+groupAfter K n r ram t g = heardWhole K t (begun (registersOf g r) (columnsOf K n g ram))
 
-pub length-after : (K : Part) (n : Chips) (r : Both) (ram bytes : List ℕ) (f : Fits K n r ram) (g : ℕ) → length (groupAfter K n r ram bytes g .ram) ≡ K .columns * chipsIn g n
-length-after K n r ram bytes f g = length-heard K Control (drop 1 bytes) (begun (registersOf g r) (columnsOf K n g ram)) ∙ length-columns K n r ram f g
+pub length-after : (K : Part) (n : Chips) (r : Both) (ram : List ℕ) (t : Sent) (f : Fits K n r ram) (g : ℕ) → length (groupAfter K n r ram t g .ram) ≡ K .columns * chipsIn g n
+length-after K n r ram t f g = length-heard K Control (drop 1 (wholeOf t)) (begun (registersOf g r) (columnsOf K n g ram)) ∙ length-columns K n r ram f g
 
-module _ (K : Part) (n : Chips) (r : Both) (ram bytes : List ℕ) (h : ℕ) (ph : h < 2) where
+module _ (K : Part) (n : Chips) (r : Both) (ram : List ℕ) (t : Sent) (h : ℕ) (ph : h < 2) where
   -- by who hears
-  pub stays-by : Fits K n r ram → (to : Addressed) → Calls (getD bytes 0 0) to → (getD bytes 0 0 ≡ addressOf h → ⊥) → Stays K n h r ram (taken K n r ram bytes to)
+  pub stays-by : Fits K n r ram → (to : Addressed) → Calls (addressByte t) to → (addressByte t ≡ addressOf h → ⊥) → Stays K n h r ram (taken K n r ram t to)
   stays-by f (To g) c other =
       let ne : g ≡ h → ⊥ = λ e. other (c .1 ∙ (λ j. addressOf (e j))) in
       record {
-        registers = other-registers g h (c .0) ph ne (groupAfter K n r ram bytes g .registers) r;
-        columns = other-columns K n r ram f g h (c .0) ph ne (groupAfter K n r ram bytes g .ram) (length-after K n r ram bytes f g);
+        registers = other-registers g h (c .0) ph ne (groupAfter K n r ram t g .registers) r;
+        columns = other-columns K n r ram f g h (c .0) ph ne (groupAfter K n r ram t g .ram) (length-after K n r ram t f g);
       }
   stays-by f Nobody c other = record { registers = refl; columns = refl }
 
   -- the law
-  pub stays : (getD bytes 0 0 ≡ addressOf h → ⊥) → Stays K n h r ram (transferCall K n r ram bytes)
+  pub stays : (addressByte t ≡ addressOf h → ⊥) → Stays K n h r ram (transferCall K n r ram t)
   stays other =
-      of-call K n r ram bytes (Stays K n h r ram) (λ x er em. record { registers = λ j. registersOf h (er j); columns = λ j. columnsOf K n h (em j) })
-      (λ f. stays-by f (heardBy n (getD bytes 0 0)) (calls n (getD bytes 0 0)) other)
+      of-call K n r ram t (Stays K n h r ram) (λ x er em. record { registers = λ j. registersOf h (er j); columns = λ j. columnsOf K n h (em j) })
+      (λ f. stays-by f (heardBy n (addressByte t)) (calls n (addressByte t)) other)

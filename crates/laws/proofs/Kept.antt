@@ -1,23 +1,25 @@
 -- What the bytes of a transfer keep of a group, if the commands keep registers in range; those of both parts do.
 -- Assumes nothing.
 use mathlib.Core.Path.{_≡_, _∙_}
+use mathlib.Core.Bool.{Bool, true, false}
 use mathlib.Core.List.{List, [], _∷_}
 use Prim.Native.Nat.{ℕ, _+_}
 use native.Mathlib.Nat.{le-of-suc-le-suc}
-use lib.ListN.{length}
+use native.Mathlib.Omega.{arith}
+use lib.ListN.{length, drop}
 use Rattle.sheet.specs.declared.Registers.{Registers}
 use Rattle.sheet.specs.declared.Expect.{Expect}
 use Rattle.sheet.specs.declared.Kind.{Kind}
 use Rattle.sheet.specs.declared.Expect.the-variants.{Control, One, All}
 use Rattle.sheet.specs.Parts.{Part, partOf, pcf8532, pca85133}
-use Rattle.sheet.specs.Registers.{backplanes, bankRow}
+use Rattle.sheet.specs.Registers.{backplanes, bankRow, marked, lostBy}
 use Rattle.sheet.specs.Commands.{obeyed}
-use Rattle.sheet.specs.Protocol.{next}
-use Rattle.sheet.specs.Long.{Group, byteOf, byte, dataByte, heard}
+use Rattle.sheet.specs.Protocol.{next, Sent, wholeOf, cutData}
+use Rattle.sheet.specs.Long.{Group, byteOf, byte, dataByte, heard, heardWhole}
 use Rattle.sheet.specs.Places.{position, atPosition}
 use Rattle.sheet.specs.Data.{widthOf}
 use Rattle.sheet.specs.Agree.{Keeps}
-use Rattle.laws.proofs.Ranges.{InRange, range-of, in-range, pcf8532-kept, pca85133-kept, rows-fit}
+use Rattle.laws.proofs.Ranges.{MarksIn, InRange, range-of, in-range, marked-in, pcf8532-kept, pca85133-kept, rows-fit}
 use Rattle.laws.proofs.Named.{of-both}
 use Rattle.laws.proofs.Steps.{stays-in}
 use Rattle.laws.proofs.Runs.{length-bits}
@@ -28,6 +30,11 @@ pub record Kept (K : Part) (size : ℕ) (s : Group) : Type 0 where
   pub range : InRange K (s .registers)
   pub columns : length (s .ram) ≡ size
   pub nibbles : Nibbles (s .ram)
+
+-- a byte that is cut keeps P and A, and a mark is 0 or 1
+pub lost-in : (K : Part) (isData : Bool) (r : Registers) → InRange K r → InRange K (lostBy isData r)
+lost-in K true r h = marked-in K r (marked 1) h (record { high-in = omega arith; low-in = omega arith; device-in = omega arith })
+lost-in K false r h = h
 
 module _ (K : Part) (n : ℕ) (keeps : Keeps K) where
   command-range : (r : Registers) (x : ℕ) → InRange K r → InRange K (obeyed r (K .command x))
@@ -60,6 +67,11 @@ module _ (K : Part) (n : ℕ) (keeps : Keeps K) where
   unfolding heard
   heard-keeps [] e s k = k
   heard-keeps (x ∷ xs) e s k = heard-keeps xs (next e x) (byte K e x s) (byte-keeps e x s k)
+
+  pub whole-keeps : (t : Sent) (s : Group) → Kept K n s → Kept K n (heardWhole K t s)
+  whole-keeps t s k =
+      let w = heard-keeps (drop 1 (wholeOf t)) Control s k in
+      record { range = lost-in K (cutData t) _ (w .range); columns = w .columns; nibbles = w .nibbles }
 
 -- P stays below 160 and A at most 4
 pub pcf8532-keeps : Keeps pcf8532

@@ -15,8 +15,9 @@ use Rattle.sheet.specs.declared.Registers.{Registers}
 use Rattle.sheet.specs.declared.Both.{Both}
 use Rattle.sheet.specs.declared.Chips.{Chips}
 use Rattle.sheet.specs.Parts.{Part}
+use Rattle.sheet.specs.Registers.{registersOf}
 use Rattle.sheet.specs.Protocol.{chipsIn}
-use Rattle.sheet.specs.Long.{begun, registersOf, replaced, startOf, endOf, columnsOf, withColumns}
+use Rattle.sheet.specs.Long.{begun, replaced, startOf, endOf, columnsOf, withColumns}
 use Rattle.laws.proofs.Ranges.{InRange}
 use Rattle.laws.proofs.Nibbles.{Nibbles, take-nibbles, drop-nibbles}
 use Rattle.laws.proofs.Kept.{Kept}

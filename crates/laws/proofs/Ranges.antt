@@ -9,13 +9,20 @@ use native.Mathlib.Omega.{arith}
 use lib.Dec.{eqb, leb, ltb, ltb→lt, eqb·suc-zero}
 use borrow.Author.Tests.{leb-true, ltb-true, lt-ltb, le-leb}
 use Rattle.lemmas.proofs.Tests.{and-left, and-right, both-true, all, all-at}
+use Rattle.sheet.specs.declared.Marks.{Marks}
 use Rattle.sheet.specs.declared.Registers.{Registers}
 use Rattle.sheet.specs.declared.Command.{Command}
-use Rattle.sheet.specs.declared.Command.the-variants.{Undefined}
+use Rattle.sheet.specs.declared.Command.the-variants.{PointerHigh, PointerLow, Pointer, ModeSet, DeviceSelect, FrequencyCtrl, BlinkSelect, BankSelect, Undefined}
 use Rattle.sheet.specs.Parts.{Part, within, Range, commandIn, pcf8532Ranges, pcf8532, pca85133Ranges, pca85133}
-use Rattle.sheet.specs.Registers.{atPlace, inRange, backplanes, bankRow}
-use Rattle.sheet.specs.Commands.{obeyed}
+use Rattle.sheet.specs.Registers.{atPlace, withMarks, inRange, backplanes, bankRow}
+use Rattle.sheet.specs.Commands.{sets, restored, obeyed}
 use Rattle.sheet.specs.Places.{position}
+
+-- a mark is 0 or 1
+pub record MarksIn (u : Marks) : Type 0 where
+  pub high-in : u .high < 2
+  pub low-in : u .low < 2
+  pub device-in : u .device < 2
 
 -- every register in its range, for chips of the part
 pub record InRange (K : Part) (r : Registers) : Type 0 where
@@ -28,6 +35,7 @@ pub record InRange (K : Part) (r : Registers) : Type 0 where
   pub o-in : r .o < 2
   pub ab-in : r .ab < 2
   pub bf-in : r .bf < 4
+  pub marks-in : MarksIn (r .unknown)
 
 -- the test's facts
 pub range-of : (K : Part) (r : Registers) → inRange K r ≡ true → InRange K r
@@ -40,7 +48,10 @@ range-of K r t =
     let t5 = both-true (leb (r .a) (K .limit)) _ (t4 .1) in
     let t6 = both-true (ltb (r .i) 2) _ (t5 .1) in
     let t7 = both-true (ltb (r .o) 2) _ (t6 .1) in
-    let t8 = both-true (ltb (r .ab) 2) (ltb (r .bf) 4) (t7 .1) in
+    let t8 = both-true (ltb (r .ab) 2) _ (t7 .1) in
+    let t9 = both-true (ltb (r .bf) 4) _ (t8 .1) in
+    let t10 = both-true (ltb (r .unknown .high) 2) _ (t9 .1) in
+    let t11 = both-true (ltb (r .unknown .low) 2) (ltb (r .unknown .device) 2) (t10 .1) in
     record {
       e-in = ltb-true (r .e) 2 (t1 .0);
       b-in = ltb-true (r .b) 2 (t2 .0);
@@ -50,18 +61,23 @@ range-of K r t =
       i-in = ltb-true (r .i) 2 (t6 .0);
       o-in = ltb-true (r .o) 2 (t7 .0);
       ab-in = ltb-true (r .ab) 2 (t8 .0);
-      bf-in = ltb-true (r .bf) 4 (t8 .1);
+      bf-in = ltb-true (r .bf) 4 (t9 .0);
+      marks-in = record { high-in = ltb-true (r .unknown .high) 2 (t10 .0); low-in = ltb-true (r .unknown .low) 2 (t11 .0); device-in = ltb-true (r .unknown .device) 2 (t11 .1) };
     }
 
 -- and back
 pub in-range : (K : Part) (r : Registers) → InRange K r → inRange K r ≡ true
 unfolding inRange
 in-range K r h =
-    rw (lt-ltb (r .e) 2 (h .e-in), lt-ltb (r .b) 2 (h .b-in), lt-ltb (r .m) 4 (h .m-in), lt-ltb (r .p) (K .columns) (h .p-in), le-leb (r .a) (K .limit) (h .a-in), lt-ltb (r .i) 2 (h .i-in), lt-ltb (r .o) 2 (h .o-in), lt-ltb (r .ab) 2 (h .ab-in), lt-ltb (r .bf) 4 (h .bf-in))
+    rw (lt-ltb (r .e) 2 (h .e-in), lt-ltb (r .b) 2 (h .b-in), lt-ltb (r .m) 4 (h .m-in), lt-ltb (r .p) (K .columns) (h .p-in), le-leb (r .a) (K .limit) (h .a-in), lt-ltb (r .i) 2 (h .i-in), lt-ltb (r .o) 2 (h .o-in), lt-ltb (r .ab) 2 (h .ab-in), lt-ltb (r .bf) 4 (h .bf-in), lt-ltb (r .unknown .high) 2 (h .marks-in .high-in), lt-ltb (r .unknown .low) 2 (h .marks-in .low-in), lt-ltb (r .unknown .device) 2 (h .marks-in .device-in))
 
 -- another place in range keeps them there
 pub placed-in : (K : Part) (r : Registers) (p a : ℕ) → InRange K r → p < K .columns → a ≤ K .limit → InRange K (atPlace r p a)
-placed-in K r p a h lp la = record { e-in = h .e-in; b-in = h .b-in; m-in = h .m-in; p-in = lp; a-in = la; i-in = h .i-in; o-in = h .o-in; ab-in = h .ab-in; bf-in = h .bf-in }
+placed-in K r p a h lp la = record { e-in = h .e-in; b-in = h .b-in; m-in = h .m-in; p-in = lp; a-in = la; i-in = h .i-in; o-in = h .o-in; ab-in = h .ab-in; bf-in = h .bf-in; marks-in = h .marks-in }
+
+-- and so do other marks
+pub marked-in : (K : Part) (r : Registers) (u : Marks) → InRange K r → MarksIn u → InRange K (withMarks r u)
+marked-in K r u h l = record { e-in = h .e-in; b-in = h .b-in; m-in = h .m-in; p-in = h .p-in; a-in = h .a-in; i-in = h .i-in; o-in = h .o-in; ab-in = h .ab-in; bf-in = h .bf-in; marks-in = l }
 
 -- ---- commands keep registers in range
 
@@ -85,26 +101,43 @@ by-range P x (t ∷ ts) each none = go (within (t .first) (t .last) x) (hit (t .
     go true h rest = each .0 (h refl .0) (h refl .1)
     go false h rest = rest
 
+-- a command leaves or restores a mark
+pub marks-kept : (c : Command) (u : Marks) → MarksIn u → MarksIn (restored c u)
+marks-kept (PointerHigh n) u h = record { high-in = omega arith; low-in = h .low-in; device-in = h .device-in }
+marks-kept (PointerLow n) u h = record { high-in = h .high-in; low-in = omega arith; device-in = h .device-in }
+marks-kept (Pointer p) u h = record { high-in = omega arith; low-in = omega arith; device-in = h .device-in }
+marks-kept (ModeSet s) u h = h
+marks-kept (DeviceSelect n) u h = record { high-in = h .high-in; low-in = h .low-in; device-in = omega arith }
+marks-kept FrequencyCtrl u h = h
+marks-kept (BlinkSelect ab bf) u h = h
+marks-kept (BankSelect i o) u h = h
+marks-kept Undefined u h = h
+
+obeyed-in : (K : Part) (r : Registers) (c : Command) → InRange K r → InRange K (sets r c) → InRange K (obeyed r c)
+obeyed-in K r c h set = marked-in K (sets r c) (restored c (r .unknown)) set (marks-kept c (r .unknown) (h .marks-in))
+
 -- pointer high ends at 09 and 16 × 9 + 15 is 159; device-select ends at E3
 pub pcf8532-kept : (r : Registers) (x : ℕ) → InRange pcf8532 r → InRange pcf8532 (obeyed r (pcf8532 .command x))
 pcf8532-kept r x h =
-    by-range (λ c. InRange pcf8532 (obeyed r c)) x pcf8532Ranges (
+    obeyed-in pcf8532 r (pcf8532 .command x) h
+    (by-range (λ c. InRange pcf8532 (sets r c)) x pcf8532Ranges (
       (λ l m. placed-in pcf8532 r (16 * (x % 16) + r .p % 16) (r .a) h (omega arith) (h .a-in)),
       (
         (λ l m. placed-in pcf8532 r (r .p - r .p % 16 + x % 16) (r .a) h (omega (arith, h .p-in)) (h .a-in)),
         ((λ l m. omega arith), ((λ l m. placed-in pcf8532 r (r .p) (x % 4) h (h .p-in) (omega arith)), ((λ l m. h), ((λ l m. omega arith), ((λ l m. omega arith), tt))))),
       ),
     )
-    h
+    h)
 
 -- the pointer ends at 4F, which is 79; device-select ends at E7
 pub pca85133-kept : (r : Registers) (x : ℕ) → InRange pca85133 r → InRange pca85133 (obeyed r (pca85133 .command x))
 pca85133-kept r x h =
-    by-range (λ c. InRange pca85133 (obeyed r c)) x pca85133Ranges (
+    obeyed-in pca85133 r (pca85133 .command x) h
+    (by-range (λ c. InRange pca85133 (sets r c)) x pca85133Ranges (
       (λ l m. placed-in pca85133 r x (r .a) h (omega (m, arith)) (h .a-in)),
       ((λ l m. omega arith), ((λ l m. placed-in pca85133 r (r .p) (x % 8) h (h .p-in) (omega arith)), ((λ l m. omega arith), ((λ l m. omega arith), tt)))),
     )
-    h
+    h)
 
 -- ---- backplanes and banks
 

@@ -22,10 +22,10 @@ use Rattle.sheet.specs.declared.Expect.{Expect}
 use Rattle.sheet.specs.declared.Kind.{Kind}
 use Rattle.sheet.specs.declared.Expect.the-variants.{Control, One, All}
 use Rattle.sheet.specs.Parts.{Part}
-use Rattle.sheet.specs.Registers.{backplanes, bankRow}
-use Rattle.sheet.specs.Protocol.{addressOf, heardBy, next}
-use Rattle.sheet.specs.Long.{Group, After, begun, byteOf, byte, dataByte, heard, registersOf, columnsOf, taken, transferCall}
-use Rattle.sheet.specs.Plain.{begunBy, putRows, afterColumn, afterColumns, chipData, chipByteOf, chipByte, any, hears, takes, Plain, plainHeard, plainTaken, plainSaid, plainAnswered, checkPlain, plainCall}
+use Rattle.sheet.specs.Registers.{backplanes, bankRow, registersOf}
+use Rattle.sheet.specs.Protocol.{addressOf, heardBy, next, Sent, wholeOf, addressByte, cutData}
+use Rattle.sheet.specs.Long.{Group, After, begun, byteOf, byte, dataByte, heard, columnsOf, taken, transferCall}
+use Rattle.sheet.specs.Plain.{begunBy, putRows, afterColumn, afterColumns, chipData, chipByteOf, chipByte, any, hears, takes, Plain, plainHeard, chipLost, chipEnded, plainWhole, plainTaken, plainSaid, plainAnswered, checkPlain, plainCall}
 use Rattle.sheet.specs.Data.{bitOf, rowOf, withRow, changed, putBits, widthOf}
 use Rattle.sheet.specs.Lands.{bitsOn, kindOn, byteOn, heardOn, Missed, LongStays, rowsOn, columnOn, columnsOn, chipKindOn, chipByteOn, chipHeardOn, PlainStays, Untouched}
 use Rattle.laws.proofs.Rows.{row-other, row-kept, row-stays, changed-other, bit-lt}
@@ -68,31 +68,31 @@ heard-missed K e (x ∷ xs) g c q h =
     let d = either-false (byteOn K e (g .registers) c q) (heardOn K (next e x) xs (byte K e x g) c q) h in
     heard-missed K (next e x) xs (byte K e x g) c q (d .1) ∙ byte-missed K e x g c q (d .0)
 
-module _ (K : Part) (n : Chips) (r : Both) (ram bytes : List ℕ) (h : ℕ) (ph : h < 2) (c q : ℕ) (missed : Missed K n r ram bytes h c q) where
+module _ (K : Part) (n : Chips) (r : Both) (ram : List ℕ) (t : Sent) (h : ℕ) (ph : h < 2) (c q : ℕ) (missed : Missed K n r ram t h c q) where
   abbrev RowStays : After → Type 0
   RowStays a = SameRow c q (columnsOf K n h (a .ram)) (columnsOf K n h ram)
 
   -- the group that hears is this one, or it is not
-  row-by : Fits K n r ram → (to : Addressed) → Calls (getD bytes 0 0) to → RowStays (taken K n r ram bytes to)
+  row-by : Fits K n r ram → (to : Addressed) → Calls (addressByte t) to → RowStays (taken K n r ram t to)
   row-by f (To g) calls =
       ⊎-elim
-      (λ (e : g ≡ h). subst (λ (k : ℕ). RowStays (taken K n r ram bytes (To k))) (sym e)
-      (ap (λ (l : List ℕ). rowOf (getD l c 0) q) (own-columns K n r ram f h (groupAfter K n r ram bytes h .ram) (length-after K n r ram bytes f h))
-      ∙ heard-missed K Control (drop 1 bytes) (begun (registersOf h r) (columnsOf K n h ram)) c q (missed (calls .1 ∙ ap addressOf e))))
-      (λ (ne : g ≢ h). ap (λ (l : List ℕ). rowOf (getD l c 0) q) (other-columns K n r ram f g h (calls .0) ph ne (groupAfter K n r ram bytes g .ram) (length-after K n r ram bytes f g)))
+      (λ (e : g ≡ h). subst (λ (k : ℕ). RowStays (taken K n r ram t (To k))) (sym e)
+      (ap (λ (l : List ℕ). rowOf (getD l c 0) q) (own-columns K n r ram f h (groupAfter K n r ram t h .ram) (length-after K n r ram t f h))
+      ∙ heard-missed K Control (drop 1 (wholeOf t)) (begun (registersOf h r) (columnsOf K n h ram)) c q (missed (calls .1 ∙ ap addressOf e))))
+      (λ (ne : g ≢ h). ap (λ (l : List ℕ). rowOf (getD l c 0) q) (other-columns K n r ram f g h (calls .0) ph ne (groupAfter K n r ram t g .ram) (length-after K n r ram t f g)))
       (equal-or-not g h)
   row-by f Nobody calls = refl
 
-  row-stays-so : RowStays (transferCall K n r ram bytes)
+  row-stays-so : RowStays (transferCall K n r ram t)
   row-stays-so =
-      of-call K n r ram bytes RowStays (λ x er em. ap (λ (l : List ℕ). rowOf (getD (columnsOf K n h l) c 0) q) em)
-      (λ f. row-by f (heardBy n (getD bytes 0 0)) (calls n (getD bytes 0 0)))
+      of-call K n r ram t RowStays (λ x er em. ap (λ (l : List ℕ). rowOf (getD (columnsOf K n h l) c 0) q) em)
+      (λ f. row-by f (heardBy n (addressByte t)) (calls n (addressByte t)))
 
-long-stays : (K : Part) (n : Chips) (r : Both) (ram bytes : List ℕ) (h : ℕ) → h < 2 → LongStays K n r ram bytes h
-long-stays K n r ram bytes h ph = record {
-  row = λ c q m. row-stays-so K n r ram bytes h ph c q m;
-  columns = λ other. stays K n r ram bytes h ph other .columns;
-  registers = λ other. stays K n r ram bytes h ph other .registers;
+long-stays : (K : Part) (n : Chips) (r : Both) (ram : List ℕ) (t : Sent) (h : ℕ) → h < 2 → LongStays K n r ram t h
+long-stays K n r ram t h ph = record {
+  row = λ c q m. row-stays-so K n r ram t h ph c q m;
+  columns = λ other. stays K n r ram t h ph other .columns;
+  registers = λ other. stays K n r ram t h ph other .registers;
 }
 
 -- ---- one chip
@@ -182,32 +182,56 @@ map-at f [] i d l = absurd (not-suc-le-zero l)
 map-at f (c ∷ cs) zero d l = refl
 map-at f (c ∷ cs) (suc i) d l = map-at f cs i d (le-of-suc-le-suc l)
 
-module _ (K : Part) (cs : List Chip) (bytes : List ℕ) (i : ℕ) (d : Chip) (l : i < length cs) where
-  abbrev followed : Chip
-  followed = alone K (getD bytes 0 0) Control (drop 1 bytes) (getD cs i d)
+-- one chip's part in all of a transfer: it follows the whole bytes, and a byte that is cut lands nowhere
+abbrev ended : Part → Sent → Chip → Chip
+ended K t c = chipEnded (addressByte t) (cutData t) (alone K (addressByte t) Control (drop 1 (wholeOf t)) c)
 
-  -- a chip of the list is as it was, or followed the bytes alone
-  chip-after : (P : Chip → Type 0) → P (getD cs i d) → P followed → P (getD (plainCall K cs bytes .chips) i d)
+each-ended : (K : Part) (t : Sent) (s : Plain) → plainWhole K (addressByte t) t s .chips ≡ map (ended K t) (s .chips)
+each-ended K t s =
+    ap (map (chipEnded (addressByte t) (cutData t))) (each-alone K (addressByte t) Control (drop 1 (wholeOf t)) s)
+    ∙ map-map (chipEnded (addressByte t) (cutData t)) (alone K (addressByte t) Control (drop 1 (wholeOf t))) (s .chips)
+
+ended-columns : (address : ℕ) (isData : Bool) (c : Chip) → chipEnded address isData c .columns ≡ c .columns
+ended-columns address isData c = go (hears address c)
+  where
+    go : (b : Bool) → cond b (chipLost isData c) c .columns ≡ c .columns
+    go true = refl
+    go false = refl
+
+module _ (K : Part) (cs : List Chip) (t : Sent) (i : ℕ) (d : Chip) (l : i < length cs) where
+  -- a chip of the list is as it was, or followed the transfer alone
+  chip-after : (P : Chip → Type 0) → P (getD cs i d) → P (ended K t (getD cs i d)) → P (getD (plainCall K cs t .chips) i d)
   unfolding plainCall
-  chip-after P kept moved = by-check (checkPlain K cs bytes) (plainTaken K cs bytes) (by-hearers (any (hears (getD bytes 0 0)) cs))
+  chip-after P kept moved = by-check (checkPlain K cs t) (plainTaken K cs t) (by-hearers (any (hears (addressByte t)) cs))
     where
-      by-hearers : (t : Bool) → P (getD (cond t (plainHeard K (getD bytes 0 0) Control (drop 1 bytes) (begunBy 1 cs)) (begunBy 0 cs) .chips) i d)
-      by-hearers true = subst P (sym (ap (λ (k : List Chip). getD k i d) (each-alone K (getD bytes 0 0) Control (drop 1 bytes) _) ∙ map-at _ cs i d l)) moved
+      by-hearers : (b : Bool) → P (getD (cond b (plainWhole K (addressByte t) t (begunBy 1 cs)) (begunBy 0 cs) .chips) i d)
+      by-hearers true = subst P (sym (ap (λ (k : List Chip). getD k i d) (each-ended K t (begunBy 1 cs)) ∙ map-at _ cs i d l)) moved
       by-hearers false = kept
 
       by-check : (k : Check) (s : Plain) → P (getD (s .chips) i d) → P (getD (plainAnswered k cs (plainSaid s) .chips) i d)
       by-check Passed s h = h
       by-check (Refused x) s h = kept
 
-  plain-stays : PlainStays K bytes (getD cs i d) (getD (plainCall K cs bytes .chips) i d)
+  abbrev before : Chip
+  before = getD cs i d
+
+  abbrev followed : Chip
+  followed = alone K (addressByte t) Control (drop 1 (wholeOf t)) before
+
+  -- one that does not hear
+  deaf-ended : hears (addressByte t) before ≡ false → ended K t before ≡ before
+  deaf-ended deaf = ap (chipEnded (addressByte t) (cutData t)) (deaf-alone K (addressByte t) Control (drop 1 (wholeOf t)) before deaf) ∙ rw deaf
+
+  plain-stays : PlainStays K t before (getD (plainCall K cs t .chips) i d)
   plain-stays = record {
-    row = λ p q missed. chip-after (λ c. SameRow p q (c .columns) (getD cs i d .columns)) refl (alone-missed K (getD bytes 0 0) Control (drop 1 bytes) (getD cs i d) p q missed);
-    chip = λ other. chip-after (λ c. c ≡ getD cs i d) refl (deaf-alone K (getD bytes 0 0) Control (drop 1 bytes) (getD cs i d) (ne-eqb (getD bytes 0 0) (addressOf (getD cs i d .sa0)) other));
+    row = λ p q missed. chip-after (λ c. SameRow p q (c .columns) (before .columns)) refl
+        (ap (λ (columns : List ℕ). rowOf (getD columns p 0) q) (ended-columns (addressByte t) (cutData t) followed) ∙ alone-missed K (addressByte t) Control (drop 1 (wholeOf t)) before p q missed);
+    chip = λ other. chip-after (λ c. c ≡ before) refl (deaf-ended (ne-eqb (addressByte t) (addressOf (before .sa0)) other));
   }
 
 -- the law, for any column count and limit
 pub untouched : (K : Part) → Untouched K
 untouched K = record {
-  long = λ n r ram bytes g pg. long-stays K n r ram bytes g pg;
-  plain = λ cs bytes i d l. plain-stays K cs bytes i d l;
+  long = λ n r ram t g pg. long-stays K n r ram t g pg;
+  plain = λ cs t i d l. plain-stays K cs t i d l;
 }

@@ -14,6 +14,7 @@ ghost use Prim.Native.Nat.{_<_};
 ghost use lib.ListN.{length};
 ghost use Rattle.sheet.specs.Refusals.{numbers, pictureNumbers, checkNumbers};
 ghost use Rattle.sheet.specs.Parts.{partOf};
+ghost use Rattle.sheet.specs.Protocol.{sent};
 ghost use Rattle.sheet.specs.Checks.{checkState};
 ghost use Rattle.sheet.specs.Long.{noCounts, replaced, taken, powerOnPart, transferPart, picturePart};
 
@@ -37,15 +38,16 @@ fn deliver(
     registers: Both,
     ram: &mut [u8],
     bytes: &[u8],
+    bits: u8,
     group: u8,
 ) -> Transferred
-    requires { ⌜ (checkState (partOf part) chips registers (now ram) ≡ Check.Passed) × (0 < length (now bytes)) × (length (now bytes) < 4097) ⌝ }
-    ensures { λ r. ⌜ record { result = r; ram = now (ram .exit) } ≡ taken (partOf part) chips registers (now (ram .entry)) (now (bytes .entry)) (Addressed.To group) ⌝ }
+    requires { ⌜ (checkState (partOf part) chips registers (now ram) ≡ Check.Passed) × (length (now bytes) < 4097) ⌝ }
+    ensures { λ r. ⌜ record { result = r; ram = now (ram .exit) } ≡ taken (partOf part) chips registers (now (ram .entry)) (sent (now (bytes .entry)) bits) (Addressed.To group) ⌝ }
 {
     let start = groups::start_of(part, chips, group);
     let end = groups::end_of(part, chips, group);
     let before = groups::registers_of(group, registers);
-    let heard = hearing::hear(part, &mut ram[start..end], before, bytes);
+    let heard = hearing::hear(part, &mut ram[start..end], before, bytes, bits);
     let after = heard.registers;
     let counts = heard.counts;
     let last = heard.last;
@@ -72,24 +74,25 @@ fn unheard(registers: Both) -> Transferred
     }
 }
 
-// A transfer, START to STOP, taken or refused by 16, 3, 6, 4, 5, 1, 2, then 7 and 17.
+// A transfer, START to STOP, of whose last byte so many bits came, taken or refused by 16, 3, 6, 4, 5, 1, 2, 19, then 7, 17 and 18.
 pub fn transfer(
     part: u8,
     chips: Chips,
     registers: Both,
     ram: &mut [u8],
     bytes: &[u8],
+    bits: u8,
 ) -> Transferred
-    ensures { λ r. ⌜ record { result = r; ram = now (ram .exit) } ≡ transferPart part chips registers (now (ram .entry)) (now (bytes .entry)) ⌝ }
-    ensures { λ r. ⌜ numbers (partOf part) (r .answer) ≡ numbers (partOf part) (transferPart part chips registers (now (ram .entry)) (now (bytes .entry)) .result .answer) ⌝ }
+    ensures { λ r. ⌜ record { result = r; ram = now (ram .exit) } ≡ transferPart part chips registers (now (ram .entry)) (sent (now (bytes .entry)) bits) ⌝ }
+    ensures { λ r. ⌜ numbers (partOf part) (r .answer) ≡ numbers (partOf part) (transferPart part chips registers (now (ram .entry)) (sent (now (bytes .entry)) bits) .result .answer) ⌝ }
 {
-    match refused::check_transfer(part, chips, registers, ram, bytes) {
+    match refused::check_transfer(part, chips, registers, ram, bytes, bits) {
         Check::Refused(refusal) => Transferred {
             answer: Answer::Refused(refusal),
             registers,
         },
-        Check::Passed => match groups::heard_by(chips, checks::byte_at(bytes, 0)) {
-            Addressed::To(group) => deliver(part, chips, registers, ram, bytes, group),
+        Check::Passed => match groups::heard_by(chips, checks::address_byte(bytes, bits)) {
+            Addressed::To(group) => deliver(part, chips, registers, ram, bytes, bits, group),
             Addressed::Nobody => unheard(registers),
         },
     }

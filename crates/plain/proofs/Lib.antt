@@ -1,6 +1,8 @@
 pub mod Searching
 pub mod Agreeing
 pub mod Lowering
+pub mod Marking
 pub mod Following
 pub mod Shapes
 pub mod Starting
+pub mod Lefts

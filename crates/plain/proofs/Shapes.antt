@@ -6,6 +6,8 @@ use Rattle.sheet.specs.Registers.{powerOn}
 use Rattle.walks.proofs.Data.{Data, struct, enum}
 use Rattle.sheet.proofs.Chip as ChipType
 use Rattle.sheet.proofs.Chip.Laws as ChipLaws
+use Rattle.sheet.proofs.Marks as MarksType
+use Rattle.sheet.proofs.Marks.Laws as MarksLaws
 use Rattle.sheet.proofs.Check as CheckType
 use Rattle.sheet.proofs.Check.Laws as CheckLaws
 use Rattle.sheet.proofs.Acknowledger as AcknowledgerType
@@ -20,6 +22,8 @@ use Rattle.plain.proofs.Tally as TallyType
 use Rattle.plain.proofs.Tally.Laws as TallyLaws
 use Rattle.plain.proofs.Turn as TurnType
 use Rattle.plain.proofs.Turn.Laws as TurnLaws
+use Rattle.plain.proofs.Found as FoundType
+use Rattle.plain.proofs.Found.Laws as FoundLaws
 use Rattle.plain.proofs.Start as StartType
 use Rattle.plain.proofs.Start.Laws as StartLaws
 use Rattle.plain.proofs.Bench as BenchType
@@ -42,6 +46,9 @@ question = enum QuestionType.the-type QuestionLaws.the-laws QuestionLaws.the-pla
 abbrev pub acknowledger : Data AcknowledgerType.the-row
 acknowledger = enum AcknowledgerType.the-type AcknowledgerLaws.the-laws AcknowledgerLaws.the-plain AcknowledgerLaws.the-copy tt
 
+abbrev pub marks : Data MarksType.the-row
+marks = struct MarksType.the-type MarksLaws.the-laws MarksLaws.the-plain MarksLaws.the-copy
+
 abbrev pub tally : Data TallyType.the-row
 tally = struct TallyType.the-type TallyLaws.the-laws TallyLaws.the-plain TallyLaws.the-copy
 
@@ -50,6 +57,9 @@ turn = struct TurnType.the-type TurnLaws.the-laws TurnLaws.the-plain TurnLaws.th
 
 abbrev pub check : Data CheckType.the-row
 check = enum CheckType.the-type CheckLaws.the-laws CheckLaws.the-plain CheckLaws.the-copy tt
+
+abbrev pub found : Data FoundType.the-row
+found = struct FoundType.the-type FoundLaws.the-laws FoundLaws.the-plain FoundLaws.the-copy
 
 abbrev pub start : Data StartType.the-row
 start = struct StartType.the-type StartLaws.the-laws StartLaws.the-plain StartLaws.the-copy

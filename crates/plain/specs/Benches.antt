@@ -10,6 +10,7 @@ use Rattle.sheet.specs.declared.Refusal.the-variants.{ManyChips}
 use Rattle.sheet.specs.declared.Check.{Check}
 use Rattle.sheet.specs.declared.Check.the-variants.{Passed, Refused}
 use Rattle.sheet.specs.declared.PlainAnswer.{PlainAnswer}
+use Rattle.sheet.specs.Protocol.{Sent}
 use Rattle.sheet.specs.Checks.{checkPart}
 use Rattle.sheet.specs.Plain.{plainPart}
 use Rattle.plain.specs.declared.Bench.{Bench}
@@ -19,9 +20,9 @@ use Rattle.plain.specs.declared.BenchTransferred.{BenchTransferred}
 abbrev pub withFirst : Bench → List Chip → Bench
 withFirst b cs = record { chips = cs ++ drop (b .count) (b .chips); count = b .count }
 
-abbrev pub firstTransferred : ℕ → Bench → List ℕ → BenchTransferred
-firstTransferred part b bytes =
-    let a = plainPart part (take (b .count) (b .chips)) bytes in
+abbrev pub firstTransferred : ℕ → Bench → Sent → BenchTransferred
+firstTransferred part b t =
+    let a = plainPart part (take (b .count) (b .chips)) t in
     record { answer = a .answer; bench = withFirst b (a .chips) }
 
 -- a check's refusal, or else another
@@ -33,5 +34,5 @@ orRefusal (Refused x) r = x
 abbrev pub tooMany : ℕ → Refusal
 tooMany part = orRefusal (checkPart part) ManyChips
 
-abbrev pub benchTransferred : ℕ → Bench → List ℕ → BenchTransferred
-benchTransferred part b bytes = cond (leb (b .count) 16) (firstTransferred part b bytes) (record { answer = PlainAnswer.Refused (tooMany part); bench = b })
+abbrev pub benchTransferred : ℕ → Bench → Sent → BenchTransferred
+benchTransferred part b t = cond (leb (b .count) 16) (firstTransferred part b t) (record { answer = PlainAnswer.Refused (tooMany part); bench = b })

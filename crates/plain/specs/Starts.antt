@@ -1,9 +1,9 @@
--- How a transfer to a list of chips of a part begins and what is answered, from the count of the chips and the places of the first that does not fit and the first that hears (each the count if there is none).
-use Prim.Native.Nat.{ℕ, _*_}
+-- How a transfer to a list of chips of a part begins and what is answered, from what the list was found to hold: the count of the chips, the places of the first that does not fit
+-- and the first that hears (each the count if there is none), and the marks of those that hear.
+use Prim.Native.Nat.{ℕ, _+_, _*_}
 use mathlib.Core.Bool.{Bool, cond, _&&_}
-use mathlib.Core.List.{List}
 use lib.Dec.{ltb, leb}
-use lib.ListN.{length, getD, drop}
+use lib.ListN.{length, getD}
 use Rattle.sheet.specs.declared.Expect.the-variants.{Control}
 use Rattle.sheet.specs.declared.Refusal.the-variants.{ManyChips, ChipField}
 use Rattle.sheet.specs.declared.Acknowledger.{Acknowledger}
@@ -11,36 +11,42 @@ use Rattle.sheet.specs.declared.Check.{Check}
 use Rattle.sheet.specs.declared.Check.the-variants.{Passed, Refused}
 use Rattle.sheet.specs.declared.PlainAnswer.{PlainAnswer}
 use Rattle.sheet.specs.Parts.{partOf}
-use Rattle.sheet.specs.Checks.{unless, orElse, checkPart, checkLength, passed, faultIn}
+use Rattle.sheet.specs.Protocol.{Sent, cut, addressByte}
+use Rattle.sheet.specs.Checks.{unless, orElse, checkPart, checkSent, passed, faultOfSent}
 use Rattle.plain.specs.declared.Tally.{Tally}
 use Rattle.plain.specs.declared.Turn.{Turn}
+use Rattle.plain.specs.declared.Found.{Found}
 use Rattle.plain.specs.declared.Start.{Start}
 
 -- 16, 10
 abbrev pub checkBench : ℕ → ℕ → Check
 checkBench part count = orElse (checkPart part) (unless (leb count (2 * partOf part .limit)) ManyChips)
 
--- 11, 1, 2, then 7 and 17
-abbrev pub checkList : ℕ → List ℕ → ℕ → ℕ → ℕ → Check
-checkList part bytes count misfit hearer =
-    orElse (unless (leb count misfit) (ChipField misfit))
-    (orElse (checkLength (length bytes))
-    (cond (ltb hearer count) (faultIn (partOf part) Control 1 (drop 1 bytes)) Passed))
+-- 11, 1, 2, 19, then 7, 17 and 18
+abbrev pub checkList : ℕ → Sent → Found → Check
+checkList part t f =
+    orElse (unless (leb (f .count) (f .misfit)) (ChipField (f .misfit)))
+    (orElse (checkSent t)
+    (cond (ltb (f .hearer) (f .count)) (faultOfSent (partOf part) (f .marks) t) Passed))
 
-abbrev pub checkOf : ℕ → List ℕ → ℕ → ℕ → ℕ → Check
-checkOf part bytes count misfit hearer = orElse (checkBench part count) (checkList part bytes count misfit hearer)
+abbrev pub checkOf : ℕ → Sent → Found → Check
+checkOf part t f = orElse (checkBench part (f .count)) (checkList part t f)
 
 -- the turn at a place after the address
-abbrev pub turnAt : ℕ → List ℕ → ℕ → ℕ → Turn
-turnAt part bytes at acknowledged = record { at = at; tally = record { acknowledged = acknowledged; last = Acknowledger.None }; heard = record { part = part; address = getD bytes 0 0; expect = Control; byte = getD bytes at 0 } }
+abbrev pub turnAt : ℕ → Sent → ℕ → ℕ → Turn
+turnAt part t at acknowledged = record {
+  at = at;
+  cut = cut t;
+  tally = record { acknowledged = acknowledged; last = Acknowledger.None };
+  heard = record { part = part; address = addressByte t; expect = Control; byte = getD (t .bytes) at 0; cut = cut t && leb (length (t .bytes)) (at + 1) };
+}
 
 -- from the byte after the address on, if the transfer is taken and heard; else nothing is left to follow
-abbrev pub firstTurn : ℕ → List ℕ → Check → Bool → Turn
-firstTurn part bytes check heard = cond (passed check && heard) (turnAt part bytes 1 1) (turnAt part bytes (length bytes) 0)
+abbrev pub firstTurn : ℕ → Sent → Check → Bool → Turn
+firstTurn part t check heard = cond (passed check && heard) (turnAt part t 1 1) (turnAt part t (length (t .bytes)) 0)
 
-abbrev pub startOf : ℕ → List ℕ → ℕ → ℕ → ℕ → Start
-startOf part bytes count misfit hearer =
-    record { check = checkOf part bytes count misfit hearer; turn = firstTurn part bytes (checkOf part bytes count misfit hearer) (ltb hearer count) }
+abbrev pub startOf : ℕ → Sent → Found → Start
+startOf part t f = record { check = checkOf part t f; turn = firstTurn part t (checkOf part t f) (ltb (f .hearer) (f .count)) }
 
 abbrev pub answerOf : Check → Tally → PlainAnswer
 answerOf Passed t = PlainAnswer.Acknowledged (t .acknowledged) (t .last)

@@ -5,30 +5,33 @@ use sheet::Check;
 use sheet::Chip;
 use sheet::Expect;
 use sheet::Kind;
+use sheet::Marks;
 use sheet::PlainAnswer;
 use sheet::Refusal;
 ghost use mathlib.Core.Path.{_≡_};
 ghost use mathlib.Core.Bool.{cond};
 ghost use mathlib.Core.List.{map};
 ghost use Prim.Native.Nat.{_+_, _≤_, _<_, _^_};
-ghost use lib.ListN.{length, getD, drop};
+ghost use lib.ListN.{length};
 ghost use Rattle.sheet.specs.Refusals.{plainNumbers};
 ghost use Rattle.sheet.specs.Parts.{partOf};
-ghost use Rattle.sheet.specs.Checks.{faultIn};
-ghost use Rattle.sheet.specs.Plain.{lower, smallest, once, lastOf, lastAfter, plainPart};
-ghost use Rattle.plain.specs.Asking.{yes, answers, taken, firstYes};
-ghost use Rattle.plain.specs.Turns.{turnAfter, followed, tallyOf, Ready};
+ghost use Rattle.sheet.specs.Protocol.{sent, addressByte};
+ghost use Rattle.sheet.specs.Checks.{faultOfSent};
+ghost use Rattle.sheet.specs.Plain.{lower, smallest, once, lastOf, lastAfter, marksIn, plainPart};
+ghost use Rattle.plain.specs.Asking.{yes, answers, taken, firstYes, withMark, withChip};
+ghost use Rattle.plain.specs.Turns.{lastHeard, turnAfter, followed, tallyOf, Ready};
 ghost use Rattle.plain.specs.Starts.{checkBench, checkList, checkOf, turnAt, startOf, answerOf};
 ghost use Rattle.plain.specs.Benches.{tooMany, firstTransferred, benchTransferred};
 
 // ---- one chip, by value
 
-// A byte after the address: the part of the chips, to whom it goes, what it is, and its value.
+// A byte after the address: the part of the chips, to whom it goes, what it is, its value, and whether it is cut.
 struct BusByte {
     part: u8,
     address: u8,
     expect: Expect,
     byte: u8,
+    cut: bool,
 }
 
 // What a chip is asked: whether it is no chip of a part, or hears an address.
@@ -46,12 +49,13 @@ fn says_yes(chip: Chip, question: Question) -> bool
     }
 }
 
-// Whether a chip hears a byte and acknowledges it.
+// Whether a chip hears a byte and acknowledges it: none that is cut.
 fn acknowledges(chip: Chip, heard: BusByte) -> bool
     ensures { λ r. ⌜ r ≡ answers heard chip ⌝ }
 {
     let expect = heard.expect;
-    chip::hears(chip, heard.address) & chip::acknowledges(heard.part, chip, expect, heard.byte)
+    let hears = chip::hears(chip, heard.address);
+    hears & (!heard.cut & chip::acknowledges(heard.part, chip, expect, heard.byte))
 }
 
 // A subaddress and the smallest of the others.
@@ -84,9 +88,33 @@ fn take(chip: Chip, heard: BusByte) -> Chip
 {
     let expect = heard.expect;
     if chip::hears(chip, heard.address) {
-        chip::step(heard.part, chip, expect, heard.byte)
+        if heard.cut {
+            chip::lose(chip, protocol::is_data(expect))
+        } else {
+            chip::step(heard.part, chip, expect, heard.byte)
+        }
     } else {
         chip
+    }
+}
+
+// A mark that is unknown if a chip that hears has it so, or else one of the others.
+fn with_mark(hears: bool, mark: u8, others: u8) -> u8
+    ensures { λ r. ⌜ r ≡ withMark hears mark others ⌝ }
+{
+    if hears & (mark == 1) { 1 } else { others }
+}
+
+// The marks of this chip, if it hears, and the others.
+fn with_marks(chip: Chip, address: u8, others: Marks) -> Marks
+    ensures { λ r. ⌜ r ≡ withChip address chip others ⌝ }
+{
+    let hears = chip::hears(chip, address);
+    let own = chip::marks(chip);
+    Marks {
+        high: with_mark(hears, own.high, others.high),
+        low: with_mark(hears, own.low, others.low),
+        device: with_mark(hears, own.device, others.device),
     }
 }
 
@@ -119,6 +147,23 @@ fn smallest(chips: &[Chip], heard: BusByte) -> Acknowledger
     who
 }
 
+// Which marks are unknown at some chip that hears.
+fn unknown(chips: &[Chip], address: u8) -> Marks
+    ensures { λ r. ⌜ r ≡ marksIn address (now (chips .entry)) ⌝ }
+{
+    let mut marks = Marks {
+        high: 0,
+        low: 0,
+        device: 0,
+    };
+    let mut i = chips.len();
+    while 0 < i {
+        i -= 1;
+        marks = with_marks(chips[i], address, marks);
+    }
+    marks
+}
+
 // Every chip takes the byte.
 fn take_all(chips: &mut [Chip], heard: BusByte)
     ensures { λ _. ⌜ now (chips .exit) ≡ map (taken heard) (now (chips .entry)) ⌝ }
@@ -138,9 +183,10 @@ struct Tally {
     last: Acknowledger,
 }
 
-// The byte that comes next, its place, and what is acknowledged so far.
+// The byte that comes next, its place, whether the transfer's last is cut, and what is acknowledged so far.
 struct Turn {
     at: usize,
+    cut: bool,
     tally: Tally,
     heard: BusByte,
 }
@@ -176,6 +222,18 @@ fn last_after(expect: Expect, who: Acknowledger, last: Acknowledger) -> Acknowle
     }
 }
 
+// And after any byte: one that is cut is not the last data byte.
+fn last_heard(heard: BusByte, who: Acknowledger, last: Acknowledger) -> Acknowledger
+    ensures { λ r. ⌜ r ≡ lastHeard heard who last ⌝ }
+{
+    let expect = heard.expect;
+    if heard.cut {
+        last
+    } else {
+        last_after(expect, who, last)
+    }
+}
+
 // The turn after this one, whose byte `who` acknowledges.
 fn next(bytes: &[u8], turn: Turn, who: Acknowledger) -> Turn
     requires { ⌜ (turn .at < length (now bytes)) × (turn .tally .acknowledged ≤ turn .at) ⌝ }
@@ -186,17 +244,20 @@ fn next(bytes: &[u8], turn: Turn, who: Acknowledger) -> Turn
     let tally = turn.tally;
     let last = tally.last;
     let at = turn.at + 1;
+    let cut = turn.cut;
     Turn {
         at,
+        cut,
         tally: Tally {
             acknowledged: counted(tally.acknowledged, who),
-            last: last_after(expect, who, last),
+            last: last_heard(heard, who, last),
         },
         heard: BusByte {
             part: heard.part,
             address: heard.address,
             expect: protocol::follow(expect, heard.byte),
             byte: checks::byte_at(bytes, at),
+            cut: cut & (bytes.len() <= at + 1),
         },
     }
 }
@@ -218,18 +279,18 @@ fn follow(chips: &mut [Chip], bytes: &[u8], start: Turn) -> Tally
 
 // ---- how a transfer begins, and what is answered
 
-// Byte 0 asks who hears it.
-fn hail(bytes: &[u8]) -> Question
-    ensures { λ r. ⌜ r ≡ Question.Hears (getD (now (bytes .entry)) 0 0) ⌝ }
+// The address that byte 0 calls.
+fn address(bytes: &[u8], bits: u8) -> u8
+    ensures { λ r. ⌜ r ≡ addressByte (sent (now (bytes .entry)) bits) ⌝ }
 {
-    Question::Hears(checks::byte_at(bytes, 0))
+    checks::address_byte(bytes, bits)
 }
 
-fn check_bytes(part: u8, bytes: &[u8], heard: bool) -> Check
-    ensures { λ r. ⌜ r ≡ cond heard (faultIn (partOf part) Expect.Control 1 (drop 1 (now (bytes .entry)))) Check.Passed ⌝ }
+fn check_bytes(part: u8, bytes: &[u8], bits: u8, heard: bool, marks: Marks) -> Check
+    ensures { λ r. ⌜ r ≡ cond heard (faultOfSent (partOf part) marks (sent (now (bytes .entry)) bits)) Check.Passed ⌝ }
 {
     if heard {
-        protocol::first_fault(part, bytes)
+        protocol::first_fault(part, marks, bytes, bits)
     } else {
         Check::Passed
     }
@@ -245,43 +306,56 @@ fn check_bench(part: u8, count: usize) -> Check
     }
 }
 
-// Of `count` chips the first misfit stands at `misfit` and the first that hears at `hearer`, or else there is none: 11, 1, 2, then 7 and 17.
-fn check_chips(part: u8, bytes: &[u8], count: usize, misfit: usize, hearer: usize) -> Check
-    ensures { λ r. ⌜ r ≡ checkList part (now (bytes .entry)) count misfit hearer ⌝ }
+// What the list was found to hold: how many chips, where the first misfit and the first that hears stand, or else the count, and the marks of those that hear.
+struct Found {
+    count: usize,
+    misfit: usize,
+    hearer: usize,
+    marks: Marks,
+}
+
+// 11, 1, 2, 19, then 7, 17 and 18.
+fn check_chips(part: u8, bytes: &[u8], bits: u8, found: Found) -> Check
+    ensures { λ r. ⌜ r ≡ checkList part (sent (now (bytes .entry)) bits) found ⌝ }
 {
-    if count <= misfit {
-        match checks::check_length(bytes.len()) {
+    let marks = found.marks;
+    if found.count <= found.misfit {
+        match checks::check_sent(bytes.len(), bits) {
             Check::Refused(refusal) => Check::Refused(refusal),
-            Check::Passed => check_bytes(part, bytes, hearer < count),
+            Check::Passed => check_bytes(part, bytes, bits, found.hearer < found.count, marks),
         }
     } else {
-        Check::Refused(Refusal::ChipField(misfit))
+        Check::Refused(Refusal::ChipField(found.misfit))
     }
 }
 
-fn check_transfer(part: u8, bytes: &[u8], count: usize, misfit: usize, hearer: usize) -> Check
-    ensures { λ r. ⌜ r ≡ checkOf part (now (bytes .entry)) count misfit hearer ⌝ }
+fn check_transfer(part: u8, bytes: &[u8], bits: u8, found: Found) -> Check
+    ensures { λ r. ⌜ r ≡ checkOf part (sent (now (bytes .entry)) bits) found ⌝ }
 {
-    match check_bench(part, count) {
+    match check_bench(part, found.count) {
         Check::Refused(refusal) => Check::Refused(refusal),
-        Check::Passed => check_chips(part, bytes, count, misfit, hearer),
+        Check::Passed => check_chips(part, bytes, bits, found),
     }
 }
 
-fn turn_at(part: u8, bytes: &[u8], at: usize, acknowledged: usize) -> Turn
-    ensures { λ r. ⌜ r ≡ turnAt part (now (bytes .entry)) at acknowledged ⌝ }
+fn turn_at(part: u8, bytes: &[u8], bits: u8, at: usize, acknowledged: usize) -> Turn
+    requires { ⌜ at ≤ length (now bytes) + 1 ⌝ }
+    ensures { λ r. ⌜ r ≡ turnAt part (sent (now (bytes .entry)) bits) at acknowledged ⌝ }
 {
+    let cut = bits < 8;
     Turn {
         at,
+        cut,
         tally: Tally {
             acknowledged,
             last: Acknowledger::None,
         },
         heard: BusByte {
             part,
-            address: checks::byte_at(bytes, 0),
+            address: checks::address_byte(bytes, bits),
             expect: Expect::Control,
             byte: checks::byte_at(bytes, at),
+            cut: cut & (bytes.len() <= at + 1),
         },
     }
 }
@@ -293,19 +367,19 @@ struct Start {
 }
 
 // The address is acknowledged, and the chips follow from the next byte on. Of a transfer that is refused, or that none hears, nothing is left to follow.
-fn begin(bytes: &[u8], part: u8, count: usize, misfit: usize, hearer: usize) -> Start
-    ensures { λ r. ⌜ r ≡ startOf part (now (bytes .entry)) count misfit hearer ⌝ }
+fn begin(bytes: &[u8], part: u8, bits: u8, found: Found) -> Start
+    ensures { λ r. ⌜ r ≡ startOf part (sent (now (bytes .entry)) bits) found ⌝ }
 {
-    let check = check_transfer(part, bytes, count, misfit, hearer);
-    if checks::passes(check) & (hearer < count) {
+    let check = check_transfer(part, bytes, bits, found);
+    if checks::passes(check) & (found.hearer < found.count) {
         Start {
             check,
-            turn: turn_at(part, bytes, 1, 1),
+            turn: turn_at(part, bytes, bits, 1, 1),
         }
     } else {
         Start {
             check,
-            turn: turn_at(part, bytes, bytes.len(), 0),
+            turn: turn_at(part, bytes, bits, bytes.len(), 0),
         }
     }
 }
@@ -321,14 +395,23 @@ fn answer(check: Check, tally: Tally) -> PlainAnswer
     }
 }
 
-// A transfer, START to STOP, taken or refused by 16, 10, 11, 1, 2, then 7 and 17. The list and the bytes come first, as in every walk by hand.
-pub fn transfer(chips: &mut [Chip], bytes: &[u8], part: u8) -> PlainAnswer
-    ensures { λ r. ⌜ (r ≡ plainPart part (now (chips .entry)) (now (bytes .entry)) .answer) × (plainNumbers (partOf part) r ≡ plainNumbers (partOf part) (plainPart part (now (chips .entry)) (now (bytes .entry)) .answer)) ⌝ }
-    ensures { λ _. ⌜ now (chips .exit) ≡ plainPart part (now (chips .entry)) (now (bytes .entry)) .chips ⌝ }
+// A transfer, START to STOP, of whose last byte so many bits came, taken or refused by 16, 10, 11, 1, 2, 19, then 7, 17 and 18. The list and the bytes come first, as in every walk by hand.
+pub fn transfer(chips: &mut [Chip], bytes: &[u8], part: u8, bits: u8) -> PlainAnswer
+    ensures { λ r. ⌜ (r ≡ plainPart part (now (chips .entry)) (sent (now (bytes .entry)) bits) .answer) × (plainNumbers (partOf part) r ≡ plainNumbers (partOf part) (plainPart part (now (chips .entry)) (sent (now (bytes .entry)) bits) .answer)) ⌝ }
+    ensures { λ _. ⌜ now (chips .exit) ≡ plainPart part (now (chips .entry)) (sent (now (bytes .entry)) bits) .chips ⌝ }
 {
+    let called = address(bytes, bits);
     let misfit = first(chips, Question::Misfit(part));
-    let hearer = first(chips, hail(bytes));
-    let start = begin(bytes, part, chips.len(), misfit, hearer);
+    let hearer = first(chips, Question::Hears(called));
+    let marks = unknown(chips, called);
+    let count = chips.len();
+    let found = Found {
+        count,
+        misfit,
+        hearer,
+        marks,
+    };
+    let start = begin(bytes, part, bits, found);
     let tally = follow(chips, bytes, start.turn);
     answer(start.check, tally)
 }
@@ -347,13 +430,13 @@ pub struct BenchTransferred {
 }
 
 // The first `count` chips take part, the others stay.
-fn transfer_first(bytes: &[u8], bench: Bench, part: u8) -> BenchTransferred
+fn transfer_first(bytes: &[u8], bench: Bench, part: u8, bits: u8) -> BenchTransferred
     requires { ⌜ bench .count ≤ 16 ⌝ }
-    ensures { λ r. ⌜ r ≡ firstTransferred part bench (now (bytes .entry)) ⌝ }
+    ensures { λ r. ⌜ r ≡ firstTransferred part bench (sent (now (bytes .entry)) bits) ⌝ }
 {
     let count = bench.count;
     let mut chips = bench.chips;
-    let answer = transfer(&mut chips[..count], bytes, part);
+    let answer = transfer(&mut chips[..count], bytes, part, bits);
     BenchTransferred {
         answer,
         bench: Bench { chips, count },
@@ -370,13 +453,13 @@ pub fn too_many(part: u8) -> Refusal
     }
 }
 
-// The same, taken or refused by 16, 10, 11, 1, 2, then 7 and 17.
-pub fn transfer_bench(part: u8, bench: Bench, bytes: &[u8]) -> BenchTransferred
-    ensures { λ r. ⌜ r ≡ benchTransferred part bench (now (bytes .entry)) ⌝ }
-    ensures { λ r. ⌜ plainNumbers (partOf part) (r .answer) ≡ plainNumbers (partOf part) (benchTransferred part bench (now (bytes .entry)) .answer) ⌝ }
+// The same, taken or refused by 16, 10, 11, 1, 2, 19, then 7, 17 and 18.
+pub fn transfer_bench(part: u8, bench: Bench, bytes: &[u8], bits: u8) -> BenchTransferred
+    ensures { λ r. ⌜ r ≡ benchTransferred part bench (sent (now (bytes .entry)) bits) ⌝ }
+    ensures { λ r. ⌜ plainNumbers (partOf part) (r .answer) ≡ plainNumbers (partOf part) (benchTransferred part bench (sent (now (bytes .entry)) bits) .answer) ⌝ }
 {
     if bench.count <= 16 {
-        transfer_first(bytes, bench, part)
+        transfer_first(bytes, bench, part, bits)
     } else {
         BenchTransferred {
             answer: PlainAnswer::Refused(too_many(part)),

@@ -2,43 +2,49 @@
 -- Assumes nothing.
 use mathlib.Core.Path.{_≡_, refl}
 use mathlib.Core.List.{List, [], _∷_}
-use mathlib.Core.Bool.{true, false≢true}
+use mathlib.Core.Bool.{Bool, true, false, cond, _&&_, false≢true}
 use Prim.Native.Nat.{ℕ, suc, _+_, _≤_, _<_}
 use native.Mathlib.Numerals.{add-one}
 use lib.ListN.{length, getD, drop, drop-of-length-le}
 use Rattle.lemmas.proofs.Lists.{next}
+use Rattle.sheet.specs.declared.Marks.{Marks}
 use Rattle.sheet.specs.declared.Kind.{Kind}
 use Rattle.sheet.specs.declared.Expect.{Expect}
 use Rattle.sheet.specs.declared.Expect.the-variants.{Control, One, All}
 use Rattle.sheet.specs.declared.Refusal.{Refusal}
 use Rattle.sheet.specs.declared.Check.the-variants.{Passed, Refused}
 use Rattle.sheet.specs.Parts.{Part}
-use Rattle.sheet.specs.Checks.{fault, faultIn}
+use Rattle.sheet.specs.Registers.{known}
+use Rattle.sheet.specs.Checks.{fault, marksAfter, lastFault, faultIn}
 use Rattle.sheet.specs.Protocol as protocol
 use Rattle.protocol.specs.Listeners.{onlyData}
 
-module _ (K : Part) (e : Expect) (bytes : List ℕ) (i : ℕ) (h : i < length bytes) where
-  pub found : (r : Refusal) → fault K e i (getD bytes i 0) ≡ Refused r → faultIn K e i (drop i bytes) ≡ Refused r
+module _ (K : Part) (cut : Bool) (u : Marks) (e : Expect) (bytes : List ℕ) (i : ℕ) (h : i < length bytes) where
+  pub found : (r : Refusal) → fault K u e i (getD bytes i 0) ≡ Refused r → faultIn K cut u e i (drop i bytes) ≡ Refused r
   unfolding faultIn
   found r t = rw (next bytes i h, t)
 
-  pub go-on : fault K e i (getD bytes i 0) ≡ Passed
-      → faultIn K e i (drop i bytes) ≡ faultIn K (protocol.next e (getD bytes i 0)) (i + 1) (drop (i + 1) bytes)
+  pub go-on : fault K u e i (getD bytes i 0) ≡ Passed
+      → faultIn K cut u e i (drop i bytes) ≡ faultIn K cut (marksAfter K u e (getD bytes i 0)) (protocol.next e (getD bytes i 0)) (i + 1) (drop (i + 1) bytes)
   unfolding faultIn
   go-on t = rw (next bytes i h, t, add-one i)
 
--- data has no fault
-in-data : (K : Part) (i : ℕ) (xs : List ℕ) → faultIn K (All Kind.Data) i xs ≡ Passed
+-- data has no fault while nothing is unknown
+in-data : (K : Part) (cut : Bool) (u : Marks) (i : ℕ) (xs : List ℕ) → known u ≡ true → faultIn K cut u (All Kind.Data) i xs ≡ Passed
 unfolding faultIn
-in-data K i [] = refl
-in-data K i (x ∷ xs) = in-data K (suc i) xs
+in-data K cut u i [] t = rw t (go cut)
+  where
+    go : (b : Bool) → cond (b && true) Passed Passed ≡ Passed
+    go true = refl
+    go false = refl
+in-data K cut u i (x ∷ xs) t = rw t (in-data K cut u (suc i) xs t)
 
-pub in-run : (K : Part) (e : Expect) (i : ℕ) (xs : List ℕ) → onlyData e ≡ true → faultIn K e i xs ≡ Passed
-in-run K Control i xs t = absurd (false≢true t)
-in-run K (One k) i xs t = absurd (false≢true t)
-in-run K (All Kind.Command) i xs t = absurd (false≢true t)
-in-run K (All Kind.Data) i xs t = in-data K i xs
+pub in-run : (K : Part) (cut : Bool) (u : Marks) (e : Expect) (i : ℕ) (xs : List ℕ) → onlyData e ≡ true → known u ≡ true → faultIn K cut u e i xs ≡ Passed
+in-run K cut u Control i xs t k = absurd (false≢true t)
+in-run K cut u (One kind) i xs t k = absurd (false≢true t)
+in-run K cut u (All Kind.Command) i xs t k = absurd (false≢true t)
+in-run K cut u (All Kind.Data) i xs t k = in-data K cut u i xs k
 
-pub all-looked : (K : Part) (e : Expect) (bytes : List ℕ) (i : ℕ) → length bytes ≤ i → faultIn K e i (drop i bytes) ≡ Passed
+pub all-looked : (K : Part) (cut : Bool) (u : Marks) (e : Expect) (bytes : List ℕ) (i : ℕ) → length bytes ≤ i → faultIn K cut u e i (drop i bytes) ≡ lastFault cut u e i
 unfolding faultIn
-all-looked K e bytes i h = rw (drop-of-length-le bytes h)
+all-looked K cut u e bytes i h = rw (drop-of-length-le bytes h)

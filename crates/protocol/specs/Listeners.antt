@@ -1,7 +1,7 @@
 -- The code's state, which has no RAM: with a RAM it stands for a group of `sheet`. What a byte that is no data, and what a run of data, make of it.
 use Prim.Native.Nat.{ℕ, _+_, _<_, _^_}
 use mathlib.Core.Path.{_≡_}
-use mathlib.Core.Bool.{Bool, true, false}
+use mathlib.Core.Bool.{Bool, true, false, _&&_}
 use mathlib.Core.List.{List}
 use Rattle.sheet.specs.declared.Registers.{Registers}
 use Rattle.sheet.specs.declared.Counts.{Counts}
@@ -9,9 +9,9 @@ use Rattle.sheet.specs.declared.Kind.{Kind}
 use Rattle.sheet.specs.declared.Expect.{Expect}
 use Rattle.sheet.specs.declared.Expect.the-variants.{Control, One, All}
 use Rattle.sheet.specs.Parts.{Part}
-use Rattle.sheet.specs.Registers.{inRange}
+use Rattle.sheet.specs.Registers.{lostBy, inRange}
 use Rattle.sheet.specs.Commands.{obeyed}
-use Rattle.sheet.specs.Protocol.{next}
+use Rattle.sheet.specs.Protocol.{next, isData}
 use Rattle.sheet.specs.Long.{Group, oneAcknowledged}
 use Rattle.sheet.specs.Runs.{countedBy, lastBy, movedBy}
 use Rattle.protocol.specs.declared.Listener.{Listener}
@@ -57,6 +57,10 @@ ran K l n size = record {
   counts = countedBy K (l .registers) n size (l .counts);
   last = lastBy K (l .registers) n size (l .last);
 }
+
+-- after the last whole byte: what a byte that is cut makes of it
+abbrev pub endedBy : Bool → Listener → Listener
+endedBy cut l = record { expect = l .expect; registers = lostBy (cut && isData (l .expect)) (l .registers); counts = l .counts; last = l .last }
 
 -- counts that have room for n data bytes more
 pub record Countable (t : Counts) (m n : ℕ) : Type 0 where

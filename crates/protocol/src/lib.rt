@@ -4,6 +4,7 @@ use sheet::Check;
 use sheet::Counts;
 use sheet::Expect;
 use sheet::Kind;
+use sheet::Marks;
 use sheet::Refusal;
 use sheet::Registers;
 ghost use mathlib.Core.Path.{_≡_};
@@ -11,12 +12,12 @@ ghost use mathlib.Core.List.{[]};
 ghost use Prim.Native.Nat.{_<_, _^_};
 ghost use lib.ListN.{drop};
 ghost use Rattle.sheet.specs.Parts.{partOf};
-ghost use Rattle.sheet.specs.Protocol.{kindOf, controlOf, next};
-ghost use Rattle.sheet.specs.Checks.{faultOf, fault, faultIn};
+ghost use Rattle.sheet.specs.Protocol.{kindOf, controlOf, next, sent, isDataOf, isData};
+ghost use Rattle.sheet.specs.Checks.{faultOf, fault, marksOf, marksAfter, lastFault, faultIn, faultOfSent};
 ghost use Rattle.sheet.specs.Data.{acknowledger};
 ghost use Rattle.sheet.specs.Long.{oneAcknowledged, begun};
 ghost use Rattle.sheet.specs.Runs.{countedRun, lastRun};
-ghost use Rattle.protocol.specs.Listeners.{listenerOf, obeyedBy, dataEnd, onlyData, stepped, ran, Countable, Placed, Runs};
+ghost use Rattle.protocol.specs.Listeners.{listenerOf, obeyedBy, dataEnd, onlyData, stepped, ran, endedBy, Countable, Placed, Runs};
 
 // ---- what a byte is
 
@@ -54,32 +55,84 @@ pub fn follow(expect: Expect, byte: u8) -> Expect
     }
 }
 
+// Whether what follows a control byte is data.
+fn is_data_of(kind: Kind) -> bool
+    ensures { λ r. ⌜ r ≡ isDataOf kind ⌝ }
+{
+    match kind {
+        Kind::Command => false,
+        Kind::Data => true,
+    }
+}
+
+// Whether the next byte is data.
+pub fn is_data(expect: Expect) -> bool
+    ensures { λ r. ⌜ r ≡ isData expect ⌝ }
+{
+    match expect {
+        Expect::Control => false,
+        Expect::One(kind) => is_data_of(kind),
+        Expect::All(kind) => is_data_of(kind),
+    }
+}
+
 // ---- the first fault
 
 // The fault of a byte of a kind, at place i.
-fn fault_of(part: u8, kind: Kind, i: usize, byte: u8) -> Check
-    ensures { λ r. ⌜ r ≡ faultOf (partOf part) kind i byte ⌝ }
+fn fault_of(part: u8, marks: Marks, kind: Kind, i: usize, byte: u8) -> Check
+    ensures { λ r. ⌜ r ≡ faultOf (partOf part) marks kind i byte ⌝ }
 {
     match kind {
         Kind::Command => checks::unless(
             command::is_defined(part, byte),
             Refusal::UndefinedCommand(i),
         ),
-        Kind::Data => Check::Passed,
+        Kind::Data => checks::unless(command::all_known(marks), Refusal::UnknownPlace(i)),
     }
 }
 
-fn fault(part: u8, expect: Expect, i: usize, byte: u8) -> Check
-    ensures { λ r. ⌜ r ≡ fault (partOf part) expect i byte ⌝ }
+fn fault(part: u8, marks: Marks, expect: Expect, i: usize, byte: u8) -> Check
+    ensures { λ r. ⌜ r ≡ fault (partOf part) marks expect i byte ⌝ }
 {
     match expect {
         Expect::Control => checks::unless(byte % 64 == 0, Refusal::StrayBits(i)),
-        Expect::One(kind) => fault_of(part, kind, i, byte),
-        Expect::All(kind) => fault_of(part, kind, i, byte),
+        Expect::One(kind) => fault_of(part, marks, kind, i, byte),
+        Expect::All(kind) => fault_of(part, marks, kind, i, byte),
     }
 }
 
-// Whether all bytes that are left are data, in which there is no fault.
+// The marks after a byte of a kind.
+fn marks_of(part: u8, marks: Marks, kind: Kind, byte: u8) -> Marks
+    ensures { λ r. ⌜ r ≡ marksOf (partOf part) marks kind byte ⌝ }
+{
+    match kind {
+        Kind::Command => command::restore(part, marks, byte),
+        Kind::Data => marks,
+    }
+}
+
+fn marks_after(part: u8, marks: Marks, expect: Expect, byte: u8) -> Marks
+    ensures { λ r. ⌜ r ≡ marksAfter (partOf part) marks expect byte ⌝ }
+{
+    match expect {
+        Expect::Control => marks,
+        Expect::One(kind) => marks_of(part, marks, kind, byte),
+        Expect::All(kind) => marks_of(part, marks, kind, byte),
+    }
+}
+
+// The fault of a byte that is cut, if there is one.
+fn last_fault(cut: bool, marks: Marks, expect: Expect, i: usize) -> Check
+    ensures { λ r. ⌜ r ≡ lastFault cut marks expect i ⌝ }
+{
+    if cut & is_data(expect) {
+        checks::unless(command::all_known(marks), Refusal::UnknownPlace(i))
+    } else {
+        Check::Passed
+    }
+}
+
+// Whether all bytes that are left are data: in them there is no fault while nothing is unknown.
 fn only_data(expect: Expect) -> bool
     ensures { λ r. ⌜ r ≡ onlyData expect ⌝ }
 {
@@ -93,24 +146,34 @@ fn only_data(expect: Expect) -> bool
     }
 }
 
-// The first fault after the address byte. Nothing is changed.
-pub fn first_fault(part: u8, bytes: &[u8]) -> Check
-    ensures { λ r. ⌜ r ≡ faultIn (partOf part) Expect.Control 1 (drop 1 (now (bytes .entry))) ⌝ }
+// The first fault of whole bytes after the address byte, and of one that is cut after them.
+fn fault_in(part: u8, cut: bool, initial: Marks, bytes: &[u8]) -> Check
+    ensures { λ r. ⌜ r ≡ faultIn (partOf part) cut initial Expect.Control 1 (drop 1 (now (bytes .entry))) ⌝ }
 {
     let mut expect = Expect::Control;
+    let mut marks = initial;
     let mut i: usize = 1;
     while i < bytes.len() {
         let byte = bytes[i];
-        if let Check::Refused(refusal) = fault(part, expect, i, byte) {
+        if let Check::Refused(refusal) = fault(part, marks, expect, i, byte) {
             return Check::Refused(refusal);
         }
+        marks = marks_after(part, marks, expect, byte);
         expect = follow(expect, byte);
-        if only_data(expect) {
+        if only_data(expect) & command::all_known(marks) {
             return Check::Passed;
         }
         i += 1;
     }
-    Check::Passed
+    last_fault(cut, marks, expect, i)
+}
+
+// The first fault of a transfer to chips with these marks. Nothing is changed.
+pub fn first_fault(part: u8, marks: Marks, bytes: &[u8], bits: u8) -> Check
+    ensures { λ r. ⌜ r ≡ faultOfSent (partOf part) marks (sent (now (bytes .entry)) bits) ⌝ }
+{
+    let whole = checks::whole_count(bytes.len(), bits);
+    fault_in(part, bits < 8, marks, &bytes[..whole])
 }
 
 // ---- a group that listens
@@ -269,6 +332,21 @@ impl Listener {
             registers: arithmetic::at_position(part, registers, after),
             counts: counted(counts, v, size, m, n),
             last: last_of(part, last, v, size, m, n),
+        }
+    }
+    // After the last whole byte of a transfer: a data byte that is cut makes pointer and counter unknown.
+    pub fn end(self, cut: bool) -> Listener
+        ensures { λ r. ⌜ r ≡ endedBy cut self ⌝ }
+    {
+        let expect = self.expect;
+        let registers = self.registers;
+        let counts = self.counts;
+        let last = self.last;
+        Listener {
+            expect,
+            registers: command::lose(cut & is_data(expect), registers),
+            counts,
+            last,
         }
     }
 }

@@ -6,10 +6,9 @@ use sheet::Chips;
 use sheet::Refusal;
 ghost use mathlib.Core.Path.{_≡_};
 ghost use mathlib.Core.Bool.{_&&_};
-ghost use lib.ListN.{getD};
 ghost use Rattle.sheet.specs.Parts.{partOf};
 ghost use Rattle.sheet.specs.Registers.{inRange};
-ghost use Rattle.sheet.specs.Protocol.{heardBy};
+ghost use Rattle.sheet.specs.Protocol.{heardBy, sent, addressByte};
 ghost use Rattle.sheet.specs.Checks.{orElse, checkPart, checkChips, checkRam, checkBytes, checkState, checkPowerOn, checkTransfer, checkPicture};
 
 // Whether every register of both groups is in range.
@@ -69,25 +68,35 @@ fn check_state(part: u8, chips: Chips, registers: Both, ram: &[u8]) -> Check
     }
 }
 
-// The bytes of a transfer that a chip hears: 7 and 17.
-fn check_bytes(part: u8, chips: Chips, bytes: &[u8]) -> Check
-    ensures { λ r. ⌜ r ≡ checkBytes (partOf part) (heardBy chips (getD (now (bytes .entry)) 0 0)) (now (bytes .entry)) ⌝ }
+// The bytes of a transfer that a chip hears: 7, 17 and 18.
+fn check_bytes(part: u8, chips: Chips, registers: Both, bytes: &[u8], bits: u8) -> Check
+    ensures { λ r. ⌜ r ≡ checkBytes (partOf part) registers (heardBy chips (addressByte (sent (now (bytes .entry)) bits))) (sent (now (bytes .entry)) bits) ⌝ }
 {
-    match groups::heard_by(chips, checks::byte_at(bytes, 0)) {
-        Addressed::To(_) => protocol::first_fault(part, bytes),
+    match groups::heard_by(chips, checks::address_byte(bytes, bits)) {
+        Addressed::To(group) => {
+            let called = groups::registers_of(group, registers);
+            protocol::first_fault(part, called.unknown, bytes, bits)
+        }
         Addressed::Nobody => Check::Passed,
     }
 }
 
-// A transfer: 16, 3, 6, 4, 5, 1, 2, then 7 and 17.
-pub fn check_transfer(part: u8, chips: Chips, registers: Both, ram: &[u8], bytes: &[u8]) -> Check
-    ensures { λ r. ⌜ r ≡ orElse (checkPart part) (checkTransfer (partOf part) chips registers (now (ram .entry)) (now (bytes .entry))) ⌝ }
+// A transfer: 16, 3, 6, 4, 5, 1, 2, 19, then 7, 17 and 18.
+pub fn check_transfer(
+    part: u8,
+    chips: Chips,
+    registers: Both,
+    ram: &[u8],
+    bytes: &[u8],
+    bits: u8,
+) -> Check
+    ensures { λ r. ⌜ r ≡ orElse (checkPart part) (checkTransfer (partOf part) chips registers (now (ram .entry)) (sent (now (bytes .entry)) bits)) ⌝ }
 {
     match check_state(part, chips, registers, ram) {
         Check::Refused(refusal) => Check::Refused(refusal),
-        Check::Passed => match checks::check_length(bytes.len()) {
+        Check::Passed => match checks::check_sent(bytes.len(), bits) {
             Check::Refused(refusal) => Check::Refused(refusal),
-            Check::Passed => check_bytes(part, chips, bytes),
+            Check::Passed => check_bytes(part, chips, registers, bytes, bits),
         },
     }
 }

@@ -16,12 +16,12 @@ use Rattle.sheet.specs.declared.Answer.{Answer}
 use Rattle.sheet.specs.declared.PlainAnswer.{PlainAnswer}
 use Rattle.sheet.specs.declared.Pictured.{Pictured}
 use Rattle.sheet.specs.Parts.{Part}
-use Rattle.sheet.specs.Registers.{inRange}
+use Rattle.sheet.specs.Registers.{inRange, registersOf}
 use Rattle.sheet.specs.Commands.{obeyed}
-use Rattle.sheet.specs.Protocol.{chipsIn}
+use Rattle.sheet.specs.Protocol.{chipsIn, Sent}
 use Rattle.sheet.specs.Checks.{checkState}
 use Rattle.sheet.specs.Pictures.{Seen}
-use Rattle.sheet.specs.Long.{State, stateOf, registersOf, startOf, powerOnCall, transferCall, pictureCall, stateAfter, stateAfterAll}
+use Rattle.sheet.specs.Long.{State, stateOf, startOf, powerOnCall, transferCall, pictureCall, stateAfter, stateAfterAll}
 use Rattle.sheet.specs.Plain.{ownColumns, chipPowerOn, chipPictureCall, plainCall}
 
 -- ---- the chips of a long state
@@ -47,20 +47,20 @@ abbrev pub plainly : Answer → PlainAnswer
 plainly (Answer.Taken t last) = PlainAnswer.Acknowledged (t .acknowledged) last
 plainly (Answer.Refused r) = PlainAnswer.Refused r
 
-abbrev pub answerTo : Part → Chips → State → List ℕ → PlainAnswer
-answerTo K n s bytes = plainly (transferCall K n (s .registers) (s .ram) bytes .result .answer)
+abbrev pub answerTo : Part → Chips → State → Sent → PlainAnswer
+answerTo K n s t = plainly (transferCall K n (s .registers) (s .ram) t .result .answer)
 
 -- ---- and of a sequence
 
-unfoldable pub longAnswers : Part → Chips → State → List (List ℕ) → List PlainAnswer
+unfoldable pub longAnswers : Part → Chips → State → List Sent → List PlainAnswer
 longAnswers K n s [] = []
 longAnswers K n s (t ∷ ts) = answerTo K n s t ∷ longAnswers K n (stateAfter K n s t) ts
 
-unfoldable pub plainAll : Part → List Chip → List (List ℕ) → List Chip
+unfoldable pub plainAll : Part → List Chip → List Sent → List Chip
 plainAll K cs [] = cs
 plainAll K cs (t ∷ ts) = plainAll K (plainCall K cs t .chips) ts
 
-unfoldable pub plainAnswers : Part → List Chip → List (List ℕ) → List PlainAnswer
+unfoldable pub plainAnswers : Part → List Chip → List Sent → List PlainAnswer
 plainAnswers K cs [] = []
 plainAnswers K cs (t ∷ ts) = plainCall K cs t .answer ∷ plainAnswers K (plainCall K cs t .chips) ts
 
@@ -80,10 +80,10 @@ abbrev pub Keeps : Part → Type 0
 Keeps K = (r : Registers) (x : ℕ) → inRange K r ≡ true → inRange K (obeyed r (K .command x)) ≡ true
 
 -- hold and acknowledge: one transfer
-pub record Agrees (K : Part) (n : Chips) (s : State) (bytes : List ℕ) : Type 0 where
-  pub hold : plainCall K (chipsOf K n s) bytes .chips ≡ chipsOf K n (stateAfter K n s bytes)
-  pub acknowledge : plainCall K (chipsOf K n s) bytes .answer ≡ answerTo K n s bytes
-  pub valid : Valid K n (stateAfter K n s bytes)
+pub record Agrees (K : Part) (n : Chips) (s : State) (t : Sent) : Type 0 where
+  pub hold : plainCall K (chipsOf K n s) t .chips ≡ chipsOf K n (stateAfter K n s t)
+  pub acknowledge : plainCall K (chipsOf K n s) t .answer ≡ answerTo K n s t
+  pub valid : Valid K n (stateAfter K n s t)
 
 -- each chip shown alone, into a buffer of a byte a column
 abbrev pub chipSeen : Part → ℕ → Chip → Seen
@@ -113,7 +113,7 @@ pub record Shows (K : Part) (n : Chips) (s : State) (cs : List Chip) (g phase : 
   pub lit : pictureCall K n (s .registers) (s .ram) g phase out .result ≡ Pictured.Lit (chipsLit K phase (withAddress g cs))
 
 -- hold, acknowledge and show: chips cs and state s, after any sequence of transfers
-pub record AgreesAll (K : Part) (n : Chips) (s : State) (cs : List Chip) (ts : List (List ℕ)) : Type 0 where
+pub record AgreesAll (K : Part) (n : Chips) (s : State) (cs : List Chip) (ts : List Sent) : Type 0 where
   pub hold : plainAll K cs ts ≡ chipsOf K n (stateAfterAll K n s ts)
   pub acknowledge : plainAnswers K cs ts ≡ longAnswers K n s ts
   pub show : (g phase : ℕ) (out : List ℕ) → g < 2 → phase < 2 → length out ≡ K .columns * chipsIn g n → Shows K n (stateAfterAll K n s ts) (plainAll K cs ts) g phase out
@@ -125,9 +125,9 @@ poweredOn K cs = map (λ c. chipPowerOn K c .chip) cs
 
 -- the demand: from any valid state, and from power-on
 pub record Demand3 (K : Part) : Type 1 where
-  pub transfer : (n : Chips) (s : State) (bytes : List ℕ) → Valid K n s → Agrees K n s bytes
-  pub sequence : (n : Chips) (s : State) (ts : List (List ℕ)) → Valid K n s → AgreesAll K n s (chipsOf K n s) ts
-  pub powered-on : (n : Chips) (r : Both) (ram : List ℕ) (ts : List (List ℕ)) → powerOnCall K n ram .check ≡ Passed
+  pub transfer : (n : Chips) (s : State) (t : Sent) → Valid K n s → Agrees K n s t
+  pub sequence : (n : Chips) (s : State) (ts : List Sent) → Valid K n s → AgreesAll K n s (chipsOf K n s) ts
+  pub powered-on : (n : Chips) (r : Both) (ram : List ℕ) (ts : List Sent) → powerOnCall K n ram .check ≡ Passed
       → AgreesAll K n (stateOf (powerOnCall K n ram .registers) ram) (poweredOn K (chipsOf K n (stateOf r ram))) ts
 
 -- of any part with a column, wherever its commands keep the ranges. A state with more chips than the limit is not valid
@@ -144,10 +144,10 @@ abbrev pub pastColumns : Part → Chip → List ℕ
 pastColumns K c = drop (K .columns) (c .columns)
 
 -- of a transfer to any list of chips: the answer and the columns are those of the chips without it, and it stays
-pub record PastStays (K : Part) (cs : List Chip) (bytes : List ℕ) : Type 0 where
-  pub answer : plainCall K cs bytes .answer ≡ plainCall K (map (trimmed K) cs) bytes .answer
-  pub own : map (trimmed K) (plainCall K cs bytes .chips) ≡ plainCall K (map (trimmed K) cs) bytes .chips
-  pub past : map (pastColumns K) (plainCall K cs bytes .chips) ≡ map (pastColumns K) cs
+pub record PastStays (K : Part) (cs : List Chip) (t : Sent) : Type 0 where
+  pub answer : plainCall K cs t .answer ≡ plainCall K (map (trimmed K) cs) t .answer
+  pub own : map (trimmed K) (plainCall K cs t .chips) ≡ plainCall K (map (trimmed K) cs) t .chips
+  pub past : map (pastColumns K) (plainCall K cs t .chips) ≡ map (pastColumns K) cs
 
 -- of one chip's power-on and picture
 pub record PastUnread (K : Part) (c : Chip) : Type 0 where

@@ -8,7 +8,7 @@ use lib.ListN.{replicate}
 use Rattle.sheet.specs.declared.Registers.{Registers}
 use Rattle.sheet.specs.Refusals.{pictureNumbers}
 use Rattle.sheet.specs.Parts.{pcf8532}
-use Rattle.sheet.specs.Registers.{inRange, backplanes, bankRow}
+use Rattle.sheet.specs.Registers.{inRange, backplanes, bankRow, marked}
 use Rattle.sheet.specs.Checks.{checkChips, checkRegisters, overIn, checkRam, checkState, checkPicture}
 use Rattle.sheet.specs.Pictures.{shown, pictureOf, litIn, Seen}
 use Rattle.sheet.specs.Long.{pictureCall}
@@ -28,7 +28,7 @@ abbrev shows : ℕ → ℕ → ℕ → ℕ → ℕ → ℕ → Blink
 shows m e ab bf phase value = record { m = m; e = e; ab = ab; bf = bf; phase = phase; value = value }
 
 abbrev pub registersOf : Blink → Registers
-registersOf b = record { e = b .e; b = 0; m = b .m; p = 0; a = 0; i = 0; o = 0; ab = b .ab; bf = b .bf }
+registersOf b = record { e = b .e; b = 0; m = b .m; p = 0; a = 0; i = 0; o = 0; ab = b .ab; bf = b .bf; unknown = marked 0 }
 
 -- every column shows the value, and the lit elements are theirs
 abbrev pub is : Seen → ℕ → Bool

@@ -13,9 +13,9 @@ use Rattle.sheet.specs.declared.Expect.{Expect}
 use Rattle.sheet.specs.declared.Kind.{Kind}
 use Rattle.sheet.specs.declared.Expect.the-variants.{Control, One, All}
 use Rattle.sheet.specs.Parts.{Part}
-use Rattle.sheet.specs.Registers.{backplanes, bankRow}
-use Rattle.sheet.specs.Protocol.{addressOf, next}
-use Rattle.sheet.specs.Long.{Group, begun, byte, registersOf, columnsOf, transferCall}
+use Rattle.sheet.specs.Registers.{backplanes, bankRow, registersOf}
+use Rattle.sheet.specs.Protocol.{addressOf, next, Sent, wholeOf, addressByte}
+use Rattle.sheet.specs.Long.{Group, begun, byte, columnsOf, transferCall}
 use Rattle.sheet.specs.Plain.{afterColumns, chipByte, plainCall}
 use Rattle.sheet.specs.Places.{position}
 use Rattle.sheet.specs.Data.{rowOf, widthOf}
@@ -40,20 +40,20 @@ byteOn K Control r c q = false
 byteOn K (One k) r c q = kindOn K k r c q
 byteOn K (All k) r c q = kindOn K k r c q
 
--- the bytes of a transfer that are left
+-- the whole bytes of a transfer that are left; of one that is cut no bit lands
 unfoldable pub heardOn : Part → Expect → List ℕ → Group → ℕ → ℕ → Bool
 heardOn K e [] g c q = false
 heardOn K e (x ∷ xs) g c q = byteOn K e (g .registers) c q || heardOn K (next e x) xs (byte K e x g) c q
 
 -- row q of column c of group g: no data bit of a transfer to it lands there
-abbrev pub Missed : Part → Chips → Both → List ℕ → List ℕ → ℕ → ℕ → ℕ → Type 0
-Missed K n r ram bytes g c q = getD bytes 0 0 ≡ addressOf g → heardOn K Control (drop 1 bytes) (begun (registersOf g r) (columnsOf K n g ram)) c q ≡ false
+abbrev pub Missed : Part → Chips → Both → List ℕ → Sent → ℕ → ℕ → ℕ → Type 0
+Missed K n r ram t g c q = addressByte t ≡ addressOf g → heardOn K Control (drop 1 (wholeOf t)) (begun (registersOf g r) (columnsOf K n g ram)) c q ≡ false
 
-pub record LongStays (K : Part) (n : Chips) (r : Both) (ram bytes : List ℕ) (g : ℕ) : Type 0 where
-  pub row : (c q : ℕ) → Missed K n r ram bytes g c q
-      → rowOf (getD (columnsOf K n g (transferCall K n r ram bytes .ram)) c 0) q ≡ rowOf (getD (columnsOf K n g ram) c 0) q
-  pub columns : (getD bytes 0 0 ≡ addressOf g → ⊥) → columnsOf K n g (transferCall K n r ram bytes .ram) ≡ columnsOf K n g ram
-  pub registers : (getD bytes 0 0 ≡ addressOf g → ⊥) → registersOf g (transferCall K n r ram bytes .result .registers) ≡ registersOf g r
+pub record LongStays (K : Part) (n : Chips) (r : Both) (ram : List ℕ) (t : Sent) (g : ℕ) : Type 0 where
+  pub row : (c q : ℕ) → Missed K n r ram t g c q
+      → rowOf (getD (columnsOf K n g (transferCall K n r ram t .ram)) c 0) q ≡ rowOf (getD (columnsOf K n g ram) c 0) q
+  pub columns : (addressByte t ≡ addressOf g → ⊥) → columnsOf K n g (transferCall K n r ram t .ram) ≡ columnsOf K n g ram
+  pub registers : (addressByte t ≡ addressOf g → ⊥) → registersOf g (transferCall K n r ram t .result .registers) ≡ registersOf g r
 
 -- ---- the plain account
 
@@ -91,12 +91,12 @@ chipHeardOn K e [] c p q = false
 chipHeardOn K e (x ∷ xs) c p q = chipByteOn K e x c p q || chipHeardOn K (next e x) xs (chipByte K e x c) p q
 
 -- a chip of a list before a transfer to the list, and after it
-pub record PlainStays (K : Part) (bytes : List ℕ) (before after : Chip) : Type 0 where
-  pub row : (p q : ℕ) → chipHeardOn K Control (drop 1 bytes) before p q ≡ false → rowOf (getD (after .columns) p 0) q ≡ rowOf (getD (before .columns) p 0) q
-  pub chip : (getD bytes 0 0 ≡ addressOf (before .sa0) → ⊥) → after ≡ before
+pub record PlainStays (K : Part) (t : Sent) (before after : Chip) : Type 0 where
+  pub row : (p q : ℕ) → chipHeardOn K Control (drop 1 (wholeOf t)) before p q ≡ false → rowOf (getD (after .columns) p 0) q ≡ rowOf (getD (before .columns) p 0) q
+  pub chip : (addressByte t ≡ addressOf (before .sa0) → ⊥) → after ≡ before
 
 -- ---- the claim: of any state, and of each chip of any list
 
 pub record Untouched (K : Part) : Type 1 where
-  pub long : (n : Chips) (r : Both) (ram bytes : List ℕ) (g : ℕ) → g < 2 → LongStays K n r ram bytes g
-  pub plain : (cs : List Chip) (bytes : List ℕ) (i : ℕ) (d : Chip) → i < length cs → PlainStays K bytes (getD cs i d) (getD (plainCall K cs bytes .chips) i d)
+  pub long : (n : Chips) (r : Both) (ram : List ℕ) (t : Sent) (g : ℕ) → g < 2 → LongStays K n r ram t g
+  pub plain : (cs : List Chip) (t : Sent) (i : ℕ) (d : Chip) → i < length cs → PlainStays K t (getD cs i d) (getD (plainCall K cs t .chips) i d)

@@ -9,8 +9,8 @@ use Rattle.sheet.specs.declared.Chip.{Chip}
 use Rattle.sheet.specs.Refusals.{numbers, plainNumbers}
 use Rattle.sheet.specs.Registers.{powerOn, atPlace, inRange, backplanes, bankRow}
 use Rattle.sheet.specs.Parts.{within, commandIn, pcf8532}
-use Rattle.sheet.specs.Protocol.{heardBy, controlOf}
-use Rattle.sheet.specs.Checks.{checkChips, checkRegisters, overIn, checkRam, checkLength, faultIn, checkState, checkTransfer}
+use Rattle.sheet.specs.Protocol.{heardBy, controlOf, whole, wholeOf, cutData}
+use Rattle.sheet.specs.Checks.{checkChips, checkRegisters, overIn, checkRam, checkLength, checkBits, checkSent, faultIn, checkState, checkTransfer}
 use Rattle.sheet.specs.Long.{State, stateOf, bothOn, heard, dataByte, transferCall, stateAfter}
 use Rattle.sheet.specs.Plain.{putRows, afterColumn, afterColumns, chipData, acknowledgesData, smallest, plainHeard, chipFits, misfitIn, checkPlain, plainCall}
 use Rattle.sheet.specs.Places.{advanced, position, atPosition}
@@ -22,11 +22,11 @@ use Rattle.sheet.specs.Starred.{same}
 
 abbrev pub longLasts : Chips → State → List (List ℕ) → List ℕ
 longLasts n s [] = []
-longLasts n s (t ∷ ts) = getD (numbers pcf8532 (transferCall pcf8532 n (s .registers) (s .ram) t .result .answer)) 5 99 ∷ longLasts n (stateAfter pcf8532 n s t) ts
+longLasts n s (t ∷ ts) = getD (numbers pcf8532 (transferCall pcf8532 n (s .registers) (s .ram) (whole t) .result .answer)) 5 99 ∷ longLasts n (stateAfter pcf8532 n s (whole t)) ts
 
 abbrev pub plainLasts : List Chip → List (List ℕ) → List ℕ
 plainLasts cs [] = []
-plainLasts cs (t ∷ ts) = let a = plainCall pcf8532 cs t in getD (plainNumbers pcf8532 (a .answer)) 5 99 ∷ plainLasts (a .chips) ts
+plainLasts cs (t ∷ ts) = let a = plainCall pcf8532 cs (whole t) in getD (plainNumbers pcf8532 (a .answer)) 5 99 ∷ plainLasts (a .chips) ts
 
 -- ---- both accounts
 
@@ -93,5 +93,5 @@ unequal =
     && (says (chip 0 0 1 ∷ chip 0 3 3 ∷ []) 3 && (says (chip 1 0 0 ∷ chip 0 1 1 ∷ chip 0 1 1 ∷ []) 1 && (says (chip 0 0 1 ∷ chip 0 1 0 ∷ []) 4 && says [] 4)))))
 
 pub last : T (every table && unequal)
-unfolding plainCall checkPlain misfitIn chipFits plainHeard groupChips chipData afterColumn afterColumns putRows advanced acknowledgesData smallest transferCall checkTransfer checkState checkChips checkRegisters checkRam checkLength overIn faultIn heardBy heard dataByte controlOf commandIn within inRange backplanes bankRow position atPosition putBits changed withRow storedBits counted acknowledger
+unfolding plainCall checkPlain misfitIn chipFits plainHeard groupChips chipData afterColumn afterColumns putRows advanced acknowledgesData smallest transferCall checkTransfer checkState checkChips checkRegisters checkRam checkLength checkBits checkSent overIn faultIn wholeOf cutData heardBy heard dataByte controlOf commandIn within inRange backplanes bankRow position atPosition putBits changed withRow storedBits counted acknowledger
 last = tt

@@ -15,11 +15,13 @@ pub mod Rescue
 pub mod Plain
 pub mod Agree
 pub mod Lands
+pub mod Cuts
 pub mod Pointing
 pub mod Starred
 pub mod Smaller
 pub mod Blinking
 pub mod Stray
+pub mod Cut
 pub mod Last
 pub mod Landing
 pub mod Orders

@@ -13,10 +13,12 @@ use Rattle.sheet.specs.declared.Refusal.the-variants.{LogHead, LongLog}
 use Rattle.sheet.specs.declared.Answer.{Answer}
 use Rattle.sheet.specs.Refusals.{numberOf, placeOf, numbers}
 use Rattle.sheet.specs.Parts.{pcf8532}
+use Rattle.sheet.specs.Registers.{registersOf}
+use Rattle.sheet.specs.Protocol.{Sent, whole}
 use Rattle.sheet.specs.Records.{Records, lengthOf, recordsFrom}
 use Rattle.sheet.specs.Checks.{unless, orElse, checkChips}
 use Rattle.sheet.specs.Pictures.{pictureOf, litIn}
-use Rattle.sheet.specs.Long.{State, stateOf, bothOn, transferCall, stateAfter, stateAfterAll, registersOf, columnsOf}
+use Rattle.sheet.specs.Long.{State, stateOf, bothOn, transferCall, stateAfter, stateAfterAll, columnsOf}
 
 -- ---- the log
 
@@ -42,11 +44,14 @@ checkHead log =
 unfoldable pub checkLog : List ℕ → Check
 checkLog log = orElse (checkHead log) (logRecords log .tear)
 
--- the transfers in bodies, each after what was seen
-abbrev pub transfersIn : ℕ → List (List ℕ) → List (List ℕ)
-transfersIn seen bodies = map (drop seen) bodies
+-- the transfer in a body, after what was seen; logs carry whole bytes
+abbrev pub transferIn : ℕ → List ℕ → Sent
+transferIn seen body = whole (drop seen body)
 
-abbrev pub logTransfers : List ℕ → List (List ℕ)
+abbrev pub transfersIn : ℕ → List (List ℕ) → List Sent
+transfersIn seen bodies = map (transferIn seen) bodies
+
+abbrev pub logTransfers : List ℕ → List Sent
 logTransfers log = transfersIn (seenBytes log) (logRecords log .bodies)
 
 -- ---- lines
@@ -111,7 +116,7 @@ recordLines seen i count answer = transferLine i answer ++ cond (eqb seen 0) [] 
 unfoldable pub transferLines : ℕ → Chips → ℕ → State → List (List ℕ) → List ℕ
 transferLines seen n i s [] = []
 transferLines seen n i s (body ∷ bodies) =
-    recordLines seen i (seenIn body) (transferCall pcf8532 n (s .registers) (s .ram) (drop seen body) .result .answer) ++ transferLines seen n (suc i) (stateAfter pcf8532 n s (drop seen body)) bodies
+    recordLines seen i (seenIn body) (transferCall pcf8532 n (s .registers) (s .ram) (transferIn seen body) .result .answer) ++ transferLines seen n (suc i) (stateAfter pcf8532 n s (transferIn seen body)) bodies
 
 -- `S group column value`, if the column is lit
 abbrev pub columnLine : ℕ → ℕ → ℕ → List ℕ

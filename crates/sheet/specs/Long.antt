@@ -3,7 +3,7 @@ use Prim.Native.Nat.{ℕ, zero, _+_, _*_}
 use mathlib.Core.Bool.{cond}
 use mathlib.Core.List.{List, [], _∷_, _++_}
 use lib.Dec.{eqb}
-use lib.ListN.{length, getD, take, drop}
+use lib.ListN.{length, take, drop}
 use Rattle.sheet.specs.declared.Registers.{Registers}
 use Rattle.sheet.specs.declared.Both.{Both}
 use Rattle.sheet.specs.declared.Chips.{Chips}
@@ -19,9 +19,9 @@ use Rattle.sheet.specs.declared.Answer.{Answer}
 use Rattle.sheet.specs.declared.Transferred.{Transferred}
 use Rattle.sheet.specs.declared.PowerOn.{PowerOn}
 use Rattle.sheet.specs.Parts.{Part, partOf}
-use Rattle.sheet.specs.Registers.{backplanes, bankRow, powerOn}
+use Rattle.sheet.specs.Registers.{backplanes, bankRow, powerOn, lostBy, registersOf}
 use Rattle.sheet.specs.Commands.{obeyed}
-use Rattle.sheet.specs.Protocol.{heardBy, next, chipsIn}
+use Rattle.sheet.specs.Protocol.{heardBy, next, chipsIn, Sent, wholeOf, addressByte, cutData}
 use Rattle.sheet.specs.Checks.{orElse, checkPart, checkPowerOn, checkTransfer, checkPicture}
 use Rattle.sheet.specs.Pictures.{pictureOf, Seen, seenBy, seen}
 use Rattle.sheet.specs.Places.{position, atPosition}
@@ -75,15 +75,20 @@ byte K Control x g = control g
 byte K (One k) x g = byteOf K k x g
 byte K (All k) x g = byteOf K k x g
 
--- the bytes of a transfer that are left. It may end anywhere
+-- the whole bytes of a transfer that are left. It may end anywhere
 unfoldable pub heard : Part → Expect → List ℕ → Group → Group
 heard K e [] g = g
 heard K e (x ∷ xs) g = heard K (next e x) xs (byte K e x g)
 
--- ---- two groups in one RAM
+-- the byte that is cut, after them: it stores nothing and is not counted
+abbrev pub ended : Sent → Group → Group
+ended t g = record { registers = lostBy (cutData t) (g .registers); ram = g .ram; counts = g .counts; last = g .last }
 
-abbrev pub registersOf : ℕ → Both → Registers
-registersOf g r = cond (eqb g 0) (r .zero) (r .one)
+-- all of a transfer after its address
+abbrev pub heardWhole : Part → Sent → Group → Group
+heardWhole K t g = ended t (heard K Control (drop 1 (wholeOf t)) g)
+
+-- ---- two groups in one RAM
 
 abbrev pub replaced : ℕ → Registers → Both → Both
 replaced g s r = cond (eqb g 0) (record { zero = s; one = r .one }) (record { zero = r .zero; one = s })
@@ -122,18 +127,16 @@ heardIn K n g r ram h = record {
   ram = withColumns K n g (h .ram) ram;
 }
 
-abbrev pub taken : Part → Chips → Both → List ℕ → List ℕ → Addressed → After
-taken K n r ram bytes (To g) =
-    heardIn K n g r ram (heard K Control (drop 1 bytes) (begun (registersOf g r) (columnsOf K n g ram)))
-taken K n r ram bytes Nobody = record { result = record { answer = Answer.Taken noCounts Acknowledger.None; registers = r }; ram = ram }
+abbrev pub taken : Part → Chips → Both → List ℕ → Sent → Addressed → After
+taken K n r ram t (To g) = heardIn K n g r ram (heardWhole K t (begun (registersOf g r) (columnsOf K n g ram)))
+taken K n r ram t Nobody = record { result = record { answer = Answer.Taken noCounts Acknowledger.None; registers = r }; ram = ram }
 
 abbrev pub answered : Check → Both → List ℕ → After → After
 answered Check.Passed r ram a = a
 answered (Check.Refused x) r ram a = record { result = record { answer = Answer.Refused x; registers = r }; ram = ram }
 
-unfoldable pub transferCall : Part → Chips → Both → List ℕ → List ℕ → After
-transferCall K n r ram bytes =
-    answered (checkTransfer K n r ram bytes) r ram (taken K n r ram bytes (heardBy n (getD bytes 0 0)))
+unfoldable pub transferCall : Part → Chips → Both → List ℕ → Sent → After
+transferCall K n r ram t = answered (checkTransfer K n r ram t) r ram (taken K n r ram t (heardBy n (addressByte t)))
 
 -- what the calls go on with, and what it is after a transfer, taken or refused
 pub record State : Type 0 where
@@ -143,13 +146,13 @@ pub record State : Type 0 where
 abbrev pub stateOf : Both → List ℕ → State
 stateOf r ram = record { registers = r; ram = ram }
 
-abbrev pub stateAfter : Part → Chips → State → List ℕ → State
-stateAfter K n s bytes =
-    let a = transferCall K n (s .registers) (s .ram) bytes in
+abbrev pub stateAfter : Part → Chips → State → Sent → State
+stateAfter K n s t =
+    let a = transferCall K n (s .registers) (s .ram) t in
     stateOf (a .result .registers) (a .ram)
 
 -- after a sequence of transfers; a refused one changes nothing
-unfoldable pub stateAfterAll : Part → Chips → State → List (List ℕ) → State
+unfoldable pub stateAfterAll : Part → Chips → State → List Sent → State
 stateAfterAll K n s [] = s
 stateAfterAll K n s (t ∷ ts) = stateAfterAll K n (stateAfter K n s t) ts
 
@@ -162,8 +165,8 @@ pictureCall K n r ram group phase out =
 unfoldable pub powerOnPart : ℕ → Chips → List ℕ → PowerOn
 powerOnPart part n ram = record { check = orElse (checkPart part) (powerOnCall (partOf part) n ram .check); registers = bothOn }
 
-unfoldable pub transferPart : ℕ → Chips → Both → List ℕ → List ℕ → After
-transferPart part n r ram bytes = answered (checkPart part) r ram (transferCall (partOf part) n r ram bytes)
+unfoldable pub transferPart : ℕ → Chips → Both → List ℕ → Sent → After
+transferPart part n r ram t = answered (checkPart part) r ram (transferCall (partOf part) n r ram t)
 
 unfoldable pub picturePart : ℕ → Chips → Both → List ℕ → ℕ → ℕ → List ℕ → Seen
 picturePart part n r ram group phase out = seenBy (checkPart part) (pictureCall (partOf part) n r ram group phase out) out

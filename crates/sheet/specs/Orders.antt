@@ -8,10 +8,10 @@ use Rattle.sheet.specs.declared.Both.{Both}
 use Rattle.sheet.specs.declared.Chips.{Chips}
 use Rattle.sheet.specs.declared.Chip.{Chip}
 use Rattle.sheet.specs.Refusals.{numbers, plainNumbers, pictureNumbers, checkNumbers}
-use Rattle.sheet.specs.Registers.{powerOn, inRange, backplanes, bankRow}
+use Rattle.sheet.specs.Registers.{powerOn, marked, inRange, backplanes, bankRow}
 use Rattle.sheet.specs.Parts.{within, commandIn, partOf}
-use Rattle.sheet.specs.Protocol.{heardBy, controlOf}
-use Rattle.sheet.specs.Checks.{checkPart, checkChips, checkRegisters, overIn, checkRam, checkLength, faultIn, checkState, checkPowerOn, checkTransfer, checkPicture}
+use Rattle.sheet.specs.Protocol.{heardBy, controlOf, Sent, sent, whole, wholeOf, cutData}
+use Rattle.sheet.specs.Checks.{checkPart, checkChips, checkRegisters, overIn, checkRam, checkLength, checkBits, checkSent, faultIn, checkState, checkPowerOn, checkTransfer, checkPicture}
 use Rattle.sheet.specs.Pictures.{shown, pictureOf, litIn}
 use Rattle.sheet.specs.Long.{heard, dataByte, powerOnCall, transferCall, pictureCall, powerOnPart, transferPart, picturePart}
 use Rattle.sheet.specs.Plain.{putRows, afterColumn, afterColumns, chipData, acknowledgesData, smallest, plainHeard, chipFits, chipPowerOn, checkChipPicture, chipPictureCall, misfitIn, checkPlain, plainCall, chipPowerOnPart, chipPicturePart, plainPart}
@@ -68,7 +68,7 @@ ram many long over = replicate 2 0 ++ (cond over 16 0 ∷ replicate (cond many 9
 
 -- group 1's M is 0, or 4
 abbrev both : Bool → Both
-both bad = record { zero = powerOn; one = record { e = 0; b = 0; m = cond bad 4 0; p = 0; a = 0; i = 0; o = 0; ab = 0; bf = 0 } }
+both bad = record { zero = powerOn; one = record { e = 0; b = 0; m = cond bad 4 0; p = 0; a = 0; i = 0; o = 0; ab = 0; bf = 0; unknown = marked 0 } }
 
 -- a control byte 80, or 81; a command 00, or 0A, further on
 abbrev commands : Bool → Bool → List ℕ
@@ -81,14 +81,20 @@ empty none bytes = cond none [] bytes
 abbrev over4096 : Bool → List ℕ → List ℕ
 over4096 more bytes = bytes ++ cond more (replicate 4092 0) []
 
+-- 8 bits of the last byte, or 9; then the faults of bytes
+abbrev bits : Bool → ℕ
+bits bad = cond bad 9 8
+
 abbrev bytes : List Fault
-bytes = refusal 17 1 ∷ refusal 7 4 ∷ []
+bytes = refusal 19 0 ∷ refusal 17 1 ∷ refusal 7 4 ∷ []
 
 abbrev state : List Fault
 state = refusal 16 0 ∷ refusal 3 0 ∷ refusal 6 0 ∷ refusal 4 0 ∷ refusal 5 2 ∷ []
 
-abbrev sent : (Bool → List ℕ → List ℕ) → List Bool → List ℕ
-sent length f = numbers (partOf (part (is f 0))) (transferPart (part (is f 0)) (chips (is f 1)) (both (is f 2)) (ram (is f 1) (is f 3) (is f 4)) (length (is f 5) (commands (is f 6) (is f 7))) .result .answer)
+abbrev answered : (Bool → List ℕ → List ℕ) → List Bool → List ℕ
+answered length f =
+    numbers (partOf (part (is f 0)))
+    (transferPart (part (is f 0)) (chips (is f 1)) (both (is f 2)) (ram (is f 1) (is f 3) (is f 4)) (sent (length (is f 5) (commands (is f 7) (is f 8))) (bits (is f 6))) .result .answer)
 
 abbrev shownTo : (Bool → ℕ) → (Bool → ℕ) → List Bool → List ℕ
 shownTo group phase f =
@@ -97,7 +103,7 @@ shownTo group phase f =
 abbrev pub long : Bool
 long =
     inOrder (refusal 16 0 ∷ refusal 3 0 ∷ refusal 4 0 ∷ refusal 5 2 ∷ []) (λ f. checkNumbers (powerOnPart (part (is f 0)) (chips (is f 1)) (ram (is f 1) (is f 2) (is f 3)) .check))
-    && (inOrder (state ++ (refusal 1 0 ∷ bytes)) (sent empty) && (inOrder (state ++ (refusal 2 0 ∷ bytes)) (sent over4096)
+    && (inOrder (state ++ (refusal 1 0 ∷ bytes)) (answered empty) && (inOrder (state ++ (refusal 2 0 ∷ bytes)) (answered over4096)
     && (inOrder (state ++ (refusal 8 0 ∷ refusal 9 0 ∷ [])) (shownTo (λ bad. cond bad 2 0) (λ bad. 0))
     && inOrder (state ++ (refusal 8 0 ∷ refusal 9 0 ∷ [])) (shownTo (λ bad. 0) (λ bad. cond bad 2 0)))))
 
@@ -110,7 +116,7 @@ abbrev list : Bool → Bool → List Chip
 list many misfit = chip 0 ∷ chip (cond misfit 4 1) ∷ cond many (replicate 7 (chip 2)) []
 
 abbrev called : (Bool → List ℕ → List ℕ) → List Bool → List ℕ
-called length f = plainNumbers (partOf (part (is f 0))) (plainPart (part (is f 0)) (list (is f 1) (is f 2)) (length (is f 3) (commands (is f 4) (is f 5))) .answer)
+called length f = plainNumbers (partOf (part (is f 0))) (plainPart (part (is f 0)) (list (is f 1) (is f 2)) (sent (length (is f 3) (commands (is f 5) (is f 6))) (bits (is f 4))) .answer)
 
 abbrev pub plain : Bool
 plain =
@@ -158,13 +164,13 @@ refusedAs answer last = same answer (16 ∷ 0 ∷ 0 ∷ 0 ∷ 0 ∷ last)
 abbrev pub unknown : List ℕ → Bool
 unknown [] = true
 unknown (part ∷ parts) =
-    let s = transferPart part (chips false) given (ram false false true) (commands false false) in
+    let s = transferPart part (chips false) given (ram false false true) (whole (commands false false)) in
     let on = chipPowerOnPart part (chip 4) in
-    let list = plainPart part (chip 4 ∷ []) (commands false false) in
+    let list = plainPart part (chip 4 ∷ []) (whole (commands false false)) in
     refusedAs (numbers (partOf part) (s .result .answer)) (4 ∷ []) && (eqb (s .result .registers .one .m) 4 && (same (s .ram) (ram false false true)
     && (refusedAs (plainNumbers (partOf part) (list .answer)) (4 ∷ []) && (refusedAs (checkNumbers (on .check)) (0 ∷ []) && (eqb (on .chip .registers .p) 0
     && (refusedAs (checkNumbers (powerOnPart part (chips true) [] .check)) (0 ∷ []) && (same (picturePart part (chips true) given [] 2 2 (7 ∷ []) .out) (7 ∷ []) && unknown parts)))))))
 
 pub orders : T (long && (plain && (logs && (bodies && unknown (2 ∷ 3 ∷ 255 ∷ [])))))
-unfolding partOf checkPart powerOnPart transferPart picturePart chipPowerOnPart chipPicturePart plainPart checkLog checkHead recordsFrom readIn powerOnCall checkPowerOn pictureCall checkPicture chipPowerOn chipPictureCall checkChipPicture litIn ones onesIn plainCall checkPlain misfitIn chipFits plainHeard chipData afterColumn afterColumns putRows advanced acknowledgesData smallest transferCall checkTransfer checkState checkChips checkRegisters checkRam checkLength overIn faultIn heardBy heard dataByte controlOf commandIn within inRange backplanes bankRow position atPosition putBits changed withRow storedBits counted acknowledger shown pictureOf
+unfolding partOf checkPart powerOnPart transferPart picturePart chipPowerOnPart chipPicturePart plainPart checkLog checkHead recordsFrom readIn powerOnCall checkPowerOn pictureCall checkPicture chipPowerOn chipPictureCall checkChipPicture litIn ones onesIn plainCall checkPlain misfitIn chipFits plainHeard chipData afterColumn afterColumns putRows advanced acknowledgesData smallest transferCall checkTransfer checkState checkChips checkRegisters checkRam checkLength checkBits checkSent overIn faultIn wholeOf cutData heardBy heard dataByte controlOf commandIn within inRange backplanes bankRow position atPosition putBits changed withRow storedBits counted acknowledger shown pictureOf
 orders = tt

@@ -4,7 +4,8 @@ use Prim.Native.Nat.{ℕ, zero, suc, _+_, _*_, _/_, min}
 use mathlib.Core.Bool.{Bool, cond, _&&_, _||_}
 use mathlib.Core.List.{List, [], _∷_, map}
 use lib.Dec.{eqb, ltb, leb}
-use lib.ListN.{getD, length, take, drop}
+use lib.ListN.{length, take, drop}
+use Rattle.sheet.specs.declared.Marks.{Marks}
 use Rattle.sheet.specs.declared.Registers.{Registers}
 use Rattle.sheet.specs.declared.Chip.{Chip}
 use Rattle.sheet.specs.declared.Acknowledger.{Acknowledger}
@@ -17,10 +18,10 @@ use Rattle.sheet.specs.declared.Check.the-variants.{Passed, Refused}
 use Rattle.sheet.specs.declared.PlainAnswer.{PlainAnswer}
 use Rattle.sheet.specs.declared.ChipPowerOn.{ChipPowerOn}
 use Rattle.sheet.specs.Parts.{Part, partOf}
-use Rattle.sheet.specs.Registers.{powerOn, inRange, backplanes, bankRow}
+use Rattle.sheet.specs.Registers.{powerOn, lostBy, inRange, backplanes, bankRow}
 use Rattle.sheet.specs.Commands.{obeyed}
-use Rattle.sheet.specs.Protocol.{addressOf, next}
-use Rattle.sheet.specs.Checks.{unless, orElse, passed, overIn, checkPart, checkLength, faultIn}
+use Rattle.sheet.specs.Protocol.{addressOf, next, Sent, wholeOf, addressByte, cutData}
+use Rattle.sheet.specs.Checks.{unless, orElse, passed, overIn, checkPart, checkSent, faultOfSent}
 use Rattle.sheet.specs.Pictures.{pictureOf, Seen, seenBy, seen}
 use Rattle.sheet.specs.Places.{advanced}
 use Rattle.sheet.specs.Data.{bitOf, withRow, changed, widthOf}
@@ -142,6 +143,31 @@ plainHeard K address e (x ∷ xs) s =
     plainHeard K address (next e x) xs
     (record { acknowledged = s .acknowledged + once who; last = lastAfter e who (s .last); chips = map (takes K address e x) (s .chips) })
 
+-- the byte that is cut, after them: each chip that hears it, selected or not
+abbrev pub chipLost : Bool → Chip → Chip
+chipLost isData c = withRegisters (lostBy isData (c .registers)) c
+
+abbrev pub chipEnded : ℕ → Bool → Chip → Chip
+chipEnded address isData c = cond (hears address c) (chipLost isData c) c
+
+abbrev pub plainEnded : ℕ → Sent → Plain → Plain
+plainEnded address t s = record { acknowledged = s .acknowledged; last = s .last; chips = map (chipEnded address (cutData t)) (s .chips) }
+
+-- all of a transfer after its address
+abbrev pub plainWhole : Part → ℕ → Sent → Plain → Plain
+plainWhole K address t s = plainEnded address t (plainHeard K address Control (drop 1 (wholeOf t)) s)
+
+-- a mark is unknown if it is at some chip that hears: all of them obey the same commands
+abbrev pub unknownIn : ℕ → (Marks → ℕ) → List Chip → ℕ
+unknownIn address mark cs = cond (any (λ c. hears address c && eqb (mark (c .registers .unknown)) 1) cs) 1 0
+
+abbrev pub marksIn : ℕ → List Chip → Marks
+marksIn address cs = record {
+  high = unknownIn address (λ u. u .high) cs;
+  low = unknownIn address (λ u. u .low) cs;
+  device = unknownIn address (λ u. u .device) cs;
+}
+
 -- ---- which chips fit
 
 -- the columns of the part: what stands behind them in the array is nobody's
@@ -177,13 +203,13 @@ unfoldable pub misfitIn : Part → ℕ → List Chip → Check
 misfitIn K i [] = Passed
 misfitIn K i (c ∷ cs) = cond (chipFits K c) (misfitIn K (suc i) cs) (Refused (ChipField i))
 
--- 10, 11, 1, 2, then 7 and 17. At most two groups of the limit
-unfoldable pub checkPlain : Part → List Chip → List ℕ → Check
-checkPlain K cs bytes =
+-- 10, 11, 1, 2, 19, then 7, 17 and 18. At most two groups of the limit
+unfoldable pub checkPlain : Part → List Chip → Sent → Check
+checkPlain K cs t =
     orElse (unless (leb (length cs) (2 * K .limit)) ManyChips)
     (orElse (misfitIn K 0 cs)
-    (orElse (checkLength (length bytes))
-    (cond (any (hears (getD bytes 0 0)) cs) (faultIn K Control 1 (drop 1 bytes)) Passed)))
+    (orElse (checkSent t)
+    (cond (any (hears (addressByte t)) cs) (faultOfSent K (marksIn (addressByte t) cs) t) Passed)))
 
 pub record PlainAfter : Type 0 where
   pub answer : PlainAnswer
@@ -197,18 +223,15 @@ abbrev pub begunBy : ℕ → List Chip → Plain
 begunBy n cs = record { acknowledged = n; last = Acknowledger.None; chips = cs }
 
 -- byte 0 that no chip hears: nothing changes, 0. Else it is acknowledged, and the chips that hear follow the rest
-abbrev pub plainTaken : Part → List Chip → List ℕ → Plain
-plainTaken K cs bytes =
-    cond (any (hears (getD bytes 0 0)) cs)
-    (plainHeard K (getD bytes 0 0) Control (drop 1 bytes) (begunBy 1 cs))
-    (begunBy 0 cs)
+abbrev pub plainTaken : Part → List Chip → Sent → Plain
+plainTaken K cs t = cond (any (hears (addressByte t)) cs) (plainWhole K (addressByte t) t (begunBy 1 cs)) (begunBy 0 cs)
 
 abbrev pub plainAnswered : Check → List Chip → PlainAfter → PlainAfter
 plainAnswered Passed cs s = s
 plainAnswered (Refused r) cs s = record { answer = PlainAnswer.Refused r; chips = cs }
 
-unfoldable pub plainCall : Part → List Chip → List ℕ → PlainAfter
-plainCall K cs bytes = plainAnswered (checkPlain K cs bytes) cs (plainSaid (plainTaken K cs bytes))
+unfoldable pub plainCall : Part → List Chip → Sent → PlainAfter
+plainCall K cs t = plainAnswered (checkPlain K cs t) cs (plainSaid (plainTaken K cs t))
 
 -- ---- the calls by a part's number: 16 first (paper 02, request 5)
 
@@ -218,5 +241,5 @@ chipPowerOnPart part c = record { check = orElse (checkPart part) (chipPowerOn (
 unfoldable pub chipPicturePart : ℕ → Chip → ℕ → List ℕ → Seen
 chipPicturePart part c phase out = seenBy (checkPart part) (chipPictureCall (partOf part) c phase out) out
 
-unfoldable pub plainPart : ℕ → List Chip → List ℕ → PlainAfter
-plainPart part cs bytes = plainAnswered (checkPart part) cs (plainCall (partOf part) cs bytes)
+unfoldable pub plainPart : ℕ → List Chip → Sent → PlainAfter
+plainPart part cs t = plainAnswered (checkPart part) cs (plainCall (partOf part) cs t)

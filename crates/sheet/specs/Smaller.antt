@@ -11,8 +11,8 @@ use Rattle.sheet.specs.declared.Chip.{Chip}
 use Rattle.sheet.specs.Refusals.{checkNumbers, pictureNumbers, plainNumbers}
 use Rattle.sheet.specs.Registers.{powerOn, atPlace, inRange, backplanes, bankRow}
 use Rattle.sheet.specs.Parts.{within, commandIn, partOf}
-use Rattle.sheet.specs.Protocol.{heardBy, controlOf}
-use Rattle.sheet.specs.Checks.{checkPart, checkChips, checkRegisters, overIn, checkRam, checkLength, faultIn, checkState, checkPowerOn, checkTransfer, checkPicture}
+use Rattle.sheet.specs.Protocol.{heardBy, controlOf, whole, wholeOf, cutData}
+use Rattle.sheet.specs.Checks.{checkPart, checkChips, checkRegisters, overIn, checkRam, checkLength, checkBits, checkSent, faultIn, checkState, checkPowerOn, checkTransfer, checkPicture}
 use Rattle.sheet.specs.Pictures.{shown, pictureOf, litIn}
 use Rattle.sheet.specs.Long.{heard, dataByte, powerOnCall, transferCall, pictureCall, powerOnPart, transferPart, picturePart}
 use Rattle.sheet.specs.Plain.{putRows, afterColumn, afterColumns, chipData, acknowledgesData, smallest, plainHeard, chipFits, chipPowerOn, checkChipPicture, chipPictureCall, misfitIn, checkPlain, plainCall, chipPowerOnPart, plainPart}
@@ -101,7 +101,7 @@ abbrev pictured : ℕ → ℕ → ℕ → ℕ → ℕ → List ℕ
 pictured part columns p a size = pictureNumbers (picturePart part (chips 1) (both p a) (ram columns) 1 0 (ram size) .result)
 
 abbrev listed : ℕ → ℕ → ℕ → List ℕ
-listed part n subaddress = plainNumbers (partOf part) (plainPart part (replicate n (chip subaddress)) (0x72 ∷ []) .answer)
+listed part n subaddress = plainNumbers (partOf part) (plainPart part (replicate n (chip subaddress)) (whole (0x72 ∷ [])) .answer)
 
 abbrev pub limits : ℕ → ℕ → ℕ → Bool
 limits part columns limit =
@@ -112,5 +112,5 @@ limits part columns limit =
     && (answers 0 (listed part (2 * limit) (limit - 1)) && (answers 10 (listed part (2 * limit + 1) 0) && answers 11 (listed part 1 limit)))))))))))
 
 pub smaller : T (every 1 table && (limits 0 160 4 && limits 1 80 8))
-unfolding partOf checkPart powerOnPart transferPart picturePart chipPowerOnPart plainPart powerOnCall checkPowerOn pictureCall checkPicture chipPowerOn chipPictureCall checkChipPicture litIn ones onesIn plainCall checkPlain misfitIn chipFits plainHeard groupChips chipData afterColumn afterColumns putRows advanced acknowledgesData smallest transferCall checkTransfer checkState checkChips checkRegisters checkRam checkLength overIn faultIn heardBy heard dataByte controlOf commandIn within inRange backplanes bankRow position atPosition putBits changed withRow storedBits counted acknowledger shown pictureOf
+unfolding partOf checkPart powerOnPart transferPart picturePart chipPowerOnPart plainPart powerOnCall checkPowerOn pictureCall checkPicture chipPowerOn chipPictureCall checkChipPicture litIn ones onesIn plainCall checkPlain misfitIn chipFits plainHeard groupChips chipData afterColumn afterColumns putRows advanced acknowledgesData smallest transferCall checkTransfer checkState checkChips checkRegisters checkRam checkLength checkBits checkSent overIn faultIn wholeOf cutData heardBy heard dataByte controlOf commandIn within inRange backplanes bankRow position atPosition putBits changed withRow storedBits counted acknowledger shown pictureOf
 smaller = tt

@@ -10,12 +10,12 @@ use Rattle.sheet.specs.declared.Registers.{Registers}
 use Rattle.sheet.specs.declared.Chips.{Chips}
 use Rattle.sheet.specs.declared.Chip.{Chip}
 use Rattle.sheet.specs.Refusals.{numbers, plainNumbers, pictureNumbers, checkNumbers}
-use Rattle.sheet.specs.Registers.{inRange, backplanes, bankRow}
+use Rattle.sheet.specs.Registers.{inRange, backplanes, bankRow, marked, registersOf}
 use Rattle.sheet.specs.Parts.{Part, within, commandIn, partOf}
-use Rattle.sheet.specs.Protocol.{heardBy, controlOf}
-use Rattle.sheet.specs.Checks.{checkPart, checkChips, checkRegisters, overIn, checkRam, checkLength, faultIn, checkState, checkPowerOn, checkTransfer, checkPicture}
+use Rattle.sheet.specs.Protocol.{heardBy, controlOf, whole, wholeOf, cutData}
+use Rattle.sheet.specs.Checks.{checkPart, checkChips, checkRegisters, overIn, checkRam, checkLength, checkBits, checkSent, faultIn, checkState, checkPowerOn, checkTransfer, checkPicture}
 use Rattle.sheet.specs.Pictures.{shown, pictureOf, litIn}
-use Rattle.sheet.specs.Long.{heard, dataByte, registersOf, columnsOf, powerOnCall, transferCall, pictureCall, stateOf, powerOnPart, transferPart, picturePart}
+use Rattle.sheet.specs.Long.{heard, dataByte, columnsOf, powerOnCall, transferCall, pictureCall, stateOf, powerOnPart, transferPart, picturePart}
 use Rattle.sheet.specs.Plain.{putRows, afterColumn, afterColumns, chipData, acknowledgesData, smallest, plainHeard, chipFits, chipPowerOn, checkChipPicture, chipPictureCall, misfitIn, checkPlain, plainCall, ownColumns, chipPowerOnPart, plainPart}
 use Rattle.sheet.specs.Places.{advanced, position, atPosition}
 use Rattle.sheet.specs.Agree.{groupChips, chipsOf, chipPictures, chipsLit}
@@ -70,7 +70,7 @@ passes part row =
     let n = chipsOn row in
     let g = row .group in
     let on = powerOnPart part n (columnsOn K row) in
-    let s = transferPart part n (on .registers) (columnsOn K row) (row .bytes) in
+    let s = transferPart part n (on .registers) (columnsOn K row) (whole (row .bytes)) in
     let r = registersOf g (s .result .registers) in
     let seen = picturePart part n (s .result .registers) (s .ram) g (row .phase) (replicate (K .columns * row .chips) 99) in
     same (checkNumbers (on .check)) (oneCount 0) && (same (numbers K (s .result .answer)) (row .answer)
@@ -105,7 +105,7 @@ allBehind K (c ∷ cs) = same (drop (K .columns) (c .columns)) (replicate (160 -
 
 -- registers unlike those of power-on
 abbrev pub busy : Registers
-busy = record { e = 1; b = 1; m = 1; p = 7; a = 2; i = 1; o = 1; ab = 1; bf = 1 }
+busy = record { e = 1; b = 1; m = 1; p = 7; a = 2; i = 1; o = 1; ab = 1; bf = 1; unknown = marked 1 }
 
 abbrev pub allOn : ℕ → List Chip → Bool
 allOn part [] = Bool.true
@@ -115,7 +115,7 @@ abbrev pub passesPlain : ℕ → Row → Bool
 passesPlain part row =
     let K = partOf part in
     let found = map (withBehind K) (chipsOf K (chipsOn row) (stateOf (record { zero = busy; one = busy }) (columnsOn K row))) in
-    let s = plainPart part (map (λ c. chipPowerOnPart part c .chip) found) (row .bytes) in
+    let s = plainPart part (map (λ c. chipPowerOnPart part c .chip) found) (whole (row .bytes)) in
     let called = calledOf row (s .chips) in
     allOn part found && (same (plainNumbers K (s .answer)) (take 3 (row .answer) ++ (0 ∷ 0 ∷ drop 5 (row .answer))) && (allAt (row .a) (row .p) called
     && (holds (chipColumns K called) (row .columns) && (same (chipColumns K (othersOf row (s .chips))) (replicate (K .columns * row .others) (row .fill))
@@ -194,5 +194,5 @@ table =
     ∷ []
 
 pub starred : T (every 0 table)
-unfolding partOf checkPart powerOnPart transferPart picturePart chipPowerOnPart plainPart powerOnCall checkPowerOn pictureCall checkPicture chipPowerOn chipPictureCall checkChipPicture litIn ones onesIn plainCall checkPlain misfitIn chipFits plainHeard groupChips chipData afterColumn afterColumns putRows advanced acknowledgesData smallest transferCall checkTransfer checkState checkChips checkRegisters checkRam checkLength overIn faultIn heardBy heard dataByte controlOf commandIn within inRange backplanes bankRow position atPosition putBits changed withRow storedBits counted acknowledger shown pictureOf
+unfolding partOf checkPart powerOnPart transferPart picturePart chipPowerOnPart plainPart powerOnCall checkPowerOn pictureCall checkPicture chipPowerOn chipPictureCall checkChipPicture litIn ones onesIn plainCall checkPlain misfitIn chipFits plainHeard groupChips chipData afterColumn afterColumns putRows advanced acknowledgesData smallest transferCall checkTransfer checkState checkChips checkRegisters checkRam checkLength checkBits checkSent overIn faultIn wholeOf cutData heardBy heard dataByte controlOf commandIn within inRange backplanes bankRow position atPosition putBits changed withRow storedBits counted acknowledger shown pictureOf
 starred = tt

@@ -8,8 +8,8 @@ use Rattle.sheet.specs.declared.Chips.{Chips}
 use Rattle.sheet.specs.Refusals.{numbers, plainNumbers}
 use Rattle.sheet.specs.Registers.{powerOn, inRange, backplanes, bankRow}
 use Rattle.sheet.specs.Parts.{within, commandIn, pcf8532}
-use Rattle.sheet.specs.Protocol.{addressOf, heardBy, controlOf}
-use Rattle.sheet.specs.Checks.{checkChips, checkRegisters, overIn, checkRam, checkLength, faultIn, checkState, checkTransfer}
+use Rattle.sheet.specs.Protocol.{addressOf, heardBy, controlOf, whole, wholeOf, cutData}
+use Rattle.sheet.specs.Checks.{checkChips, checkRegisters, overIn, checkRam, checkLength, checkBits, checkSent, faultIn, checkState, checkTransfer}
 use Rattle.sheet.specs.Long.{heard, dataByte, transferCall}
 use Rattle.sheet.specs.Plain.{putRows, afterColumn, afterColumns, chipData, acknowledgesData, smallest, plainHeard, chipFits, misfitIn, checkPlain, plainCall}
 use Rattle.sheet.specs.Places.{advanced, position, atPosition}
@@ -32,8 +32,8 @@ only g = cond (eqb g 0) (record { zero = 1; one = 0 }) (record { zero = 0; one =
 -- both accounts answer so to bytes for group `to`
 abbrev pub answers : ℕ → ℕ → List ℕ → List ℕ → Bool
 answers g to bytes wanted =
-    same (take 2 (numbers pcf8532 (transferCall pcf8532 (only g) (record { zero = powerOn; one = powerOn }) (replicate 160 0) (addressOf to ∷ bytes) .result .answer))) wanted
-    && same (take 2 (plainNumbers pcf8532 (plainCall pcf8532 (record { columns = replicate 160 0; sa0 = g; subaddress = 0; registers = powerOn } ∷ []) (addressOf to ∷ bytes) .answer))) wanted
+    same (take 2 (numbers pcf8532 (transferCall pcf8532 (only g) (record { zero = powerOn; one = powerOn }) (replicate 160 0) (whole (addressOf to ∷ bytes)) .result .answer))) wanted
+    && same (take 2 (plainNumbers pcf8532 (plainCall pcf8532 (record { columns = replicate 160 0; sa0 = g; subaddress = 0; registers = powerOn } ∷ []) (whole (addressOf to ∷ bytes)) .answer))) wanted
 
 abbrev pub holds : ℕ → Sent → Bool
 holds g s = answers g g (s .bytes) (s .number ∷ s .place ∷ []) && answers g (1 - g) (s .bytes) (0 ∷ 0 ∷ [])
@@ -70,5 +70,5 @@ table =
     ∷ []
 
 pub stray : T (eachBit (0x00 ∷ 0x40 ∷ 0x80 ∷ 0xC0 ∷ []) && every table)
-unfolding plainCall checkPlain misfitIn chipFits plainHeard chipData afterColumn afterColumns putRows advanced acknowledgesData smallest transferCall checkTransfer checkState checkChips checkRegisters checkRam checkLength overIn faultIn heardBy heard dataByte controlOf commandIn within inRange backplanes bankRow position atPosition putBits changed withRow storedBits counted acknowledger
+unfolding plainCall checkPlain misfitIn chipFits plainHeard chipData afterColumn afterColumns putRows advanced acknowledgesData smallest transferCall checkTransfer checkState checkChips checkRegisters checkRam checkLength checkBits checkSent overIn faultIn wholeOf cutData heardBy heard dataByte controlOf commandIn within inRange backplanes bankRow position atPosition putBits changed withRow storedBits counted acknowledger
 stray = tt

@@ -25,6 +25,13 @@ pub enum Command {
     Undefined,
 }
 
+// What a cut data byte makes unknown until its command comes: 1 where the number is unknown (paper 02, request 8).
+pub struct Marks {
+    pub high: u8,
+    pub low: u8,
+    pub device: u8,
+}
+
 pub struct Registers {
     pub e: u8,
     pub b: u8,
@@ -35,6 +42,7 @@ pub struct Registers {
     pub o: u8,
     pub ab: u8,
     pub bf: u8,
+    pub unknown: Marks,
 }
 
 // A register set a group.
@@ -67,6 +75,8 @@ pub enum Refusal {
     LongLog,
     UnknownPart,
     StrayBits(usize),
+    UnknownPlace(usize),
+    BitCount,
     ShortBody(usize),
 }
 

@@ -25,37 +25,37 @@ drop-bytes n l w i = rw (getD-drop n l i 0) (w (n + i))
 
 -- ---- registers
 
-registers-back : (l : List ℕ) → length l ≡ 9 → Bytes l → bytesOf (registersIn l) ≡ l
+registers-back : (l : List ℕ) → length l ≡ 12 → Bytes l → bytesOf (registersIn l) ≡ l
 registers-back l e w =
-    rw (mod-eq-of-lt (w 3), mod-eq-of-lt (w 4)) (firsts-all 9 l e)
+    rw (mod-eq-of-lt (w 3), mod-eq-of-lt (w 4)) (firsts-all 12 l e)
 
--- both groups' registers, read from 18 bytes and written, are those bytes
-pub both-back : (l : List ℕ) → length l ≡ 18 → Bytes l → bothBytes (bothOf l) ≡ l
+-- both groups' registers, read from 24 bytes and written, are those bytes
+pub both-back : (l : List ℕ) → length l ≡ 24 → Bytes l → bothBytes (bothOf l) ≡ l
 both-back l e w =
     ap₂ (λ (x y : List ℕ). x ++ y)
-    (registers-back (take 9 l) (length-take-le 9 l (omega arith)) (take-bytes 9 l w))
-    (registers-back (drop 9 l) (omega (arith, length-drop 9 l)) (drop-bytes 9 l w))
-    ∙ take-append-drop 9 l
+    (registers-back (take 12 l) (length-take-le 12 l (omega arith)) (take-bytes 12 l w))
+    (registers-back (drop 12 l) (omega (arith, length-drop 12 l)) (drop-bytes 12 l w))
+    ∙ take-append-drop 12 l
 
 -- ---- chips
 
 -- columns, SA0 and subaddress are the first 162 bytes
-pub unwritten : (l r : List ℕ) → length l ≡ 171 → take 160 l ++ (getD l 160 0 ∷ getD l 161 0 ∷ r) ≡ take 162 l ++ r
+pub unwritten : (l r : List ℕ) → length l ≡ 174 → take 160 l ++ (getD l 160 0 ∷ getD l 161 0 ∷ r) ≡ take 162 l ++ r
 unwritten l r e = simp (take-suc l 161 0 (omega arith), take-suc l 160 0 (omega arith), append-assoc)
 
--- a chip read from 171 bytes and written is those bytes
-pub chip-back : (l : List ℕ) → length l ≡ 171 → Bytes l → chipBytes (chipIn l) ≡ l
+-- a chip read from 174 bytes and written is those bytes
+pub chip-back : (l : List ℕ) → length l ≡ 174 → Bytes l → chipBytes (chipIn l) ≡ l
 chip-back l e w =
     unwritten l (bytesOf (registersIn (drop 162 l))) e
     ∙ ap (λ (r : List ℕ). take 162 l ++ r) (registers-back (drop 162 l) (omega (arith, length-drop 162 l)) (drop-bytes 162 l w))
     ∙ take-append-drop 162 l
 
 -- so are n chips
-pub list-back : (n : ℕ) (l : List ℕ) → length l ≡ 171 * n → Bytes l → listBytes (listIn n l) ≡ l
+pub list-back : (n : ℕ) (l : List ℕ) → length l ≡ 174 * n → Bytes l → listBytes (listIn n l) ≡ l
 unfolding listIn listBytes
 list-back zero l e w = take-all 0 l (omega arith)
 list-back (suc n) l e w =
     ap₂ (λ (x y : List ℕ). x ++ y)
-    (chip-back (take 171 l) (length-take-le 171 l (omega arith)) (take-bytes 171 l w))
-    (list-back n (drop 171 l) (omega (arith, length-drop 171 l)) (drop-bytes 171 l w))
-    ∙ take-append-drop 171 l
+    (chip-back (take 174 l) (length-take-le 174 l (omega arith)) (take-bytes 174 l w))
+    (list-back n (drop 174 l) (omega (arith, length-drop 174 l)) (drop-bytes 174 l w))
+    ∙ take-append-drop 174 l

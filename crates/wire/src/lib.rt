@@ -1,8 +1,9 @@
-// Registers, chips and answers in the buffers that C lends. Registers are nine bytes a group, in the order E B M P A I O AB BF;
-// a chip is 171 bytes: its 160 columns, SA0, subaddress and nine registers; an answer is six numbers.
+// Registers, chips and answers in the buffers that C lends. Registers are twelve bytes a group, in the order E B M P A I O AB BF and the marks of pointer high, pointer low and device-select;
+// a chip is 174 bytes: its 160 columns, SA0, subaddress and twelve registers; an answer is six numbers.
 use plain::Bench;
 use sheet::Both;
 use sheet::Chip;
+use sheet::Marks;
 use sheet::Registers;
 ghost use mathlib.Core.Path.{_≡_};
 ghost use Prim.Native.Nat.{_*_, _≤_, _<_};
@@ -13,7 +14,7 @@ ghost use Rattle.wire.specs.Bytes.{registersIn, bothOf, bytesOf, bothByt
 // ---- registers
 
 fn registers_of(bytes: &[u8]) -> Registers
-    requires { ⌜ length (now bytes) ≡ 9 ⌝ }
+    requires { ⌜ length (now bytes) ≡ 12 ⌝ }
     ensures { λ r. ⌜ r ≡ registersIn (now (bytes .entry)) ⌝ }
 {
     Registers {
@@ -26,24 +27,30 @@ fn registers_of(bytes: &[u8]) -> Registers
         o: bytes[6],
         ab: bytes[7],
         bf: bytes[8],
+        unknown: Marks {
+            high: bytes[9],
+            low: bytes[10],
+            device: bytes[11],
+        },
     }
 }
 
-// Both register sets, from 18 bytes.
+// Both register sets, from 24 bytes.
 pub fn both_of(bytes: &[u8]) -> Both
-    requires { ⌜ length (now bytes) ≡ 18 ⌝ }
+    requires { ⌜ length (now bytes) ≡ 24 ⌝ }
     ensures { λ r. ⌜ r ≡ bothOf (now (bytes .entry)) ⌝ }
 {
     Both {
-        zero: registers_of(&bytes[..9]),
-        one: registers_of(&bytes[9..]),
+        zero: registers_of(&bytes[..12]),
+        one: registers_of(&bytes[12..]),
     }
 }
 
 fn put_registers(registers: Registers, out: &mut [u8])
-    requires { ⌜ length (now out) ≡ 9 ⌝ }
+    requires { ⌜ length (now out) ≡ 12 ⌝ }
     ensures { λ _. ⌜ now (out .exit) ≡ bytesOf registers ⌝ }
 {
+    let unknown = registers.unknown;
     out[0] = registers.e;
     out[1] = registers.b;
     out[2] = registers.m;
@@ -53,24 +60,27 @@ fn put_registers(registers: Registers, out: &mut [u8])
     out[6] = registers.o;
     out[7] = registers.ab;
     out[8] = registers.bf;
+    out[9] = unknown.high;
+    out[10] = unknown.low;
+    out[11] = unknown.device;
 }
 
-// Both register sets, into 18 bytes.
+// Both register sets, into 24 bytes.
 pub fn put_both(registers: Both, out: &mut [u8])
-    requires { ⌜ length (now out) ≡ 18 ⌝ }
+    requires { ⌜ length (now out) ≡ 24 ⌝ }
     ensures { λ _. ⌜ now (out .exit) ≡ bothBytes registers ⌝ }
 {
     let zero = registers.zero;
     let one = registers.one;
-    put_registers(zero, &mut out[..9]);
-    put_registers(one, &mut out[9..]);
+    put_registers(zero, &mut out[..12]);
+    put_registers(one, &mut out[12..]);
 }
 
 // ---- chips
 
-// A chip, from 171 bytes.
+// A chip, from 174 bytes.
 pub fn chip_of(bytes: &[u8]) -> Chip
-    requires { ⌜ length (now bytes) ≡ 171 ⌝ }
+    requires { ⌜ length (now bytes) ≡ 174 ⌝ }
     ensures { λ r. ⌜ r ≡ chipIn (now (bytes .entry)) ⌝ }
 {
     let mut columns = [0; 160];
@@ -83,9 +93,9 @@ pub fn chip_of(bytes: &[u8]) -> Chip
     }
 }
 
-// A chip, into 171 bytes.
+// A chip, into 174 bytes.
 pub fn put_chip(chip: Chip, out: &mut [u8])
-    requires { ⌜ length (now out) ≡ 171 ⌝ }
+    requires { ⌜ length (now out) ≡ 174 ⌝ }
     ensures { λ _. ⌜ now (out .exit) ≡ chipBytes chip ⌝ }
 {
     let columns = chip.columns;
@@ -98,30 +108,30 @@ pub fn put_chip(chip: Chip, out: &mut [u8])
 
 // The chips of a list of at most sixteen; the places after them are not looked at.
 pub fn bench_of(bytes: &[u8], count: usize) -> Bench
-    requires { ⌜ (length (now bytes) ≡ 171 * count) × (count ≤ 16) ⌝ }
+    requires { ⌜ (length (now bytes) ≡ 174 * count) × (count ≤ 16) ⌝ }
     ensures { λ r. ⌜ Holds count (listIn count (now (bytes .entry))) r ⌝ }
 {
-    let mut chips = [chip_of(&[0; 171]); 16];
+    let mut chips = [chip_of(&[0; 174]); 16];
     let mut i = 0;
     while i < count {
-        let at = 171 * i;
-        chips[i] = chip_of(&bytes[at..at + 171]);
+        let at = 174 * i;
+        chips[i] = chip_of(&bytes[at..at + 174]);
         i += 1;
     }
     Bench { chips, count }
 }
 
-// The chips of a bench, into 171 bytes each.
+// The chips of a bench, into 174 bytes each.
 pub fn put_bench(bench: Bench, out: &mut [u8])
-    requires { ⌜ (length (now out) ≡ 171 * bench .count) × (bench .count ≤ 16) × (length (bench .chips) ≡ 16) ⌝ }
+    requires { ⌜ (length (now out) ≡ 174 * bench .count) × (bench .count ≤ 16) × (length (bench .chips) ≡ 16) ⌝ }
     ensures { λ _. ⌜ now (out .exit) ≡ listBytes (take (bench .count) (bench .chips)) ⌝ }
 {
     let chips = bench.chips;
     let count = bench.count;
     let mut i = 0;
     while i < count {
-        let at = 171 * i;
-        put_chip(chips[i], &mut out[at..at + 171]);
+        let at = 174 * i;
+        put_chip(chips[i], &mut out[at..at + 174]);
         i += 1;
     }
 }

@@ -2,7 +2,7 @@
 
 use crate::library;
 use humtrellis_tests::generate::shape;
-use humtrellis_tests::model::{self, Answer, View, ANSWER, REGISTERS};
+use humtrellis_tests::model::{self, Answer, View, ANSWER, REGISTERS, WHOLE};
 
 #[derive(Clone, Copy, Debug)]
 pub enum Call {
@@ -19,6 +19,7 @@ pub struct Case {
     pub registers: Vec<u8>,
     pub ram: Vec<u8>,
     pub bytes: Vec<u8>,
+    pub bits: u8,
     pub shown: [u8; 2],
     pub out: Vec<u8>,
     pub answer: Vec<usize>,
@@ -33,6 +34,7 @@ impl Case {
             registers: vec![0; REGISTERS],
             ram: vec![0; ram_length(part, chips)],
             bytes: vec![0x70],
+            bits: WHOLE,
             shown: [0, 0],
             out: vec![0xEE; length_of(part, chips[0])],
             answer: vec![77; ANSWER],
@@ -48,10 +50,10 @@ impl Case {
     fn by_library(&mut self, call: Call) -> u8 {
         let (part, chips, shown) = (self.part, self.chips, self.shown);
         let (registers, ram, answer) = (&mut self.registers, &mut self.ram, &mut self.answer);
-        let (bytes, out) = (&mut self.bytes, &mut self.out);
+        let (bytes, bits, out) = (&mut self.bytes, self.bits, &mut self.out);
         match call {
             Call::PowerOn => library::power_on(part, chips, ram, registers, answer),
-            Call::Transfer => library::transfer(part, chips, registers, ram, bytes, answer),
+            Call::Transfer => library::transfer(part, chips, registers, ram, bytes, bits, answer),
             Call::Picture => library::picture(part, chips, registers, ram, shown, out, answer),
         }
     }
@@ -71,10 +73,10 @@ impl Case {
 
     fn answer_of_model(&mut self, call: Call, registers: &mut [u8; REGISTERS]) -> Answer {
         let ([chips0, chips1], [group, phase]) = (self.chips, self.shown);
-        let (part, ram) = (self.part, &mut self.ram);
+        let (part, ram, bytes, bits) = (self.part, &mut self.ram, &self.bytes, self.bits);
         match call {
             Call::PowerOn => model::power_on(part, chips0, chips1, ram, registers),
-            Call::Transfer => model::transfer(part, chips0, chips1, registers, ram, &self.bytes),
+            Call::Transfer => model::transfer(part, chips0, chips1, registers, ram, bytes, bits),
             Call::Picture => {
                 let view = View {
                     part,
@@ -122,6 +124,16 @@ fn length_of(part: u8, chips: u8) -> usize {
 /// Bytes of RAM that the chips of both groups have.
 pub fn ram_length(part: u8, chips: [u8; 2]) -> usize {
     chips.iter().map(|chips| length_of(part, *chips)).sum()
+}
+
+/// Where the marks begin in a set; three of them end it, and so they do a chip.
+pub const MARKS: usize = 9;
+
+/// Makes pointer and counter known in each set, or chip, of so many bytes.
+pub fn clear_marks(sets: &mut [u8], size: usize) {
+    for set in sets.chunks_mut(size) {
+        set[size - 3..].fill(0);
+    }
 }
 
 /// Both parts, and for the buffers of each a number that no part has.

@@ -1,11 +1,11 @@
 //! One plain chip: power-on and picture.
 
-use crate::case::{first_refusal, refusal_of};
+use crate::case::{first_refusal, refusal_of, MARKS};
 use crate::library::{self, SIZE};
 use crate::plain::{bytes_of, chip_of, chips, CHIP};
 use crate::{every_setting, fault, for_seeds, plain};
 use humtrellis_tests::generate::{self, shape};
-use humtrellis_tests::model::{self, Part, ANSWER, COLUMNS};
+use humtrellis_tests::model::{self, Part, ANSWER, COLUMNS, SET};
 use humtrellis_tests::random::Random;
 
 /// A call, with its part and the bytes of its chip first.
@@ -96,13 +96,16 @@ fn patterned() -> Vec<u8> {
     chip
 }
 
-/// The greatest value of each byte of a chip: columns, SA0, subaddress, E B M P A I O AB BF; a PCA85133 has 80 columns and 80 bytes of any value.
+/// The greatest value of each byte of a chip: columns, SA0, subaddress, E B M P A I O AB BF and three marks; a PCA85133 has 80 columns and 80 bytes of any value.
 fn limits(part: Part) -> Vec<u8> {
     match part {
-        Part::Pcf8532 => [&[15; 160][..], &[1, 3, 1, 1, 3, 159, 4, 1, 1, 1, 3]].concat(),
+        Part::Pcf8532 => {
+            let rest = [1, 3, 1, 1, 3, 159, 4, 1, 1, 1, 3, 1, 1, 1];
+            [&[15; 160][..], &rest].concat()
+        }
         Part::Pca85133 => {
             let body = [[15; 80], [255; 80]].concat();
-            [&body[..], &[1, 7, 1, 1, 3, 79, 8, 1, 1, 1, 3]].concat()
+            [&body[..], &[1, 7, 1, 1, 3, 79, 8, 1, 1, 1, 3, 1, 1, 1]].concat()
         }
     }
 }
@@ -115,7 +118,8 @@ fn chip_sequences() {
         let mut call = Call::new(part, &chips(random, part, 1));
         assert_eq!(call.power_on(), refusal_of(part));
         for _ in 0..30 {
-            plain::compare(part, &mut call.chip, &fault::transfer(random, part));
+            let (bytes, bits) = (fault::transfer(random, part), generate::bits(random));
+            plain::compare_bits(part, &mut call.chip, &bytes, bits);
             for phase in 0..2 {
                 call.phase = phase;
                 assert_eq!(call.picture(), refusal_of(part));
@@ -132,7 +136,7 @@ fn chip_damaged() {
         let mut call = Call::new(part, &chips(random, part, 1));
         for _ in 0..random.below(4) {
             let any = random.below(CHIP);
-            let field = COLUMNS + random.below(11);
+            let field = COLUMNS + random.below(2 + SET);
             call.chip[random.pick(&[any, field])] = random.byte();
         }
         call.phase = random.pick(&[0, 0, 0, 1, 1, 1, 2, 255]);
@@ -191,7 +195,7 @@ fn chip_power_on_registers() {
         let mut call = Call::new(part, &chip);
         assert_eq!(call.power_on(), number);
         assert_eq!(call.chip[..COLUMNS + 2], chip[..COLUMNS + 2]);
-        assert_eq!(call.chip[COLUMNS + 2..], [0; 9]);
+        assert_eq!(call.chip[COLUMNS + 2..], [0; SET]);
         assert_eq!(call.answer, [number as usize, 0, 0, 0, 0, 0]);
     }
 }
@@ -202,7 +206,7 @@ fn chip_every_picture() {
     for part in Part::BOTH {
         for set in every_setting(part) {
             let mut call = Call::new(part.number(), &patterned());
-            call.chip[COLUMNS + 2..].copy_from_slice(&set);
+            call.chip[COLUMNS + 2..][..MARKS].copy_from_slice(&set);
             for phase in 0..2 {
                 call.phase = phase;
                 assert_eq!(call.clone().picture(), 0);
@@ -240,6 +244,9 @@ fn chip_orders() {
         (161, 4, [11, 11]),
         (165, 160, [0, 11]),
         (170, 4, [0, 11]),
+        (171, 1, [0, 0]),
+        (171, 2, [0, 11]),
+        (173, 2, [0, 11]),
     ];
     let small = [
         (0, 0, [0, 0]),
@@ -250,6 +257,8 @@ fn chip_orders() {
         (161, 8, [11, 11]),
         (165, 80, [0, 11]),
         (166, 9, [0, 11]),
+        (172, 1, [0, 0]),
+        (172, 2, [0, 11]),
     ];
     expect_orders(0, 160, &large);
     expect_orders(1, 80, &small);

@@ -1,10 +1,10 @@
 //! Stray bits of control bytes: a hearing account refuses them with 17 and their place, as it does an undefined command with 7.
 
-use crate::case::{refusal_of, Call, Case, PARTS};
+use crate::case::{clear_marks, refusal_of, Call, Case, PARTS};
 use crate::plain::{self, CHIP};
 use crate::{fault, for_seeds};
 use humtrellis_tests::generate::{self, shape};
-use humtrellis_tests::model::{none, ANSWER, COLUMNS};
+use humtrellis_tests::model::{none, ANSWER, COLUMNS, SET, WHOLE};
 
 /// A bus, and a list of plain chips of the same part that gets the same transfers.
 struct Both {
@@ -46,7 +46,7 @@ impl Both {
     fn expect_same_chips(&self, bytes: &[u8], (number, place): (u8, usize)) {
         let (mut chips, mut answer) = (self.chips.clone(), [77; ANSWER]);
         let part = self.case.part;
-        let returned = plain::compare_into(part, &mut chips, bytes, &mut answer);
+        let returned = plain::compare_into(part, &mut chips, bytes, WHOLE, &mut answer);
         assert_eq!((returned, &chips), (number, &self.chips));
         assert_eq!(answer, [number.into(), place, 0, 0, 0, none(part)]);
     }
@@ -65,9 +65,12 @@ impl Both {
 #[test]
 fn control_every_bit() {
     for_seeds(1500, |random| {
-        let case = fault::good_case(random);
+        let mut case = fault::good_case(random);
         let part = case.part;
-        let chips = plain::list(random, part);
+        let mut chips = plain::list(random, part);
+        case.bits = WHOLE;
+        clear_marks(&mut case.registers, SET);
+        clear_marks(&mut chips, CHIP);
         let both = Both { case, chips };
         let bytes = generate::good_transfer(random, shape(part));
         both.expect_taken(&bytes);

@@ -1,11 +1,11 @@
 //! Random cases, with faults put in one by one.
 
-use crate::case::{ram_length, Case};
+use crate::case::{clear_marks, ram_length, Case};
 use humtrellis_tests::generate::{self, shape};
-use humtrellis_tests::model::{ANSWER, COLUMNS};
+use humtrellis_tests::model::{ANSWER, COLUMNS, REGISTERS, SET};
 use humtrellis_tests::random::Random;
 
-/// Registers in range, edge values more often than others.
+/// Registers in range, edge values more often than others; mostly pointer and counter are known.
 pub fn registers(random: &mut Random, part: u8) -> Vec<u8> {
     let mut registers = Vec::new();
     for limit in shape(part).greatest().map(usize::from).repeat(2) {
@@ -14,6 +14,11 @@ pub fn registers(random: &mut Random, part: u8) -> Vec<u8> {
             _ => random.below(limit + 1),
         };
         registers.push(value as u8);
+    }
+    for set in registers.chunks_mut(SET) {
+        if !random.one_in(6) {
+            clear_marks(set, SET);
+        }
     }
     registers
 }
@@ -40,6 +45,7 @@ pub fn good_case(random: &mut Random) -> Case {
     case.registers = registers(random, part);
     case.ram = columns(random, case.ram.len());
     case.bytes = transfer(random, part);
+    case.bits = generate::bits(random);
     case.show([(); 2].map(|()| random.below(2) as u8));
     case.out = random.bytes(case.out.len());
     case.answer = (0..ANSWER).map(|_| random.number() as usize).collect();
@@ -48,13 +54,15 @@ pub fn good_case(random: &mut Random) -> Case {
 
 type Fault = fn(&mut Random, &mut Case);
 
-const FAULTS: [Fault; 10] = [
+const FAULTS: [Fault; 12] = [
     wrong_count,
     wrong_register,
+    wrong_mark,
     wrong_registers_length,
     wrong_ram_length,
     wrong_columns,
     wrong_transfer,
+    wrong_bits,
     wrong_view,
     wrong_out,
     wrong_answer_length,
@@ -82,14 +90,20 @@ fn wrong_count(random: &mut Random, case: &mut Case) {
 }
 
 fn wrong_register(random: &mut Random, case: &mut Case) {
-    let place = random.below(18);
-    let limit = shape(case.part).greatest()[place % 9];
+    let place = random.below(REGISTERS);
+    let limit = shape(case.part).greatest()[place % SET];
     case.registers[place] = random.pick(&[limit + 1, limit + 2, 254, 255]);
+}
+
+fn wrong_mark(random: &mut Random, case: &mut Case) {
+    let set = random.pick(&[SET, REGISTERS]);
+    case.registers[set - random.between(1, 3)] = random.pick(&[1, 1, 1, 2, 3, 255]);
 }
 
 fn wrong_registers_length(random: &mut Random, case: &mut Case) {
     if random.one_in(4) {
-        case.registers.resize(random.pick(&[0, 9, 17, 19, 36]), 0);
+        let others = [0, SET, 18, REGISTERS - 1, REGISTERS + 1, 2 * REGISTERS];
+        case.registers.resize(random.pick(&others), 0);
     }
 }
 
@@ -124,6 +138,10 @@ fn wrong_transfer(random: &mut Random, case: &mut Case) {
         2 => generate::stray_transfer(random, shape(case.part)),
         _ => random.bytes(20),
     };
+}
+
+fn wrong_bits(random: &mut Random, case: &mut Case) {
+    case.bits = random.pick(&[0, 9, 10, 128, 255]);
 }
 
 fn wrong_view(random: &mut Random, case: &mut Case) {

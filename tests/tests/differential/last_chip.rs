@@ -1,15 +1,18 @@
 //! The chip that acknowledged a transfer's last data byte, the sixth number of an answer, in both accounts.
 
-use crate::case::{Call, Case};
+use crate::case::{Call, Case, MARKS};
 use crate::plain::{self, CHIP};
 use crate::{every_place, fault, for_seeds};
 use humtrellis_tests::generate::{self, commands_then_data};
-use humtrellis_tests::model::{none, Part, ANSWER, COLUMNS};
+use humtrellis_tests::model::{none, Part, ANSWER, COLUMNS, WHOLE};
 
 /// A plain chip of group 0 with its own mode, counter and pointer.
 fn chip(subaddress: usize, [m, a, p]: [usize; 3]) -> Vec<u8> {
-    let head = [0, subaddress, 0, 0, m, p, a, 0, 0, 0, 0];
-    [vec![0; COLUMNS], head.map(|value| value as u8).to_vec()].concat()
+    let mut chip = vec![0; CHIP];
+    for (place, value) in [(1, subaddress), (4, m), (5, p), (6, a)] {
+        chip[COLUMNS + place] = value as u8;
+    }
+    chip
 }
 
 /// The counter at the last column of a byte: it rises where the pointer comes to the end of the columns, and stops at the part's number for none.
@@ -38,12 +41,12 @@ fn expect(case: &Case, list: &[Vec<u8>], bytes: &[u8], chip: usize) {
     case.bytes = bytes.to_vec();
     assert_eq!(case.compare(Call::Transfer), 0);
     assert_eq!(case.answer[5], chip);
-    assert_eq!(of_list(case.part, &list.concat(), bytes), chip);
+    assert_eq!(of_list(case.part, &list.concat(), bytes, WHOLE), chip);
 }
 
-fn of_list(part: u8, chips: &[u8], bytes: &[u8]) -> usize {
+fn of_list(part: u8, chips: &[u8], bytes: &[u8], bits: u8) -> usize {
     let mut answer = [77; ANSWER];
-    plain::compare_into(part, &mut chips.to_vec(), bytes, &mut answer);
+    plain::compare_into(part, &mut chips.to_vec(), bytes, bits, &mut answer);
     answer[5]
 }
 
@@ -56,7 +59,7 @@ fn last_chip_every_position() {
             for set in every_place(part).filter(|set| set[5] == 0) {
                 let place = [set[2], set[4], set[3]].map(usize::from);
                 let list: Vec<_> = (0..chips).map(|own| chip(own, place)).collect();
-                case.registers[..9].copy_from_slice(&set);
+                case.registers[..MARKS].copy_from_slice(&set);
                 let expected = present(case.part, chips, last_counter(part, place));
                 expect(&case, &list, &[0x70, 0x40, 0xA5], expected);
             }
@@ -95,7 +98,8 @@ fn last_chip_of_pairs() {
             let answering = answering.filter(|(own, place)| last_counter(part, *place) == *own);
             let smallest = answering.map(|(own, _)| *own).min();
             let expected = smallest.unwrap_or(none(part.number()));
-            let named = of_list(part.number(), &both.concat(), &[0x70, 0x40, 0xA5]);
+            let data = [0x70, 0x40, 0xA5];
+            let named = of_list(part.number(), &both.concat(), &data, WHOLE);
             assert_eq!(named, expected);
         }
     }
@@ -108,9 +112,9 @@ fn last_chip_of_lists() {
         let part = generate::part(random);
         let chips = plain::list(random, part);
         let turned: Vec<_> = chips.chunks(CHIP).rev().flatten().copied().collect();
-        let bytes = fault::transfer(random, part);
-        let named = of_list(part, &chips, &bytes);
-        assert_eq!(of_list(part, &turned, &bytes), named);
+        let (bytes, bits) = (fault::transfer(random, part), generate::bits(random));
+        let named = of_list(part, &chips, &bytes, bits);
+        assert_eq!(of_list(part, &turned, &bytes, bits), named);
     });
 }
 

@@ -12,7 +12,7 @@ extern "C" {
 
     pub fn humtrellis_transfer(
         part: u8, chips0: u8, chips1: u8, registers: *mut u8, registers_length: usize,
-        ram: *mut u8, ram_length: usize, bytes: *const u8, bytes_length: usize,
+        ram: *mut u8, ram_length: usize, bytes: *const u8, bytes_length: usize, bits: u8,
         answer: *mut usize, answer_length: usize,
     ) -> u8;
 
@@ -23,7 +23,7 @@ extern "C" {
     ) -> u8;
 
     pub fn humtrellis_plain_transfer(
-        part: u8, chips: *mut u8, chips_length: usize, bytes: *const u8, bytes_length: usize,
+        part: u8, chips: *mut u8, chips_length: usize, bytes: *const u8, bytes_length: usize, bits: u8,
         answer: *mut usize, answer_length: usize,
     ) -> u8;
 
@@ -118,6 +118,7 @@ pub fn transfer(
     registers: &mut [u8],
     ram: &mut [u8],
     sent: &mut [u8],
+    bits: u8,
     answer: &mut [usize],
 ) -> u8 {
     let (mut s, mut r) = (bytes(registers), bytes(ram));
@@ -134,6 +135,7 @@ pub fn transfer(
             r.length(),
             b.pointer(),
             b.length(),
+            bits,
             a.pointer(),
             a.length(),
         )
@@ -181,7 +183,13 @@ pub fn picture(
     number
 }
 
-pub fn plain_transfer(part: u8, chips: &mut [u8], sent: &mut [u8], answer: &mut [usize]) -> u8 {
+pub fn plain_transfer(
+    part: u8,
+    chips: &mut [u8],
+    sent: &mut [u8],
+    bits: u8,
+    answer: &mut [usize],
+) -> u8 {
     let (mut c, mut b, mut a) = (bytes(chips), bytes(sent), numbers(answer));
     // Safety: each pointer goes with the length of the buffer that it points to.
     let number = unsafe {
@@ -191,6 +199,7 @@ pub fn plain_transfer(part: u8, chips: &mut [u8], sent: &mut [u8], answer: &mut 
             c.length(),
             b.pointer(),
             b.length(),
+            bits,
             a.pointer(),
             a.length(),
         )

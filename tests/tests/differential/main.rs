@@ -7,6 +7,7 @@ compile_error!("target/staticlib/libcabi.a is missing: run rt staticlib cabi fir
 mod case;
 mod chip;
 mod control;
+mod cut;
 mod fault;
 mod last_chip;
 mod library;
@@ -18,9 +19,9 @@ mod rescue;
 mod seen;
 mod stops;
 
-use case::{refusal_of, Call, Case};
+use case::{refusal_of, Call, Case, MARKS};
 use humtrellis_tests::generate::{self, shape};
-use humtrellis_tests::model::Part;
+use humtrellis_tests::model::{Part, REGISTERS, SET, WHOLE};
 use humtrellis_tests::random::Random;
 use std::time::{Duration, Instant};
 
@@ -59,6 +60,7 @@ fn sequences() {
         case.compare(Call::PowerOn);
         for _ in 0..60 {
             case.bytes = fault::transfer(random, case.part);
+            case.bits = generate::bits(random);
             case.compare(Call::Transfer);
             compare_pictures(&case);
         }
@@ -85,7 +87,7 @@ fn patterned(part: Part, group: usize, chips: u8) -> Case {
 }
 
 /// Registers with every M, P, A and I.
-fn every_place(part: Part) -> impl Iterator<Item = [u8; 9]> {
+fn every_place(part: Part) -> impl Iterator<Item = [u8; MARKS]> {
     let (columns, counters) = (part.columns(), part.subaddresses() as usize + 1);
     (0..columns * counters * 4 * 2).map(move |state| {
         let (p, rest) = (state % columns, state / columns);
@@ -104,7 +106,7 @@ fn every_position() {
             let address = [0x70, 0x72][group];
             let mut case = patterned(part, group, chips);
             for set in every_place(part) {
-                case.registers[9 * group..][..9].copy_from_slice(&set);
+                case.registers[SET * group..][..MARKS].copy_from_slice(&set);
                 case.bytes = vec![address, 0x40, random.byte(), random.byte()];
                 assert_eq!(case.try_call(Call::Transfer), 0);
             }
@@ -144,7 +146,10 @@ fn every_byte() {
             for address in [0x70, 0x72] {
                 for bytes in with_byte(address, byte, other) {
                     case.bytes = bytes;
-                    case.try_call(Call::Transfer);
+                    for bits in [WHOLE, random.between(1, 7) as u8] {
+                        case.bits = bits;
+                        case.try_call(Call::Transfer);
+                    }
                 }
             }
         }
@@ -155,12 +160,12 @@ fn every_byte() {
 #[test]
 fn every_register() {
     for part in Part::BOTH {
-        for place in 0..18 {
+        for place in 0..REGISTERS {
             for value in 0..=255 {
                 let mut case = patterned(part, 0, 1);
                 case.registers[place] = value;
-                case.bytes = vec![[0x70, 0x72][place / 9], 0x80, 0x03, 0x40, 0xA5];
-                case.shown = [(place / 9) as u8, 1];
+                case.bytes = vec![[0x70, 0x72][place / SET], 0x80, 0x03, 0x40, 0xA5];
+                case.shown = [(place / SET) as u8, 1];
                 case.try_all();
             }
         }
@@ -168,7 +173,7 @@ fn every_register() {
 }
 
 /// Registers with every E, B, M, I, O, AB and BF; P and A vary too.
-pub fn every_setting(part: Part) -> impl Iterator<Item = [u8; 9]> {
+pub fn every_setting(part: Part) -> impl Iterator<Item = [u8; MARKS]> {
     let (columns, counters) = (part.columns(), part.subaddresses() as usize + 1);
     (0..2 * 2 * 4 * 2 * 2 * 2 * 4).map(move |state| {
         let (e, b, m) = (state % 2, state / 2 % 2, state / 4 % 4);
@@ -185,7 +190,7 @@ fn every_picture() {
         for (group, chips) in (0..=part.subaddresses()).flat_map(|chips| [(0, chips), (1, chips)]) {
             let mut case = patterned(part, group, chips);
             for set in every_setting(part) {
-                case.registers[9 * group..][..9].copy_from_slice(&set);
+                case.registers[SET * group..][..MARKS].copy_from_slice(&set);
                 compare_pictures(&case);
             }
         }

@@ -2,7 +2,7 @@
 
 use crate::case::{first_refusal, refusal_of, Call, Case, PARTS};
 use humtrellis_tests::generate::shape;
-use humtrellis_tests::model::ANSWER;
+use humtrellis_tests::model::{ANSWER, REGISTERS, SET};
 
 const BAD_COUNT: usize = 1;
 const BAD_REGISTER: usize = 2;
@@ -24,7 +24,7 @@ fn bus_with(part: u8, faults: usize) -> Case {
         case.chips[1] = most + 1;
     }
     if faults & BAD_REGISTER != 0 {
-        case.registers[13] = most + 1;
+        case.registers[SET + 4] = most + 1;
     }
     if faults & BAD_LENGTH != 0 {
         case.ram.push(0);
@@ -61,32 +61,56 @@ fn power_on() {
     }
 }
 
-/// Transfers to group 0 or to nobody, and what refuses each.
-pub fn transfers() -> Vec<(Vec<u8>, u8)> {
-    let undefined = vec![0x70, 0x80, 0x01, 0x00, 0xE4, 0xFC];
+/// Transfers to group 0 or to nobody, the bits of their last bytes, and what refuses each while the counter is known and while it is not.
+pub fn transfers() -> Vec<(Vec<u8>, u8, [u8; 2])> {
+    let undefined = vec![0x70, 0x80, 0x01, 0x00, 0xF9, 0xFC];
     let stray = vec![0x70, 0x80, 0x01, 0x01];
+    let data = vec![0x70, 0x80, 0x01, 0x40, 0xA5];
     let too_long = |start: &[u8]| [start, &vec![0xFF; 4097 - start.len()]].concat();
-    vec![
-        (vec![0x70], 0),
-        (vec![], 1),
-        (too_long(&undefined), 2),
-        (too_long(&stray), 2),
-        (vec![0x71; 4097], 2),
-        (undefined, 7),
-        (stray, 17),
-        (vec![0x71, 0x00, 0xFF], 0),
-        (vec![0x71, 0x3F], 0),
-    ]
+    let mut transfers = vec![
+        (vec![0x70], 8, [0, 0]),
+        (undefined.clone(), 8, [7, 7]),
+        (undefined.clone(), 7, [0, 0]),
+        (stray.clone(), 8, [17, 17]),
+        (stray.clone(), 1, [0, 0]),
+        (data.clone(), 8, [0, 18]),
+        (data.clone(), 4, [0, 18]),
+        ([&data[..4], &[0xA5; 3]].concat(), 1, [0, 18]),
+        (vec![0x70, 0x80, 0xFC, 0x40, 0xA5], 8, [7, 7]),
+        (vec![0x70, 0xC0, 0xA5, 0x00, 0xFC], 8, [7, 18]),
+        (vec![0x70, 0xC0, 0xA5, 0x01], 8, [17, 18]),
+        (vec![0x70, 0x80, 0xE1, 0x40, 0xA5], 8, [0, 0]),
+    ];
+    for bits in [0, 1, 7, 8, 9, 255] {
+        let wrong = if matches!(bits, 0 | 9 | 255) { 19 } else { 0 };
+        transfers.extend([
+            (vec![], bits, [1, 1]),
+            (vec![0x71; 4097], bits, [2, 2]),
+            (vec![0x71, 0x00, 0xFF], bits, [wrong; 2]),
+            (vec![0x71, 0x3F], bits, [wrong; 2]),
+            (vec![0x71, 0x40, 0xA5], bits, [wrong; 2]),
+        ]);
+        for start in [&undefined, &stray, &data] {
+            transfers.push((too_long(start), bits, [2, 2]));
+            if wrong != 0 {
+                transfers.push((start.clone(), bits, [19, 19]));
+            }
+        }
+    }
+    transfers
 }
 
 #[test]
 fn transfer() {
     for (part, faults) in every_fault() {
-        for (bytes, number) in transfers() {
-            let mut case = bus_with(part, faults);
-            case.bytes = bytes;
-            let expected = first_refusal([refusal_of_bus(part, faults, true), number]);
-            assert_eq!(case.compare(Call::Transfer), expected);
+        for (bytes, bits, numbers) in transfers() {
+            for (mark, number) in (0..).zip(numbers) {
+                let mut case = bus_with(part, faults);
+                case.registers[SET - 1] = mark;
+                (case.bytes, case.bits) = (bytes.clone(), bits);
+                let expected = first_refusal([refusal_of_bus(part, faults, true), number]);
+                assert_eq!(case.compare(Call::Transfer), expected);
+            }
         }
     }
 }
@@ -114,12 +138,13 @@ fn picture() {
 #[test]
 fn sizes() {
     let wrong = [
-        (17, ANSWER),
-        (19, ANSWER),
+        (REGISTERS - 1, ANSWER),
+        (REGISTERS + 1, ANSWER),
+        (18, ANSWER),
         (0, ANSWER),
-        (18, ANSWER - 1),
-        (18, ANSWER + 1),
-        (18, 0),
+        (REGISTERS, ANSWER - 1),
+        (REGISTERS, ANSWER + 1),
+        (REGISTERS, 0),
         (0, 0),
     ];
     for (part, faults) in every_fault() {

@@ -5,19 +5,9 @@ use crate::chip;
 use crate::library::SIZE;
 use crate::plain::{self, CHIP};
 use humtrellis_tests::generate::{commands_then_data, position_commands};
-use humtrellis_tests::model::{Part, ANSWER, COLUMNS};
+use humtrellis_tests::model::{Part, ANSWER, COLUMNS, REGISTERS, SET, WHOLE};
 
 const PCA85133: u8 = 1;
-
-/// What stands behind a plain PCA85133's 80 columns, of which none could hold it.
-fn behind() -> Vec<u8> {
-    (176..=255).rev().collect()
-}
-
-/// A plain chip of group 0 with these 80 columns and this set of registers.
-fn small_chip(subaddress: usize, columns: &[u8], set: &[u8]) -> Vec<u8> {
-    [columns, &behind(), &[0, subaddress as u8], set].concat()
-}
 
 /// A bus of PCA85133 chips in group 0; the same chips make a list.
 struct Bench(Case);
@@ -29,23 +19,10 @@ impl Bench {
         Bench(case)
     }
 
-    fn list(&self) -> Vec<u8> {
-        let set = &self.0.registers[..9];
-        let shares = self.0.ram.chunks(80).enumerate();
-        let chips = shares.map(|(subaddress, columns)| small_chip(subaddress, columns, set));
-        chips.collect::<Vec<_>>().concat()
-    }
-
-    /// Sends a transfer to the bus and to the list: both end alike, and no byte behind a chip's columns is written.
+    /// Sends a transfer to the bus and to the list.
     fn send(&mut self, bytes: &[u8]) -> Vec<usize> {
-        let (mut list, mut answer) = (self.list(), [77; ANSWER]);
         self.0.bytes = bytes.to_vec();
-        self.0.compare(Call::Transfer);
-        plain::compare_into(PCA85133, &mut list, bytes, &mut answer);
-        assert_eq!(list, self.list());
-        for same in [0, 1, 2, 5] {
-            assert_eq!(answer[same], self.0.answer[same]);
-        }
+        plain::compare_accounts(&mut self.0);
         self.0.answer.clone()
     }
 
@@ -204,8 +181,8 @@ struct Limits {
     most: u8,
     /// Chips of a list.
     listed: usize,
-    /// Registers, E B M P A I O AB BF.
-    greatest: [u8; 9],
+    /// Registers, E B M P A I O AB BF and three marks.
+    greatest: [u8; SET],
 }
 
 const LIMITS: [Limits; 2] = [
@@ -214,14 +191,14 @@ const LIMITS: [Limits; 2] = [
         columns: 160,
         most: 4,
         listed: 8,
-        greatest: [1, 1, 3, 159, 4, 1, 1, 1, 3],
+        greatest: [1, 1, 3, 159, 4, 1, 1, 1, 3, 1, 1, 1],
     },
     Limits {
         part: 1,
         columns: 80,
         most: 8,
         listed: 16,
-        greatest: [1, 1, 3, 79, 8, 1, 1, 1, 3],
+        greatest: [1, 1, 3, 79, 8, 1, 1, 1, 3, 1, 1, 1],
     },
 ];
 
@@ -284,15 +261,15 @@ fn part_chip_picture_lengths() {
 #[test]
 fn part_registers() {
     for Limits { part, greatest, .. } in LIMITS {
-        for place in 0..18 {
+        for place in 0..REGISTERS {
             for value in 0..=255 {
-                let fits = value <= greatest[place % 9];
+                let fits = value <= greatest[place % SET];
                 let mut case = Case::new(part, [1, 1]);
                 case.registers[place] = value;
                 let number = if fits { 0 } else { 6 };
                 assert_eq!(case.try_all(), [0, number, number]);
                 let mut chip = vec![0; CHIP];
-                chip[COLUMNS + 2 + place % 9] = value;
+                chip[COLUMNS + 2 + place % SET] = value;
                 let number = if fits { 0 } else { 11 };
                 assert_eq!(plain::compare(part, &mut chip, &[0x70]), number);
             }
@@ -326,7 +303,7 @@ fn part_lists() {
             );
             let mut answer = [77; ANSWER];
             chips[count * CHIP - 1] = 4;
-            plain::compare_into(part, &mut chips, &[0x70, 0x40, 0xA5], &mut answer);
+            plain::compare_into(part, &mut chips, &[0x70, 0x40, 0xA5], WHOLE, &mut answer);
             let refusal = if count > listed {
                 [10, 0]
             } else {
@@ -340,17 +317,13 @@ fn part_lists() {
 /// All eight chips of both groups, in a list turned round: A5 at column 79 of each in turn ends in the next, or is not acknowledged.
 #[test]
 fn part_sixteen_chips() {
-    let chip = |place: u8| {
-        let mut chip = small_chip(place as usize % 8, &[0; 80], &[0; 9]);
-        chip[COLUMNS] = place / 8;
-        chip
-    };
-    let mut chips: Vec<u8> = (0..16).rev().flat_map(chip).collect();
+    let list = plain::list_of(&Case::new(PCA85133, [8, 8]));
+    let mut chips: Vec<u8> = list.chunks(CHIP).rev().flatten().copied().collect();
     for (first, address) in [(0, 0x70), (8, 0x72)] {
         for own in 0..8 {
             let mut answer = [77; ANSWER];
             let bytes = commands_then_data(address, &[0xE0 | own as u8, 0x4F], &[0xA5]);
-            plain::compare_into(PCA85133, &mut chips, &bytes, &mut answer);
+            plain::compare_into(PCA85133, &mut chips, &bytes, WHOLE, &mut answer);
             assert_eq!(answer[5], own + 1);
             assert_eq!(chips[CHIP * (15 - first - own) + 79], 5);
         }
@@ -385,6 +358,7 @@ fn faulty() -> (Case, Vec<u8>, chip::Call) {
     case.registers.fill(255);
     case.ram = vec![255; 7];
     case.bytes.clear();
+    case.bits = 0;
     (case.shown, case.out) = ([2, 2], vec![0xEE; 3]);
     let mut one = chip::Call::new(2, &[255; CHIP]);
     (one.phase, one.out) = (2, vec![0xEE; 3]);
@@ -406,7 +380,7 @@ fn part_unknown() {
             assert_eq!(case.try_all(), [16; 3]);
             assert_eq!(one.both(), [16; 2]);
             let (mut after, mut answer) = (chips.clone(), [77; ANSWER]);
-            plain::compare_into(part, &mut after, &case.bytes, &mut answer);
+            plain::compare_into(part, &mut after, &case.bytes, case.bits, &mut answer);
             assert_eq!((answer, &after), ([16, 0, 0, 0, 0, 4], &chips));
         }
     }
@@ -432,7 +406,7 @@ fn part_unknown_writes() {
         powered.part = 2;
         powered.power_on();
         assert_eq!(powered.chip[..COLUMNS + 2], one.chip[..COLUMNS + 2]);
-        assert_eq!(powered.chip[COLUMNS + 2..], [0; 9]);
+        assert_eq!(powered.chip[COLUMNS + 2..], [0; SET]);
     }
 }
 
@@ -441,9 +415,9 @@ fn part_unknown_writes() {
 fn part_unknown_sizes() {
     for part in [2, 3, 255] {
         for (registers, answer, chip) in [
-            (17, ANSWER, CHIP - 1),
-            (18, ANSWER - 1, CHIP),
-            (19, ANSWER + 1, CHIP + 1),
+            (REGISTERS - 1, ANSWER, CHIP - 1),
+            (REGISTERS, ANSWER - 1, CHIP),
+            (REGISTERS + 1, ANSWER + 1, CHIP + 1),
         ] {
             let (mut case, _, mut one) = faulty();
             (case.part, one.part) = (part, part);
@@ -454,7 +428,7 @@ fn part_unknown_sizes() {
             one.answer.resize(answer, 77);
             assert_eq!(one.both(), [SIZE; 2]);
             let mut list = vec![0; 17 * CHIP + chip];
-            let number = plain::compare_into(part, &mut list, &[], &mut vec![77; answer]);
+            let number = plain::compare_into(part, &mut list, &[], 0, &mut vec![77; answer]);
             assert_eq!(number, SIZE);
         }
     }

@@ -1,14 +1,14 @@
-//! The plain account: transfers over chips of 171 bytes.
+//! The plain account: transfers over chips of 174 bytes.
 
-use crate::case::{first_refusal, refusal_of};
+use crate::case::{first_refusal, refusal_of, Call, Case};
 use crate::library;
 use crate::{fault, for_seeds, orders};
 use humtrellis_tests::generate::{self, shape};
-use humtrellis_tests::model::{self, Chip, Part, Registers, ANSWER, COLUMNS};
+use humtrellis_tests::model::{self, Chip, Part, Registers, ANSWER, COLUMNS, SET, WHOLE};
 use humtrellis_tests::random::Random;
 
 /// Bytes of a chip.
-pub const CHIP: usize = 171;
+pub const CHIP: usize = 174;
 
 pub fn chip_of(bytes: &[u8]) -> Chip {
     let mut chip = Chip::new(bytes[COLUMNS], bytes[COLUMNS + 1]);
@@ -22,12 +22,12 @@ pub fn bytes_of(chip: &Chip) -> Vec<u8> {
     [&chip.columns[..], &[chip.sa0, chip.subaddress], &registers].concat()
 }
 
-fn by_model(part: u8, chips: &mut [u8], sent: &[u8], answer: &mut [usize]) -> u8 {
+fn by_model(part: u8, chips: &mut [u8], sent: &[u8], bits: u8, answer: &mut [usize]) -> u8 {
     if answer.len() != ANSWER || chips.len() % CHIP != 0 {
         return library::SIZE;
     }
     let mut list: Vec<Chip> = chips.chunks(CHIP).map(chip_of).collect();
-    let result = model::plain_transfer(part, &mut list, sent);
+    let result = model::plain_transfer(part, &mut list, sent, bits);
     for (place, chip) in list.iter().enumerate() {
         chips[CHIP * place..][..CHIP].copy_from_slice(&bytes_of(chip));
     }
@@ -35,24 +35,59 @@ fn by_model(part: u8, chips: &mut [u8], sent: &[u8], answer: &mut [usize]) -> u8
     result.number as u8
 }
 
-/// Makes the call both ways on `chips` and holds all results together.
+/// Makes the call both ways on `chips` and holds all results together; the last byte is whole.
 pub fn compare(part: u8, chips: &mut [u8], sent: &[u8]) -> u8 {
-    compare_into(part, chips, sent, &mut [77; ANSWER])
+    compare_bits(part, chips, sent, WHOLE)
+}
+
+/// The same where the last byte has so many bits.
+pub fn compare_bits(part: u8, chips: &mut [u8], sent: &[u8], bits: u8) -> u8 {
+    compare_into(part, chips, sent, bits, &mut [77; ANSWER])
 }
 
 /// The same, with the answer in the caller's buffer.
-pub fn compare_into(part: u8, chips: &mut [u8], sent: &[u8], answer: &mut [usize]) -> u8 {
+pub fn compare_into(part: u8, chips: &mut [u8], sent: &[u8], bits: u8, answer: &mut [usize]) -> u8 {
     let given = chips.to_vec();
     let mut others = chips.to_vec();
     let mut expected = answer.to_vec();
     let mut lent = sent.to_vec();
-    let number = library::plain_transfer(part, chips, &mut lent, answer);
-    let expected_number = by_model(part, &mut others, sent, &mut expected);
+    let number = library::plain_transfer(part, chips, &mut lent, bits, answer);
+    let expected_number = by_model(part, &mut others, sent, bits, &mut expected);
     let same = number == expected_number && answer == expected && *chips == others && lent == sent;
     assert!(
         same,
-        "plain differs\n part {part} chips {given:?}\n sent {sent:?}\n library {number} {answer:?} {chips:?}\n model {expected_number} {expected:?} {others:?}"
+        "plain differs\n part {part} chips {given:?}\n sent {sent:?} bits {bits}\n library {number} {answer:?} {chips:?}\n model {expected_number} {expected:?} {others:?}"
     );
+    number
+}
+
+/// The plain chips that stand for a bus; behind a PCA85133's columns stand bytes that no column could hold.
+pub fn list_of(case: &Case) -> Vec<u8> {
+    let mut list = Vec::new();
+    let mut shares = case.ram.chunks(shape(case.part).columns());
+    for (sa0, set) in (0..2).zip(case.registers.chunks(SET)) {
+        for (subaddress, columns) in (0..case.chips[sa0]).zip(&mut shares) {
+            list.extend(columns);
+            list.extend((columns.len()..COLUMNS).map(|place| 255 - place as u8 % 80));
+            list.extend([sa0 as u8, subaddress]);
+            list.extend(set);
+        }
+    }
+    list
+}
+
+/// Sends a case's transfer to its bus and to the list of its chips: both answer and end alike, and no byte behind a chip's columns is written.
+pub fn compare_accounts(case: &mut Case) -> u8 {
+    let (mut list, mut answer) = (list_of(case), [77; ANSWER]);
+    let number = case.compare(Call::Transfer);
+    compare_into(case.part, &mut list, &case.bytes, case.bits, &mut answer);
+    assert!(
+        list == list_of(case),
+        "accounts differ\n {case:?}\n {list:?}"
+    );
+    for same in [0, 1, 2, 5] {
+        assert_eq!(answer[same], case.answer[same]);
+    }
     number
 }
 
@@ -74,7 +109,7 @@ pub fn chips(random: &mut Random, part: u8, count: usize) -> Vec<u8> {
     for _ in 0..count {
         let own = fault::registers(random, part);
         let set = if equal { &common } else { &own };
-        chips.extend(chip(random, shape(part), &set[..9]));
+        chips.extend(chip(random, shape(part), &set[..SET]));
     }
     chips
 }
@@ -92,7 +127,7 @@ fn plain_sequences() {
         let mut chips = list(random, part);
         for _ in 0..30 {
             let sent = fault::transfer(random, part);
-            compare(part, &mut chips, &sent);
+            compare_bits(part, &mut chips, &sent, generate::bits(random));
         }
     });
 }
@@ -106,8 +141,9 @@ fn plain_damaged() {
         for _ in 0..random.below(4) {
             if !chips.is_empty() {
                 let place = random.below(chips.len());
-                let head = place / CHIP * CHIP + COLUMNS + random.below(11);
-                chips[random.pick(&[place, head])] = random.byte();
+                let head = place / CHIP * CHIP + COLUMNS + random.below(2 + SET);
+                let (any, small) = (random.byte(), random.below(3) as u8);
+                chips[random.pick(&[place, head])] = random.pick(&[any, small]);
             }
         }
         let sent = fault::transfer(random, part);
@@ -115,21 +151,23 @@ fn plain_damaged() {
             true => random.pick(&[0, ANSWER - 1, ANSWER + 1]),
             false => ANSWER,
         };
-        compare_into(part, &mut chips, &sent, &mut vec![77; length]);
+        let bits = generate::bits(random);
+        compare_into(part, &mut chips, &sent, bits, &mut vec![77; length]);
     });
 }
 
-/// Every set of faults at once: 16, 10, 11, 1, 2, then 7 and 17.
+/// Every set of faults at once: 16, 10, 11, 1, 2, 19, then 7, 17 and 18.
 #[test]
 fn plain_orders() {
     for (part, most) in [(0, 8), (1, 16), (2, 8), (255, 16)] {
         for (count, many) in [(1, 0), (most, 0), (most + 1, 10), (most + 2, 10)] {
-            for (value, misfit) in [(0, 0), (9, 11)] {
-                for (sent, number) in orders::transfers() {
+            for (mark, misfit) in [(0, 0), (1, 0), (2, 11), (9, 11)] {
+                for (sent, bits, numbers) in orders::transfers() {
                     let mut chips = vec![0; count * CHIP];
-                    chips[count * CHIP - 1] = value;
+                    chips[count * CHIP - 1] = mark;
+                    let number = numbers[(mark > 0) as usize];
                     let expected = first_refusal([refusal_of(part), many, misfit, number]);
-                    assert_eq!(compare(part, &mut chips, &sent), expected);
+                    assert_eq!(compare_bits(part, &mut chips, &sent, bits), expected);
                 }
             }
         }

@@ -6,7 +6,7 @@ use crate::library::*;
 use crate::plain::CHIP;
 use humtrellis_tests::generate::shape;
 use humtrellis_tests::header::text_room;
-use humtrellis_tests::model::{none, ANSWER, COLUMNS};
+use humtrellis_tests::model::{none, ANSWER, COLUMNS, REGISTERS, WHOLE};
 
 /// More than is mapped behind any buffer here.
 const FALSE: usize = 1 << 44;
@@ -15,7 +15,7 @@ const FALSE: usize = 1 << 44;
 struct Bus {
     part: u8,
     chips: u8,
-    registers: [u8; 18],
+    registers: [u8; REGISTERS],
     ram_length: usize,
     bytes_length: usize,
     out_length: usize,
@@ -27,7 +27,7 @@ impl Bus {
         Bus {
             part,
             chips: 1,
-            registers: [0; 18],
+            registers: [0; REGISTERS],
             ram_length: shape(part).columns(),
             bytes_length: 2,
             out_length: shape(part).columns(),
@@ -52,7 +52,7 @@ impl Bus {
                 ram.as_ptr(),
                 self.ram_length,
                 r.as_mut_ptr(),
-                18,
+                REGISTERS,
                 a.as_mut_ptr(),
                 ANSWER,
             )
@@ -69,11 +69,12 @@ impl Bus {
                 self.chips,
                 0,
                 r.as_mut_ptr(),
-                18,
+                REGISTERS,
                 ram,
                 self.ram_length,
                 bytes.as_ptr(),
                 self.bytes_length,
+                WHOLE,
                 a.as_mut_ptr(),
                 ANSWER,
             )
@@ -90,7 +91,7 @@ impl Bus {
                 self.chips,
                 0,
                 r.as_ptr(),
-                18,
+                REGISTERS,
                 ram.as_ptr(),
                 self.ram_length,
                 0,
@@ -147,8 +148,9 @@ fn stops_at_list_and_transfer_of_chips() {
         let (mut chip, bytes) = ([0; CHIP], [0x70, 0x00]);
         for (chips, length, expected) in [(FALSE / CHIP * CHIP, 2, 10), (CHIP, FALSE, 2)] {
             let (c, b, a) = (chip.as_mut_ptr(), bytes.as_ptr(), bus.answer.as_mut_ptr());
-            let number =
-                unsafe { humtrellis_plain_transfer(bus.part, c, chips, b, length, a, ANSWER) };
+            let number = unsafe {
+                humtrellis_plain_transfer(bus.part, c, chips, b, length, WHOLE, a, ANSWER)
+            };
             bus.refused(number, expected, none(bus.part));
         }
     }

@@ -5,6 +5,7 @@ use mathlib.Core.List.{List}
 use Prim.Native.Nat.{ℕ}
 use native.Mathlib.Omega.{arith}
 use Rattle.sheet.specs.Parts.{pcf8532}
+use Rattle.sheet.specs.Protocol.{Sent}
 use Rattle.sheet.specs.Long.{stateOf, State, powerOnPart, stateAfterAll}
 use Rattle.sheet.specs.Logs.{seenBytes, logRecords, logTransfers, transferLines, endLines, logStart, logLines}
 use Rattle.sheet.specs.Agree.{Valid}
@@ -20,7 +21,7 @@ use Rattle.buslog.proofs.play.Tie as tie
 abbrev bodies : tie.Start → List (List ℕ)
 bodies s = logRecords (s .args .log .now) .bodies
 
-abbrev transfers : tie.Start → List (List ℕ)
+abbrev transfers : tie.Start → List Sent
 transfers s = logTransfers (s .args .log .now)
 
 abbrev text : tie.Start → List ℕ

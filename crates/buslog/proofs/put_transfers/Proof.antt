@@ -5,6 +5,7 @@ use Prim.Native.Nat.{ℕ, _+_, _-_, _≤_}
 use native.Mathlib.Omega.{arith}
 use lib.ListN.{length, take, drop}
 use Rattle.sheet.specs.Parts.{pcf8532}
+use Rattle.sheet.specs.Protocol.{whole}
 use Rattle.sheet.specs.Long.{After, stateOf, transferCall, stateAfterAll}
 use Rattle.sheet.specs.Logs.{seenBytes, recordLines, transferLines}
 use Rattle.records.specs.Found.{recordIn}
@@ -61,14 +62,14 @@ told : (c : tie.After-transfer Inv-loop μ-loop) → let read = c .before .befor
     let log = a .log .now in
     let start = read .start .given .0 .0 in
     _≡_ {A = After} (record { result = c .transfer .result; ram = c .transfer .last .1 .1 .1 .0 })
-    (transferCall pcf8532 (a .chips) (p .loop .registers) (p .loop .ram) (take (start + read .start .given .0 .1 .0 - (start + seenBytes log)) (drop (start + seenBytes log) log)))
+    (transferCall pcf8532 (a .chips) (p .loop .registers) (p .loop .ram) (whole (take (start + read .start .given .0 .1 .0 - (start + seenBytes log)) (drop (start + seenBytes log) log))))
 told c = let read = c .before .before .before .before in
     let p = read .before .before .before in
     let a = p .before .before .before .before .before .args in
     let log = a .log .now in
     let start = read .start .given .0 .0 in
     c .transfer .ensures .0 ∙ zero-transfer _ _ _ _
-    ∙ ap (λ (k : ℕ). transferCall pcf8532 (a .chips) (p .loop .registers) (p .loop .ram) (take (start + read .start .given .0 .1 .0 - (start + k)) (drop (start + k) log))) (p .before .seen-bytes .ensures)
+    ∙ ap (λ (k : ℕ). transferCall pcf8532 (a .chips) (p .loop .registers) (p .loop .ram) (whole (take (start + read .start .given .0 .1 .0 - (start + k)) (drop (start + k) log)))) (p .before .seen-bytes .ensures)
 
 put-record-requires : tie.Need-put-record-requires Inv-loop μ-loop
 put-record-requires c κs = let t = c .before .before .before .before in

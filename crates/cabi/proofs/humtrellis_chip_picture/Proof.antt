@@ -20,7 +20,7 @@ returns c = let put = c .before .before in
     let shown = said .before .before .before in
     let read = shown .before .before in
     let a = read .before .before .before .before .before .args in
-    seen-said (eqb (length (a .chip .now)) 171) (a .out .now) (a .answer .now) (read .before .if1 .taken)
+    seen-said (eqb (length (a .chip .now)) 174) (a .out .now) (a .answer .now) (read .before .if1 .taken)
     (shown .picture .ensures .0 ∙ ap (λ (c : Chip). chipPicturePart (a .part) c (a .phase) (a .out .now)) (read .chip-of .ensures))
     (said .picture-numbers .ensures) (put .put-numbers .ensures)
 

@@ -20,7 +20,7 @@ returns c = let put = c .before .before in
     let shown = said .before .before .before in
     let read = shown .before .before in
     let a = read .before .before .before .before .before .before .args in
-    seen-said (eqb (length (a .registers .now)) 18) (a .out .now) (a .answer .now) (read .before .if1 .taken)
+    seen-said (eqb (length (a .registers .now)) 24) (a .out .now) (a .answer .now) (read .before .if1 .taken)
     (shown .picture .ensures .0 ∙ ap (λ (r : Both). picturePart (a .part) (chipsOf (a .chips0) (a .chips1)) r (a .ram .now) (a .group) (a .phase) (a .out .now)) (read .both-of .ensures))
     (said .picture-numbers .ensures) (put .put-numbers .ensures)
 

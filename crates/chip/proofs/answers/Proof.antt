@@ -1,12 +1,15 @@
 -- answers: by the case of what the byte is.
 -- Assumes nothing.
-use mathlib.Core.Path.{sym, ap, _∙_}
+use mathlib.Core.Path.{refl, sym, ap, _∙_}
 use Rattle.sheet.specs.declared.Expect.{Expect}
 use Rattle.sheet.specs.Parts.{partOf}
 use Rattle.sheet.specs.Plain.{acknowledgesByte}
 use borrow.Author.Needs.{needs}
 use Rattle.chip.proofs.answers.Statement.{statement}
 use Rattle.chip.proofs.answers.Tie as tie
+
+returns : tie.Need-returns
+returns c = rw (c .enum-told .given .1) refl
 
 returns-2 : tie.Need-returns-2
 returns-2 c = let a = c .before .before .before .before .args in
@@ -25,6 +28,6 @@ answers-spec =
     (λ c κs. search needs)
     (λ c. search needs)
     (λ c κs. search needs)
-    (λ c. search needs)
+    returns
     returns-2
     returns-3)

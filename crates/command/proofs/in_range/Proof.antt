@@ -8,8 +8,8 @@ use Rattle.command.proofs.in_range.Tie as tie
 
 returns : tie.Need-returns
 unfolding inRange
-returns c = let p = c .before .before .before .before .before in
-    rw (p .limit .ensures, p .before .before .columns .ensures) (simp (and-assoc))
+returns c = let p = c .before .before .before .before .before .before in
+    rw (c .marks-fit .ensures, p .limit .ensures, p .before .before .columns .ensures) (simp (and-assoc))
 
 pub in-range-spec : {M : Type 1} → statement M
-in-range-spec = tie.close (tie.spec (λ c κs. search needs) (λ c κs. search needs) returns)
+in-range-spec = tie.close (tie.spec (λ c κs. search needs) (λ c κs. search needs) (λ c κs. search needs) returns)

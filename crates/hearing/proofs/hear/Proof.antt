@@ -1,132 +1,33 @@
--- `hearing::hear` meets its contract: a turn is a run of data or a byte that is none.
+-- `hearing::hear` meets its contract: the whole bytes are heard, and the listener ends with the one that is cut.
 -- Assumes nothing.
-use mathlib.Core.Path.{refl, sym, ap, _∙_, subst}
-use Prim.Native.Nat.{_-_, _≤_}
+use mathlib.Core.Path.{sym, subst}
+use Prim.Native.Nat.{ℕ, _≤_}
 use native.Mathlib.Omega.{arith}
-use lib.ListN.{length, drop, length-take, length-drop}
+use lib.ListN.{length, length-take}
+use lib.Seq.{length-take-le}
 use denote.Ref.{now}
-use Rattle.sheet.specs.declared.Expect.the-variants.{Control}
 use Rattle.sheet.specs.Parts.{partOf}
-use Rattle.sheet.specs.Long.{begun, heard}
-use Rattle.laws.proofs.Ranges.{range-of, in-range}
-use Rattle.laws.proofs.Kept.{part-keeps}
-use Rattle.laws.proofs.Named.{group-columns}
-use Rattle.laws.proofs.Nibbles.{nibbles-of, check-nibbles}
-use Rattle.protocol.specs.declared.Listener.{Listener}
-use Rattle.protocol.specs.Listeners.{groupOf}
-use Rattle.hearing.proofs.Hearing.{Hearing, at-end, ends-in, step-turn, data-turn}
+use Rattle.sheet.specs.Long.{begun}
+use Rattle.laws.proofs.Wholes.{whole-most}
+use Rattle.hearing.proofs.Hearing.{whole-heard}
 use borrow.Author.Needs.{needs}
 use Rattle.hearing.proofs.hear.Statement.{statement}
 use Rattle.hearing.proofs.hear.Tie as tie
 
-abbrev Inv-loop : tie.InvT-loop
-Inv-loop part ram₀ bytes n size listener₀ i₀ ram listener i = Hearing (partOf part) ram₀ bytes (listener₀ .registers) ram listener i
+slice-aggregate-hear-bytes : tie.Need-slice-aggregate-hear-bytes
+slice-aggregate-hear-bytes c = let a = c .before .before .before .before .before .args in
+    sym (length-take-le _ _ (subst (λ (k : ℕ). k ≤ length (now (a .bytes))) (sym (c .before .before .whole-count .ensures)) (whole-most (length (now (a .bytes))) (a .bits))))
 
-abbrev μ-loop : tie.MeasureT-loop
-μ-loop part ram₀ bytes n size listener₀ i₀ ram listener i = length bytes - i
+hear-bytes-requires : tie.Need-hear-bytes-requires
+hear-bytes-requires c κs = let s = c .before .before .before .before .before in
+    record { range = s .pre .range; few = s .pre .few; nibbles = s .pre .nibbles; short = simp (length-take) (omega (arith, s .pre .short)) }
 
-ends : (c : tie.After-data-end Inv-loop μ-loop) → c .data-end .result ≤ length (now (c .before .before .before .before .before .before .args .bytes))
-ends c = rw (c .data-end .ensures) (ends-in (c .before .before .loop .listener .expect) (c .before .before .loop .i) (length (now (c .before .before .before .before .before .before .args .bytes))) (c .before .loop-test .taken) .1)
-
-loop-holds : tie.Need-loop-holds Inv-loop μ-loop
-loop-holds c = let s = c .before .before .before in
-    let ram = now (s .args .ram) in
-    subst (λ (l : Listener). Hearing (partOf (s .args .part)) ram (now (s .args .bytes)) (l .registers) ram l 1) (sym (c .begun .ensures))
-    (record {
-      rest = refl;
-      kept = record { range = range-of (partOf (s .args .part)) (s .args .registers) (s .pre .range); columns = refl; nibbles = nibbles-of 0 ram (s .pre .nibbles) };
-      few = record { acknowledged = omega arith; bits = omega arith };
-      most = s .pre .some;
-    })
-
-sub-write : tie.Need-sub-write Inv-loop μ-loop
-sub-write c = omega (arith, c .before .before .if1 .taken)
-
-part-write-start : tie.Need-part-write-start Inv-loop μ-loop
-part-write-start c = omega (arith, c .before .before .if1 .taken)
-
-part-write-end : tie.Need-part-write-end Inv-loop μ-loop
-part-write-end c = ends (c .before .before .before)
-
-write-requires : tie.Need-write-requires Inv-loop μ-loop
-write-requires c κs = let e = c .before .before .before .before in
-    let p = e .before .before in
-    let s = p .before .before .before .before in
-    record {
-      range = in-range (partOf (s .args .part)) (p .loop .listener .registers) (p .loop .inv .kept .range);
-      short = simp (length-take, length-drop) (omega (arith, s .pre .short));
-      nibbles = check-nibbles 0 (p .loop .ram) (p .loop .inv .kept .nibbles);
-    }
-
-sub-run : tie.Need-sub-run Inv-loop μ-loop
-sub-run c = omega (arith, c .before .before .before .before .before .before .if1 .taken)
-
-run-requires : tie.Need-run-requires Inv-loop μ-loop
-run-requires c κs = let e = c .before .before .before .before .before .before .before in
-    let p = e .before .before in
-    let s = p .before .before .before .before in
-    let few = p .loop .inv .few in
-    record {
-      range = in-range (partOf (s .args .part)) (p .loop .listener .registers) (p .loop .inv .kept .range);
-      short = omega (arith, ends e, s .pre .short);
-      acknowledged = omega (arith, few .acknowledged, p .loop .inv .most, s .pre .short);
-      stored = omega (arith, few .bits, p .loop .inv .most, s .pre .short);
-      discarded = omega (arith, few .bits, p .loop .inv .most, s .pre .short);
-    }
-
-loop-less : tie.Need-loop-less Inv-loop μ-loop
-loop-less c = let e = c .before .before .before .before .before .before .before .before in
-    omega (arith, c .before .before .before .before .before .before .before .if1 .taken, e .before .loop-test .taken)
-
-loop-again : tie.Need-loop-again Inv-loop μ-loop
-loop-again c = let e = c .before .before .before .before .before .before .before .before in
-    let p = e .before .before in
-    let s = p .before .before .before .before in
-    let w = c .before .before .before .write in
-    data-turn (partOf (s .args .part)) (part-keeps (s .args .part)) (now (s .args .ram)) (now (s .args .bytes)) (p .before .begun .result .registers) (p .loop .ram) (p .loop .listener) (p .loop .i) (e .before .loop-test .taken) (p .loop .inv)
-    (rw (group-columns (s .args .part)) (s .pre .few)) (e .data-end .result) (e .data-end .ensures) (c .before .before .before .before .before .before .before .if1 .taken) (w .last .1 .0) (c .run .result) (w .ensures) (c .run .ensures)
-
-step-requires : tie.Need-step-requires Inv-loop μ-loop
-step-requires c κs = let p = c .before .before .before .before in
-    omega (arith, p .loop .inv .few .acknowledged, p .loop .inv .most, p .before .before .before .before .pre .short)
-
-loop-again-2 : tie.Need-loop-again-2 Inv-loop μ-loop
-loop-again-2 c = let e = c .before .before .before in
-    let p = e .before .before in
-    let s = p .before .before .before .before in
-    step-turn (partOf (s .args .part)) (part-keeps (s .args .part)) (now (s .args .ram)) (now (s .args .bytes)) (p .before .begun .result .registers) (p .loop .ram) (p .loop .listener) (p .loop .i) (e .before .loop-test .taken) (p .loop .inv)
-    (rw (← (e .data-end .ensures)) (c .before .before .if1 .left)) (c .step .result) (c .step .ensures)
-
-same-length : tie.Need-same-length Inv-loop μ-loop
-same-length c = c .before .loop .inv .kept .columns
-
-returns : tie.Need-returns Inv-loop μ-loop
-returns c = let p = c .before in
-    let a = p .before .before .before .before .args in
-    sym (at-end (partOf (a .part)) (p .loop .listener .expect) (now (a .bytes)) (p .loop .i) (c .loop-test .left) (groupOf (p .loop .listener) (p .loop .ram))) ∙ p .loop .inv .rest
-    ∙ ap (λ (l : Listener). heard (partOf (a .part)) Control (drop 1 (now (a .bytes))) (begun (l .registers) (now (a .ram)))) (p .before .begun .ensures)
+returns : tie.Need-returns
+returns c = let h = c .before .before .before in
+    let w = h .before .before .before in
+    let a = w .before .before .before .args in
+    whole-heard (partOf (a .part)) (now (a .bytes)) (a .bits) (w .whole-count .result) (w .whole-count .ensures) (begun (a .registers) (now (a .ram))) (h .hear-bytes .result) (h .hear-bytes .last .1 .0)
+    (h .hear-bytes .ensures .0) (h .hear-bytes .ensures .1) (c .end .result) (c .end .ensures)
 
 pub hear-spec : {M : Type 1} → statement M
-hear-spec =
-    tie.close
-    (tie.spec
-    Inv-loop
-    μ-loop
-    (λ c κs. search needs)
-    loop-holds
-    (λ c κs. search needs)
-    sub-write
-    part-write-start
-    part-write-end
-    write-requires
-    sub-run
-    run-requires
-    loop-less
-    loop-again
-    (λ c. search needs)
-    step-requires
-    (λ c. search needs)
-    (λ c. search needs)
-    loop-again-2
-    same-length
-    returns)
+hear-spec = tie.close (tie.spec (λ c κs. search needs) slice-aggregate-hear-bytes hear-bytes-requires (λ c κs. search needs) (λ c. search needs) returns)

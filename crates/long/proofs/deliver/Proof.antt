@@ -8,11 +8,10 @@ use denote.Ref.{now}
 use Rattle.sheet.specs.declared.Registers.{Registers}
 use Rattle.sheet.specs.declared.Acknowledger.{Acknowledger}
 use Rattle.sheet.specs.declared.Answer.{Answer}
-use Rattle.sheet.specs.declared.Expect.the-variants.{Control}
 use Rattle.sheet.specs.Parts.{partOf}
-use Rattle.sheet.specs.Protocol.{chipsIn}
+use Rattle.sheet.specs.Protocol.{chipsIn, sent}
 use Rattle.sheet.specs.Checks.{overIn}
-use Rattle.sheet.specs.Long.{Group, oneAcknowledged, noCounts, heard, replaced, columnsOf}
+use Rattle.sheet.specs.Long.{Group, oneAcknowledged, noCounts, heardWhole, replaced, columnsOf}
 use Rattle.laws.proofs.Ranges.{in-range}
 use Rattle.laws.proofs.Named.{ram-small}
 use Rattle.laws.proofs.Fits.{Fits, fits-of}
@@ -45,15 +44,14 @@ hear-requires c κs = let s = c .before .before .before .before .before .before 
       range = rw (c .before .registers-of .ensures) (in-range (partOf (a .part)) _ (kept .range));
       few = omega (arith, ap length (part (c .before .before)), kept .columns, ram-small (a .part) (chipsIn (a .group) (a .chips)) (few-chips-in (partOf (a .part)) (a .chips) (a .registers) (now (a .ram)) f (a .group)));
       nibbles = ap (overIn 0) (part (c .before .before)) ∙ check-nibbles 0 (columnsOf (partOf (a .part)) (a .chips) (a .group) (now (a .ram))) (kept .nibbles);
-      some = s .pre .1;
-      short = s .pre .2;
+      short = s .pre .1;
     }
 
 returns : tie.Need-returns
 returns c = let h = c .before .before .before .before .before in
     let e = h .before .before .before in
     let a = e .before .before .before .before .args in
-    let told = h .hear .ensures ∙ ap (λ (g : Group). heard (partOf (a .part)) Control (drop 1 (now (a .bytes))) g) (λ j. record { registers = h .before .before .registers-of .ensures j; ram = part e j; counts = oneAcknowledged noCounts; last = Acknowledger.None }) in
+    let told = h .hear .ensures ∙ ap (λ (g : Group). heardWhole (partOf (a .part)) (sent (now (a .bytes)) (a .bits)) g) (λ j. record { registers = h .before .before .registers-of .ensures j; ram = part e j; counts = oneAcknowledged noCounts; last = Acknowledger.None }) in
     let after = c .replaced .ensures ∙ ap (λ (r : Registers). replaced (a .group) r (a .registers)) (λ j. told j .registers) in
     let back = put-back (partOf (a .part)) (a .chips) (now (a .ram)) (a .group) (e .before .start-of .result) (e .end-of .result) (e .before .start-of .ensures) (e .end-of .ensures) (h .hear .last .1 .0) _ (λ j. told j .ram) in
     λ j. record { result = record { answer = Answer.Taken (told j .counts) (told j .last); registers = after j }; ram = back j }

@@ -16,7 +16,8 @@ use Rattle.sheet.specs.Parts.{partOf}
 use Rattle.sheet.specs.Protocol.{chipsIn}
 use Rattle.sheet.specs.Checks.{orElse, checkPart, checkPicture}
 use Rattle.sheet.specs.Pictures.{pictureOf, litIn, Seen, seen}
-use Rattle.sheet.specs.Long.{registersOf, columnsOf, pictureCall, picturePart}
+use Rattle.sheet.specs.Registers.{registersOf}
+use Rattle.sheet.specs.Long.{columnsOf, pictureCall, picturePart}
 use Rattle.sheet.specs.Refusals.{pictureNumbers}
 use Rattle.laws.proofs.Named.{ram-small}
 use Rattle.laws.proofs.First.{seen-first}

@@ -4,14 +4,13 @@ use mathlib.Core.Path.{_≡_, sym, ap, _∙_}
 use mathlib.Core.List.{List}
 use Prim.Native.Nat.{ℕ}
 use denote.Ref.{now}
-use lib.ListN.{getD}
 use Rattle.sheet.specs.declared.Both.{Both}
 use Rattle.sheet.specs.declared.Chips.{Chips}
 use Rattle.sheet.specs.declared.Addressed.{Addressed}
 use Rattle.sheet.specs.declared.Check.{Check}
 use Rattle.sheet.specs.Refusals.{numbers}
 use Rattle.sheet.specs.Parts.{Part, partOf}
-use Rattle.sheet.specs.Protocol.{heardBy}
+use Rattle.sheet.specs.Protocol.{heardBy, Sent, sent, addressByte}
 use Rattle.sheet.specs.Checks.{orElse, checkPart, checkTransfer}
 use Rattle.sheet.specs.Long.{After, taken, answered, transferCall, transferPart}
 use Rattle.laws.proofs.Fits.{both-pass, transfer-passed}
@@ -25,19 +24,19 @@ numbered : (K : Part) {a b : After} → a ≡ b → (a ≡ b) × (numbers K (a .
 numbered K e = (e, ap (λ (k : After). numbers K (k .result .answer)) e)
 
 -- what the call is, by what its checks answer
-by-check : (part : ℕ) (n : Chips) (r : Both) (ram bytes : List ℕ) (k : Check) → orElse (checkPart part) (checkTransfer (partOf part) n r ram bytes) ≡ k
-    → transferPart part n r ram bytes ≡ answered k r ram (taken (partOf part) n r ram bytes (heardBy n (getD bytes 0 0)))
+by-check : (part : ℕ) (n : Chips) (r : Both) (ram : List ℕ) (t : Sent) (k : Check) → orElse (checkPart part) (checkTransfer (partOf part) n r ram t) ≡ k
+    → transferPart part n r ram t ≡ answered k r ram (taken (partOf part) n r ram t (heardBy n (addressByte t)))
 unfolding transferPart transferCall
-by-check part n r ram bytes k e =
-    let s = taken (partOf part) n r ram bytes (heardBy n (getD bytes 0 0)) in
-    answered-first (checkPart part) (checkTransfer (partOf part) n r ram bytes) r ram s ∙ ap (λ (k : Check). answered k r ram s) e
+by-check part n r ram t k e =
+    let s = taken (partOf part) n r ram t (heardBy n (addressByte t)) in
+    answered-first (checkPart part) (checkTransfer (partOf part) n r ram t) r ram s ∙ ap (λ (k : Check). answered k r ram s) e
 
 -- what is taken once the checks have passed, by who hears
 takes : (c : tie.After-heard-by) → (to : Addressed) → c .heard-by .result ≡ to → let a = c .before .before .before .before .before .before .before .before .args in
-    transferPart (a .part) (a .chips) (a .registers) (now (a .ram)) (now (a .bytes)) ≡ taken (partOf (a .part)) (a .chips) (a .registers) (now (a .ram)) (now (a .bytes)) to
+    transferPart (a .part) (a .chips) (a .registers) (now (a .ram)) (sent (now (a .bytes)) (a .bits)) ≡ taken (partOf (a .part)) (a .chips) (a .registers) (now (a .ram)) (sent (now (a .bytes)) (a .bits)) to
 takes c to told = let a = c .before .before .before .before .before .before .before .before .args in
-    by-check (a .part) (a .chips) (a .registers) (now (a .ram)) (now (a .bytes)) _ (sym (c .before .before .before .before .check-transfer .ensures) ∙ c .before .before .enum-told .given .1)
-    ∙ ap (λ (k : Addressed). taken (partOf (a .part)) (a .chips) (a .registers) (now (a .ram)) (now (a .bytes)) k) (sym (c .heard-by .ensures ∙ ap (heardBy (a .chips)) (c .before .byte-at .ensures)) ∙ told)
+    by-check (a .part) (a .chips) (a .registers) (now (a .ram)) (sent (now (a .bytes)) (a .bits)) _ (sym (c .before .before .before .before .check-transfer .ensures) ∙ c .before .before .enum-told .given .1)
+    ∙ ap (λ (k : Addressed). taken (partOf (a .part)) (a .chips) (a .registers) (now (a .ram)) (sent (now (a .bytes)) (a .bits)) k) (sym (c .heard-by .ensures ∙ ap (heardBy (a .chips)) (c .before .address-byte .ensures)) ∙ told)
 
 enum-told : tie.Need-enum-told
 enum-told c = search needs
@@ -46,12 +45,12 @@ deliver-requires : tie.Need-deliver-requires
 deliver-requires c κs = let t = c .before .before .before .before .before .before in
     let a = t .before .before .before .before .before .before .args in
     let e = both-pass (checkPart (a .part)) _ (sym (t .before .before .check-transfer .ensures) ∙ t .enum-told .given .1) .1 in
-    let p = transfer-passed (partOf (a .part)) (a .chips) (a .registers) (now (a .ram)) (now (a .bytes)) e in
-    (p .0, p .1 .0, p .1 .1)
+    let p = transfer-passed (partOf (a .part)) (a .chips) (a .registers) (now (a .ram)) (sent (now (a .bytes)) (a .bits)) e in
+    (p .0, p .1 .1)
 
 returns : tie.Need-returns
 returns c = let a = c .before .before .before .before .before .before .before .args in
-    numbered (partOf (a .part)) (sym (by-check (a .part) (a .chips) (a .registers) (now (a .ram)) (now (a .bytes)) _ (sym (c .before .before .before .check-transfer .ensures) ∙ c .before .refusal .given .1)))
+    numbered (partOf (a .part)) (sym (by-check (a .part) (a .chips) (a .registers) (now (a .ram)) (sent (now (a .bytes)) (a .bits)) _ (sym (c .before .before .before .check-transfer .ensures) ∙ c .before .refusal .given .1)))
 
 returns-2 : tie.Need-returns-2
 returns-2 c = numbered _ (c .before .before .deliver .ensures ∙ sym (takes (c .before .before .before .before .before .before .before) _ (c .before .before .before .before .before .group .given .1)))

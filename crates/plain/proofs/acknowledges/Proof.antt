@@ -5,7 +5,7 @@ use Rattle.plain.proofs.acknowledges.Statement.{statement}
 use Rattle.plain.proofs.acknowledges.Tie as tie
 
 returns : tie.Need-returns
-returns c = rw (c .before .hears .ensures, c .acknowledges .ensures)
+returns c = rw (c .before .before .hears .ensures, c .acknowledges .ensures)
 
 pub acknowledges-spec : {M : Type 1} → statement M
 acknowledges-spec = tie.close (tie.spec (λ c κs. search needs) (λ c κs. search needs) returns)

@@ -2,19 +2,22 @@
 -- Assumes nothing.
 use mathlib.Core.Path.{refl, sym, _∙_}
 use borrow.Author.Tests.{le-leb, lt-leb}
+use Rattle.sheet.specs.Checks.{checkSent}
 use borrow.Author.Needs.{needs}
 use Rattle.plain.proofs.check_chips.Statement.{statement}
 use Rattle.plain.proofs.check_chips.Tie as tie
 
 returns : tie.Need-returns
+unfolding checkSent
 returns c =
-    let first = c .before .before .before .before in
-    rw (le-leb _ _ (first .if1 .taken), sym (c .before .before .before .check-length .ensures) ∙ c .before .refusal .given .1) refl
+    let sent = c .before .before .before in
+    rw (le-leb _ _ (sent .before .if1 .taken), sym (sent .check-sent .ensures) ∙ c .before .refusal .given .1) refl
 
 returns-2 : tie.Need-returns-2
+unfolding checkSent
 returns-2 c =
-    let first = c .before .before .before .before in
-    rw (le-leb _ _ (first .if1 .taken), sym (c .before .before .before .check-length .ensures) ∙ c .before .enum-told .given .1) (c .check-bytes .ensures)
+    let sent = c .before .before .before .before in
+    rw (le-leb _ _ (sent .before .if1 .taken), sym (sent .check-sent .ensures) ∙ c .before .before .enum-told .given .1) (c .check-bytes .ensures)
 
 returns-3 : tie.Need-returns-3
 returns-3 c = rw (lt-leb _ _ (c .if1 .left)) refl

@@ -77,18 +77,18 @@ module _ {M : Type 1} (𝓤 : URA M) (H : Heap 𝓤) (A : Atoms 𝓤) (W : Given
           let here : Room ChipType.the-row (length cs) = subst (Room ChipType.the-row) (sym same) space in
           let who : Acknowledger = smallest (answers (t .heard)) cs in
           reslices ! refl refl tt (tt, tt) refl refl tt (tt, (tt, (record { fits = space .0 }, tt))) $
-          calls-showing ! 5 𝓣 AcknowledgerType.the-row acknowledger tt refl who (plain (λ _. BusByteType.the-row) ∷ []) (λ _. (heard, tt)) (λ _. (t .heard, tt)) (λ _. (is-t .1 .1 .0, tt)) ChipType.the-row cs b o here (length xs) (sym same)
+          calls-showing ! 5 𝓣 AcknowledgerType.the-row acknowledger tt refl who (plain (λ _. BusByteType.the-row) ∷ []) (λ _. (heard, tt)) (λ _. (t .heard, tt)) (λ _. (is-t .1 .1 .1 .0, tt)) ChipType.the-row cs b o here (length xs) (sym same)
           (smallest-of.clauses 𝓤 H A mem run) smallest-met (λ κ γ. tt) (λ κ γ. id⊢ 𝓤 (emp 𝓤)) (λ κ Δ. and-then ! (get ! refl) (and-then ! (field ! refl refl refl) (no-more !))) (λ κ γ r ws. id⊢ 𝓤 _) (λ is-who.
           reslices ! refl refl tt (tt, tt) refl refl tt (tt, (tt, (record { fits = space .0 }, tt))) $
-          calls-lending ! 10 𝓣 unit nothing tt refl tt (plain (λ _. BusByteType.the-row) ∷ []) (λ _. (heard, tt)) (λ _. (t .heard, tt)) (λ _. (is-t .1 .1 .0, tt)) ChipType.the-row cs b o here (length xs) (sym same) (λ r zs. zs ≡ map (taken (t .heard)) cs) (λ r zs e. refl)
+          calls-lending ! 10 𝓣 unit nothing tt refl tt (plain (λ _. BusByteType.the-row) ∷ []) (λ _. (heard, tt)) (λ _. (t .heard, tt)) (λ _. (is-t .1 .1 .1 .0, tt)) ChipType.the-row cs b o here (length xs) (sym same) (λ r zs. zs ≡ map (taken (t .heard)) cs) (λ r zs e. refl)
           (take-all.clauses 𝓤 H A mem run) take-all-met (λ κ γ. tt) (λ κ γ. id⊢ 𝓤 (emp 𝓤)) (λ κ Δ. and-then ! (get ! refl) (and-then ! (field ! refl refl refl) (no-more !))) (λ κ γ r ws. id⊢ 𝓤 _) (λ zs _ e _.
           rewrite ! 1 (λ (zs : List Chip). ‵ (row ChipType.the-row fullShare zs b o)) e refl $
           calls-passing ! 4 𝓣 TurnType.the-row turn tt refl (turnAfter bytes t who) (plain (λ _. TurnType.the-row) ∷ plain (λ _. AcknowledgerType.the-row) ∷ []) (λ _. (turn, (acknowledger, tt))) (λ _. (t, (who, tt)))
           (λ _. (p .1, (is-who, tt))) u8 bytes b₂ o₂ γ₂ κ₂ s₂ (‵ (row ChipType.the-row fullShare (map (taken (t .heard)) cs) b o)) last
           (next.clauses 𝓤 H A mem run) next-met tt (factI 𝓤 ((t .at < length bytes) × (t .tally .acknowledged ≤ t .at)) (emp 𝓤) (small, p .0 .ready .counted)) (λ Δ. and-then ! (get ! refl) (and-then ! (get ! refl) (and-then ! (get ! refl) (no-more !)))) (λ r ws. id⊢ 𝓤 _) (λ is-next.
           forgets ! 5 $ next-turn W 𝓣 loop ! x (turnAfter bytes t who, map (taken (t .heard)) cs) (omega arith) (turn-more xs bytes (a .0) t cs (p .0) small, is-next)))))
-          (λ off. sets ! (of-opd ! (field ! refl refl refl)) tt (tally .typed 𝓤 H A W (t .tally) (is-t .1 .0)) $ move ! (1 ∷ 3 ∷ []) $ shuts ChipType.the-row ! tt xs cs b o space (p .0 .same) $ move ! (1 ∷ []) $ leaves ! post refl refl tt $
-          ends (t .tally) cs (p .0 .same) (is-t .1 .0) (ended xs bytes (a .0) t cs (p .0) (nltb→le (t .at) (length bytes) off)))
+          (λ off. sets ! (of-opd ! (field ! refl refl refl)) tt (tally .typed 𝓤 H A W (t .tally) (is-t .1 .1 .0)) $ move ! (1 ∷ 3 ∷ []) $ shuts ChipType.the-row ! tt xs cs b o space (p .0 .same) $ move ! (1 ∷ []) $ leaves ! post refl refl tt $
+          ends (t .tally) cs (p .0 .same) (is-t .1 .1 .0) (ended xs bytes (a .0) t cs (p .0) (nltb→le (t .at) (length bytes) off)))
 
 pub follow-spec : {M : Type 1} → stated.statement M
 unfolding code.routine tablesOf

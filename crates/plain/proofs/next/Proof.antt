@@ -5,7 +5,7 @@ use Rattle.plain.proofs.next.Statement.{statement}
 use Rattle.plain.proofs.next.Tie as tie
 
 returns : tie.Need-returns
-returns c = rw (c .before .before .before .counted .ensures, c .before .before .last-after .ensures, c .before .follow .ensures, c .byte-at .ensures)
+returns c = rw (c .before .before .before .counted .ensures, c .before .before .last-heard .ensures, c .before .follow .ensures, c .byte-at .ensures)
 
 pub next-spec : {M : Type 1} → statement M
-next-spec = tie.close (tie.spec (λ c. search needs) (λ c κs. search needs) (λ c κs. search needs) (λ c κs. search needs) (λ c κs. search needs) returns)
+next-spec = tie.close (tie.spec (λ c. search needs) (λ c κs. search needs) (λ c κs. search needs) (λ c κs. search needs) (λ c κs. search needs) (λ c. search needs) returns)

@@ -5,7 +5,7 @@ use Rattle.plain.proofs.turn_at.Statement.{statement}
 use Rattle.plain.proofs.turn_at.Tie as tie
 
 returns : tie.Need-returns
-returns c = rw (c .before .byte-at .ensures, c .byte-at2 .ensures)
+returns c = rw (c .before .address-byte .ensures, c .byte-at .ensures)
 
 pub turn-at-spec : {M : Type 1} → statement M
-turn-at-spec = tie.close (tie.spec (λ c κs. search needs) (λ c κs. search needs) returns)
+turn-at-spec = tie.close (tie.spec (λ c κs. search needs) (λ c κs. search needs) (λ c. search needs) returns)

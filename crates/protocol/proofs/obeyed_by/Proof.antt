@@ -1,8 +1,12 @@
 -- `protocol::obeyed_by` meets its contract: both kinds of byte after a control byte are commands.
 -- Assumes nothing.
+use mathlib.Core.Path.{refl}
 use borrow.Author.Needs.{needs}
 use Rattle.protocol.proofs.obeyed_by.Statement.{statement}
 use Rattle.protocol.proofs.obeyed_by.Tie as tie
+
+returns : tie.Need-returns
+returns c = rw (c .enum-told .given .1) refl
 
 returns-2 : tie.Need-returns-2
 returns-2 c = rw (c .before .enum-told2 .given .1) (c .obey .ensures)
@@ -19,6 +23,6 @@ obeyed-by-spec =
     (λ c κs. search needs)
     (λ c. search needs)
     (λ c κs. search needs)
-    (λ c. search needs)
+    returns
     returns-2
     returns-3)

@@ -1,12 +1,11 @@
 -- `refused::check_transfer` meets its contract.
 -- Assumes nothing.
 use mathlib.Core.Path.{refl, sym, _∙_}
-use lib.ListN.{length, getD}
 use denote.Ref.{now}
 use Rattle.sheet.specs.declared.Check.{Check}
 use Rattle.sheet.specs.Parts.{partOf}
-use Rattle.sheet.specs.Protocol.{heardBy}
-use Rattle.sheet.specs.Checks.{orElse, checkPart, checkLength, checkBytes, checkState, checkTransfer}
+use Rattle.sheet.specs.Protocol.{heardBy, sent, addressByte}
+use Rattle.sheet.specs.Checks.{orElse, checkPart, checkSent, checkBytes, checkState, checkTransfer}
 use Rattle.laws.proofs.First.{then-refused, then-passed}
 use borrow.Author.Needs.{needs}
 use Rattle.refused.proofs.check_transfer.Statement.{statement}
@@ -17,7 +16,7 @@ abbrev state : (c : tie.Start) → Check
 state c = checkState (partOf (c .args .part)) (c .args .chips) (c .args .registers) (now (c .args .ram))
 
 abbrev rest : (c : tie.Start) → Check
-rest c = orElse (checkLength (length (now (c .args .bytes)))) (checkBytes (partOf (c .args .part)) (heardBy (c .args .chips) (getD (now (c .args .bytes)) 0 0)) (now (c .args .bytes)))
+rest c = let t = sent (now (c .args .bytes)) (c .args .bits) in orElse (checkSent t) (checkBytes (partOf (c .args .part)) (c .args .registers) (heardBy (c .args .chips) (addressByte t)) t)
 
 returns : tie.Need-returns
 unfolding checkTransfer
@@ -25,18 +24,18 @@ returns c = let s = c .before .before .before .before .before .before in
     then-refused (checkPart (s .args .part)) (state s) (rest s) _ (sym (c .before .before .before .check-state .ensures) ∙ c .before .refusal .given .1)
 
 returns-2 : tie.Need-returns-2
-unfolding checkTransfer
+unfolding checkTransfer checkSent
 returns-2 c =
     let passed = c .before .before .before .before in
     let s = passed .before .before .before .before .before in
-    then-passed (checkPart (s .args .part)) (state s) (rest s) _ (sym (passed .before .before .check-state .ensures) ∙ passed .enum-told .given .1) (rw (sym (c .before .before .before .check-length .ensures) ∙ c .before .refusal2 .given .1) refl)
+    then-passed (checkPart (s .args .part)) (state s) (rest s) _ (sym (passed .before .before .check-state .ensures) ∙ passed .enum-told .given .1) (rw (sym (c .before .before .before .check-sent .ensures) ∙ c .before .refusal2 .given .1) refl)
 
 returns-3 : tie.Need-returns-3
-unfolding checkTransfer
+unfolding checkTransfer checkSent
 returns-3 c =
     let passed = c .before .before .before .before in
     let s = passed .before .before .before .before .before in
-    then-passed (checkPart (s .args .part)) (state s) (rest s) _ (sym (passed .before .before .check-state .ensures) ∙ passed .enum-told .given .1) (rw (sym (c .before .before .before .check-length .ensures) ∙ c .before .enum-told2 .given .1) (c .check-bytes .ensures))
+    then-passed (checkPart (s .args .part)) (state s) (rest s) _ (sym (passed .before .before .check-state .ensures) ∙ passed .enum-told .given .1) (rw (sym (c .before .before .before .check-sent .ensures) ∙ c .before .enum-told2 .given .1) (c .check-bytes .ensures))
 
 pub check-transfer-spec : {M : Type 1} → statement M
 check-transfer-spec = tie.close (tie.spec (λ c κs. search needs) (λ c. search needs) (λ c. search needs) (λ c κs. search needs) (λ c. search needs) (λ c. search needs) (λ c κs. search needs) returns returns-2 returns-3)

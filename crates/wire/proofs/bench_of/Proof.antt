@@ -15,15 +15,15 @@ use Rattle.wire.proofs.bench_of.Statement.{statement}
 use Rattle.wire.proofs.bench_of.Tie as tie
 
 -- where the next chip begins
-next-chip : (i : ℕ) → 171 + 171 * i ≡ 171 * suc i
+next-chip : (i : ℕ) → 174 + 174 * i ≡ 174 * suc i
 next-chip i = omega arith
 
 -- a chip more
-list-one : (i : ℕ) (l : List ℕ) → listIn (suc i) l ≡ listIn i l ++ (chipIn (take 171 (drop (171 * i) l)) ∷ [])
+list-one : (i : ℕ) (l : List ℕ) → listIn (suc i) l ≡ listIn i l ++ (chipIn (take 174 (drop (174 * i) l)) ∷ [])
 unfolding listIn
 list-one zero l = refl
 list-one (suc i) l =
-    ap (λ (cs : List Chip). chipIn (take 171 l) ∷ cs) (list-one i (drop 171 l) ∙ ap (λ (r : List ℕ). listIn i (drop 171 l) ++ (chipIn (take 171 r) ∷ [])) (drop-drop (171 * i) 171 l ∙ ap (λ (k : ℕ). drop k l) (next-chip i)))
+    ap (λ (cs : List Chip). chipIn (take 174 l) ∷ cs) (list-one i (drop 174 l) ∙ ap (λ (r : List ℕ). listIn i (drop 174 l) ++ (chipIn (take 174 r) ∷ [])) (drop-drop (174 * i) 174 l ∙ ap (λ (k : ℕ). drop k l) (next-chip i)))
 
 -- the first i chips are read
 record Filled (bytes : List ℕ) (count : ℕ) (chips : List Chip) (i : ℕ) : Type 0 where
@@ -31,7 +31,7 @@ record Filled (bytes : List ℕ) (count : ℕ) (chips : List Chip) (i : ℕ) : T
   so-far : take i chips ≡ listIn i bytes
   most : i ≤ count
 
-turn : (bytes : List ℕ) (count : ℕ) (chips : List Chip) (i : ℕ) (chip : Chip) → chip ≡ chipIn (take 171 (drop (171 * i) bytes)) → count ≤ 16 → i < count → Filled bytes count chips i
+turn : (bytes : List ℕ) (count : ℕ) (chips : List Chip) (i : ℕ) (chip : Chip) → chip ≡ chipIn (take 174 (drop (174 * i) bytes)) → count ≤ 16 → i < count → Filled bytes count chips i
     → Filled bytes count (set chips i chip) (i + 1)
 turn bytes count chips i chip e few h s =
     record {
@@ -53,7 +53,7 @@ loop-holds c = record { size = refl; so-far = refl; most = omega arith }
 loop-again : tie.Need-loop-again Inv-loop μ-loop
 loop-again c = let p = c .before .before .before in
     let start = p .before .before .before .before in
-    let part = rw (add-sub-cancel-left (171 * p .loop .i) 171) at (c .chip-of2 .ensures) in
+    let part = rw (add-sub-cancel-left (174 * p .loop .i) 174) at (c .chip-of2 .ensures) in
     turn (start .args .bytes .now) (start .args .count) (p .loop .chips) (p .loop .i) (c .chip-of2 .result) part (start .pre .1) (c .before .before .loop-test .taken) (p .loop .inv)
 
 returns : tie.Need-returns Inv-loop μ-loop
@@ -68,7 +68,7 @@ bench-of-spec =
     (tie.spec
     Inv-loop
     μ-loop
-    (λ c. zeros 171)
+    (λ c. zeros 174)
     (λ c κs. refl)
     loop-holds
     (λ c. omega arith)

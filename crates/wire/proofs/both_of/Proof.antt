@@ -12,7 +12,7 @@ use Rattle.wire.proofs.both_of.Tie as tie
 
 returns : tie.Need-returns
 returns c = let bytes = now (c .before .before .before .before .before .args .bytes) in
-    let one = c .registers-of2 .ensures ∙ ap registersIn (part-rest bytes 9) in
+    let one = c .registers-of2 .ensures ∙ ap registersIn (part-rest bytes 12) in
     λ j. record { zero = c .before .before .registers-of .ensures j; one = one j }
 
 pub both-of-spec : {M : Type 1} → statement M

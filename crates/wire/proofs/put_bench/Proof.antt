@@ -15,8 +15,8 @@ use Rattle.wire.proofs.put_bench.Tie as tie
 
 -- the first i chips are written
 record Put (chips : List Chip) (count : ℕ) (out : List ℕ) (i : ℕ) : Type 0 where
-  size : length out ≡ 171 * count
-  so-far : take (171 * i) out ≡ listBytes (take i chips)
+  size : length out ≡ 174 * count
+  so-far : take (174 * i) out ≡ listBytes (take i chips)
   most : i ≤ count
 
 -- a chip more
@@ -25,17 +25,17 @@ unfolding listBytes
 bytes-one [] c = append-nil (chipBytes c)
 bytes-one (x ∷ xs) c = ap (λ (l : List ℕ). chipBytes x ++ l) (bytes-one xs c) ∙ sym (append-assoc (chipBytes x) (listBytes xs) (chipBytes c))
 
-turn : (chips : List Chip) (count : ℕ) (out new : List ℕ) (i : ℕ) (d : Chip) → new ≡ chipBytes (getD chips i d) → length new ≡ 171 → i < count → count ≤ length chips → Put chips count out i
-    → Put chips count (take (171 * i) out ++ (new ++ drop 171 (drop (171 * i) out))) (i + 1)
+turn : (chips : List Chip) (count : ℕ) (out new : List ℕ) (i : ℕ) (d : Chip) → new ≡ chipBytes (getD chips i d) → length new ≡ 174 → i < count → count ≤ length chips → Put chips count out i
+    → Put chips count (take (174 * i) out ++ (new ++ drop 174 (drop (174 * i) out))) (i + 1)
 turn chips count out new i d e len h few s =
-    let head : length (take (171 * i) out) ≡ 171 * i = length-take-le (171 * i) out (omega (arith, s .size)) in
-    let rest = drop 171 (drop (171 * i) out) in
-    let front : length (take (171 * i) out ++ new) ≡ 171 * (i + 1) = omega (arith, length-append (take (171 * i) out) new) in
-    let joined = sym (append-assoc (take (171 * i) out) new rest) in
+    let head : length (take (174 * i) out) ≡ 174 * i = length-take-le (174 * i) out (omega (arith, s .size)) in
+    let rest = drop 174 (drop (174 * i) out) in
+    let front : length (take (174 * i) out ++ new) ≡ 174 * (i + 1) = omega (arith, length-append (take (174 * i) out) new) in
+    let joined = sym (append-assoc (take (174 * i) out) new rest) in
     record {
-      size = ap length joined ∙ omega (arith, length-append (take (171 * i) out ++ new) rest, length-drop 171 (drop (171 * i) out), length-drop (171 * i) out, s .size);
+      size = ap length joined ∙ omega (arith, length-append (take (174 * i) out ++ new) rest, length-drop 174 (drop (174 * i) out), length-drop (174 * i) out, s .size);
       so-far =
-          ap (take (171 * (i + 1))) joined ∙ take-at (take (171 * i) out ++ new) rest (171 * (i + 1)) front
+          ap (take (174 * (i + 1))) joined ∙ take-at (take (174 * i) out ++ new) rest (174 * (i + 1)) front
           ∙ rw (add-one i, take-suc chips i d (omega arith), bytes-one (take i chips) (getD chips i d), s .so-far, e);
       most = omega arith;
     }
@@ -58,9 +58,9 @@ loop-again c = let put = c .before .before in
     let p = put .before .before .before .before in
     let start = p .before .before .before in
     let bench = start .args .bench in
-    let part = take (171 * p .loop .i + 171 - 171 * p .loop .i) (drop (171 * p .loop .i) (p .loop .out)) in
-    let whole : length part ≡ 171 = put-chip-requires (put .before) (put .put-chip .lifetimes) in
-    rw (add-sub-cancel-left (171 * p .loop .i) 171) (turn (bench .chips) (bench .count) (p .loop .out) (put .put-chip .last .1 .0) (p .loop .i) _ (put .put-chip .ensures) (c .before .out .given .0 ∙ whole) (omega arith) (omega arith) (p .loop .inv))
+    let part = take (174 * p .loop .i + 174 - 174 * p .loop .i) (drop (174 * p .loop .i) (p .loop .out)) in
+    let whole : length part ≡ 174 = put-chip-requires (put .before) (put .put-chip .lifetimes) in
+    rw (add-sub-cancel-left (174 * p .loop .i) 174) (turn (bench .chips) (bench .count) (p .loop .out) (put .put-chip .last .1 .0) (p .loop .i) _ (put .put-chip .ensures) (c .before .out .given .0 ∙ whole) (omega arith) (omega arith) (p .loop .inv))
 
 same-length : tie.Need-same-length Inv-loop μ-loop
 same-length c = c .before .loop .inv .size ∙ sym (c .before .before .before .before .pre .0)
@@ -69,7 +69,7 @@ returns : tie.Need-returns Inv-loop μ-loop
 returns c = let p = c .before .loop in
     let bench = c .before .before .before .before .args .bench in
     let e : p .i ≡ bench .count = omega (arith, p .inv .most) in
-    sym (take-all (171 * p .i) (p .out) (omega (arith, p .inv .size))) ∙ p .inv .so-far ∙ ap (λ (k : ℕ). listBytes (take k (bench .chips))) e
+    sym (take-all (174 * p .i) (p .out) (omega (arith, p .inv .size))) ∙ p .inv .so-far ∙ ap (λ (k : ℕ). listBytes (take k (bench .chips))) e
 
 pub put-bench-spec : {M : Type 1} → statement M
 put-bench-spec =

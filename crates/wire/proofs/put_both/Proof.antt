@@ -1,4 +1,4 @@
--- `wire::put_both` meets its contract: the first nine bytes, then the others.
+-- `wire::put_both` meets its contract: the first twelve bytes, then the others.
 -- Assumes nothing.
 use mathlib.Core.Path.{ap, ap₂, _∙_}
 use mathlib.Core.List.{List, _++_}
@@ -15,7 +15,7 @@ returns : tie.Need-returns
 returns c = let one = c .before .before in
     let zero = one .before .before .before .before in
     let start = zero .before .before .before .before .before in
-    after-first (zero .put-registers .last .1 .0) (drop 9 (now (start .args .out))) (one .put-registers2 .last .1 .0) 9 (ap length (zero .put-registers .ensures))
+    after-first (zero .put-registers .last .1 .0) (drop 12 (now (start .args .out))) (one .put-registers2 .last .1 .0) 12 (ap length (zero .put-registers .ensures))
     ∙ ap₂ (λ (x y : List ℕ). x ++ y) (zero .put-registers .ensures) (one .put-registers2 .ensures)
 
 pub put-both-spec : {M : Type 1} → statement M

@@ -1,5 +1,6 @@
--- `wire::put_registers` meets its contract: nine bytes are set whole.
+-- `wire::put_registers` meets its contract: twelve bytes are set whole.
 -- Assumes nothing.
+use mathlib.Core.Path.{refl}
 use native.Mathlib.Omega.{arith}
 use lib.ListN.{length-set}
 use denote.Ref.{now}
@@ -10,7 +11,7 @@ use Rattle.wire.proofs.put_registers.Statement.{statement}
 use Rattle.wire.proofs.put_registers.Tie as tie
 
 returns : tie.Need-returns
-returns c = let start = c .before .before in filled (bytesOf (start .args .registers)) (now (start .args .out)) (start .pre)
+returns c = let start = c .before .before .before in filled (bytesOf (start .args .registers)) (now (start .args .out)) (start .pre)
 
 pub put-registers-spec : {M : Type 1} → statement M
 put-registers-spec =
@@ -27,5 +28,8 @@ put-registers-spec =
     (λ c. simp length-set (omega arith))
     (λ c. simp length-set (omega arith))
     (λ c. simp length-set (omega arith))
-    (λ c. search needs)
+    (λ c. simp length-set (omega arith))
+    (λ c. simp length-set (omega arith))
+    (λ c. simp length-set (omega arith))
+    (λ c. simp length-set refl)
     returns)
