@@ -295,6 +295,29 @@ pub fn bits(random: &mut Random) -> u8 {
     }
 }
 
+/// Makes a transfer that calls either group call this one; what nobody hears stays.
+pub fn call_group(bytes: &mut [u8], group: usize) {
+    if let Some(address @ (0x70 | 0x72)) = bytes.first_mut() {
+        *address = [0x70, 0x72][group];
+    }
+}
+
+/// Which of two sequences of these lengths goes on at each step of a merge that keeps the order of both: any merge, one by one and long runs more often than others.
+pub fn merge(random: &mut Random, lengths: [usize; 2]) -> Vec<usize> {
+    let (mut left, mut order) = (lengths, Vec::new());
+    let (mut next, rarity) = (random.below(2), random.between(1, 6));
+    while left != [0, 0] {
+        if left[next] == 0 || random.one_in(rarity) {
+            next = 1 - next;
+        }
+        if left[next] > 0 {
+            left[next] -= 1;
+            order.push(next);
+        }
+    }
+    order
+}
+
 /// A transfer of just the given length, mostly one long data run.
 pub fn transfer_of_length(random: &mut Random, length: usize) -> Vec<u8> {
     let mut bytes = vec![address(random), 0x80, 0xC8 | random.below(4) as u8, 0x40];
@@ -313,7 +336,7 @@ pub fn long_transfer(random: &mut Random) -> Vec<u8> {
 // ---- Logs ------------------------------------------------------------------
 
 /// A log of given version, chips and record bodies.
-fn log_of_bodies(version: u8, [chips0, chips1]: [u8; 2], bodies: &[Vec<u8>]) -> Vec<u8> {
+pub fn log_of_bodies(version: u8, [chips0, chips1]: [u8; 2], bodies: &[Vec<u8>]) -> Vec<u8> {
     let mut log = vec![version, chips0, chips1];
     for body in bodies {
         log.extend((body.len() as u16).to_be_bytes());
@@ -381,6 +404,24 @@ fn traffic(make: fn(&mut Random, Part) -> Vec<u8>, random: &mut Random) -> Traff
     };
     let transfers = (0..count).map(|_| make(random, LOG_PART)).collect();
     Traffic { chips, transfers }
+}
+
+/// A log of either version that two loggers took, one for each group: version, chips, and the bodies of each one's records.
+pub fn bodies_by_group(random: &mut Random) -> (u8, [u8; 2], [Vec<Vec<u8>>; 2]) {
+    let version = random.between(1, 2) as u8;
+    let mut traffics = [(); 2].map(|()| traffic(transfer, random));
+    let chips = traffics[0].chips;
+    let bodies = [0, 1].map(|group| {
+        let traffic = &mut traffics[group];
+        traffic.chips = chips;
+        let calls = traffic.transfers.iter_mut();
+        calls.for_each(|bytes| call_group(bytes, group));
+        match version {
+            1 => traffic.transfers.clone(),
+            _ => traffic.seen_bodies(random),
+        }
+    });
+    (version, chips, bodies)
 }
 
 /// Transfers of which one is near the limit of length.

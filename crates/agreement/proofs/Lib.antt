@@ -13,3 +13,4 @@ pub mod Sequence
 pub mod Show
 pub mod Demand
 pub mod Power
+pub mod Either

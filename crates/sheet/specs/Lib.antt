@@ -16,6 +16,7 @@ pub mod Plain
 pub mod Agree
 pub mod Lands
 pub mod Cuts
+pub mod Either
 pub mod Pointing
 pub mod Starred
 pub mod Smaller
@@ -27,3 +28,4 @@ pub mod Landing
 pub mod Orders
 pub mod Worked
 pub mod Rescuing
+pub mod Merging

@@ -65,7 +65,7 @@ fn expect_list_cuts(part: u8, chips: &[u8], bytes: &[u8], place: usize) {
 /// Every cut of a generated transfer.
 #[test]
 fn cut_everywhere() {
-    for_seeds(400, |random| {
+    for_seeds(130, |random| {
         let mut case = fault::good_case(random);
         let part = case.part;
         let mut chips = plain::list(random, part);
@@ -99,7 +99,7 @@ fn cut_anywhere() {
 /// Transfers one after another, cut ones among them: what the bus holds is what its chips hold one by one.
 #[test]
 fn cut_sequences() {
-    for_seeds(1500, |random| {
+    for_seeds(500, |random| {
         let mut case = fault::good_case(random);
         case.compare(Call::PowerOn);
         for _ in 0..40 {

@@ -11,6 +11,7 @@ mod cut;
 mod fault;
 mod last_chip;
 mod library;
+mod merge;
 mod orders;
 mod part;
 mod plain;
@@ -69,10 +70,16 @@ fn sequences() {
 
 fn compare_pictures(case: &Case) {
     for shown in [[0, 0], [0, 1], [1, 0], [1, 1]] {
-        let mut case = case.clone();
-        case.show(shown);
-        assert_eq!(case.compare(Call::Picture), refusal_of(case.part));
+        compare_picture(case, shown);
     }
+}
+
+/// The picture of a group at a phase, and its answer.
+fn compare_picture(case: &Case, shown: [u8; 2]) -> (Vec<u8>, Vec<usize>) {
+    let mut case = case.clone();
+    case.show(shown);
+    assert_eq!(case.compare(Call::Picture), refusal_of(case.part));
+    (case.out, case.answer)
 }
 
 /// A case of `chips` in one group, the other having one chip, with RAM of a pattern that differs from chip to chip.

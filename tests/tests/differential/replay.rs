@@ -8,6 +8,11 @@ use humtrellis_tests::random::Random;
 
 /// Replays a log into a buffer with room enough and holds the text to the model's; the rest of the buffer stays.
 pub fn compare(log: &[u8]) {
+    text(log);
+}
+
+/// The same, and gives the text.
+pub fn text(log: &[u8]) -> String {
     let mut out = vec![0xEE; text_room() + 1];
     let mut lent = log.to_vec();
     let length = library::replay(&mut lent, &mut out);
@@ -19,6 +24,8 @@ pub fn compare(log: &[u8]) {
         "replay differs\n log {log:?}\n model\n{}",
         String::from_utf8_lossy(&expected)
     );
+    out.truncate(length);
+    String::from_utf8(out).expect("text")
 }
 
 /// A log, and what is left of it when it is torn at each offset.
