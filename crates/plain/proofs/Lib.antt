@@ -1,7 +1,6 @@
 pub mod Searching
 pub mod Agreeing
 pub mod Lowering
-pub mod Marking
 pub mod Following
 pub mod Shapes
 pub mod Starting

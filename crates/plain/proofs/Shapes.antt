@@ -6,8 +6,6 @@ use Rattle.sheet.specs.Registers.{powerOn}
 use Rattle.walks.proofs.Data.{Data, struct, enum}
 use Rattle.sheet.proofs.Chip as ChipType
 use Rattle.sheet.proofs.Chip.Laws as ChipLaws
-use Rattle.sheet.proofs.Marks as MarksType
-use Rattle.sheet.proofs.Marks.Laws as MarksLaws
 use Rattle.sheet.proofs.Check as CheckType
 use Rattle.sheet.proofs.Check.Laws as CheckLaws
 use Rattle.sheet.proofs.Acknowledger as AcknowledgerType
@@ -45,9 +43,6 @@ question = enum QuestionType.the-type QuestionLaws.the-laws QuestionLaws.the-pla
 
 abbrev pub acknowledger : Data AcknowledgerType.the-row
 acknowledger = enum AcknowledgerType.the-type AcknowledgerLaws.the-laws AcknowledgerLaws.the-plain AcknowledgerLaws.the-copy tt
-
-abbrev pub marks : Data MarksType.the-row
-marks = struct MarksType.the-type MarksLaws.the-laws MarksLaws.the-plain MarksLaws.the-copy
 
 abbrev pub tally : Data TallyType.the-row
 tally = struct TallyType.the-type TallyLaws.the-laws TallyLaws.the-plain TallyLaws.the-copy

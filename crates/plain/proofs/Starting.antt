@@ -25,10 +25,10 @@ use Rattle.laws.proofs.Fits.{both-pass, sent-passed, all-in}
 use Rattle.laws.proofs.First.{or-else, plain-first}
 use Rattle.plain.specs.declared.Found.{Found}
 use Rattle.plain.specs.declared.Start.{Start}
-use Rattle.plain.specs.declared.Question.the-variants.{Misfit, Hears}
+use Rattle.plain.specs.declared.Question.the-variants.{Misfit, Hears, HighUnknown, LowUnknown, DeviceUnknown}
 use Rattle.plain.specs.Asking.{yes, firstYes}
 use Rattle.plain.specs.Turns.{tallyOf, plainLeft, followed, Ready}
-use Rattle.plain.specs.Starts.{checkOf, turnAt, firstTurn, startOf, answerOf}
+use Rattle.plain.specs.Starts.{marksOf, checkOf, turnAt, firstTurn, startOf, answerOf}
 use Rattle.plain.proofs.Searching.{any-first}
 use Rattle.plain.proofs.Lefts.{left-is}
 
@@ -69,8 +69,25 @@ module _ (part : ℕ) (cs : List Chip) (t : Sent) where
   abbrev pub hearer-at : ℕ
   hearer-at = firstYes (yes (Hears (addressByte t))) cs
 
+  abbrev pub high-at : ℕ
+  high-at = firstYes (yes (HighUnknown (addressByte t))) cs
+
+  abbrev pub low-at : ℕ
+  low-at = firstYes (yes (LowUnknown (addressByte t))) cs
+
+  abbrev pub device-at : ℕ
+  device-at = firstYes (yes (DeviceUnknown (addressByte t))) cs
+
   abbrev pub found : Found
-  found = record { count = length cs; misfit = misfit-at; hearer = hearer-at; marks = marksIn (addressByte t) cs }
+  found = record { count = length cs; misfit = misfit-at; hearer = hearer-at; high = high-at; low = low-at; device = device-at }
+
+  -- the marks of those that hear
+  marks-found : marksOf found ≡ marksIn (addressByte t) cs
+  marks-found = λ j. record {
+    high = cond (sym (any-first (yes (HighUnknown (addressByte t))) cs) j) 1 0;
+    low = cond (sym (any-first (yes (LowUnknown (addressByte t))) cs) j) 1 0;
+    device = cond (sym (any-first (yes (DeviceUnknown (addressByte t))) cs) j) 1 0;
+  }
 
   abbrev pub begun : Start
   begun = startOf part t found
@@ -87,7 +104,7 @@ module _ (part : ℕ) (cs : List Chip) (t : Sent) where
   unfolding checkPlain
   checked =
       sym (or-else (checkPart part) (unless (leb (length cs) (2 * partOf part .limit)) ManyChips) _)
-      ∙ (λ j. orElse (checkPart part) (orElse (unless (leb (length cs) (2 * partOf part .limit)) ManyChips) (orElse (fields j) (orElse (checkSent t) (cond (sym (any-first (hears (addressByte t)) cs) j) (faultOfSent (partOf part) (marksIn (addressByte t) cs) t) Passed)))))
+      ∙ (λ j. orElse (checkPart part) (orElse (unless (leb (length cs) (2 * partOf part .limit)) ManyChips) (orElse (fields j) (orElse (checkSent t) (cond (sym (any-first (hears (addressByte t)) cs) j) (faultOfSent (partOf part) (marks-found j) t) Passed)))))
     where
       fields : unless (leb (length cs) misfit-at) (ChipField misfit-at) ≡ misfitIn (partOf part) 0 cs
       fields = let at : misfit-at ≡ 0 + misfit-at = omega arith in ap (λ (m : ℕ). unless (leb (length cs) misfit-at) (ChipField m)) at ∙ sym (misfit part 0 cs)

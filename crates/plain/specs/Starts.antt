@@ -1,9 +1,10 @@
--- How a transfer to a list of chips of a part begins and what is answered, from what the list was found to hold: the count of the chips, the places of the first that does not fit
--- and the first that hears (each the count if there is none), and the marks of those that hear.
+-- How a transfer to a list of chips of a part begins and what is answered, from what the list was found to hold: the count of the chips, and the places of the first that does not fit,
+-- the first that hears, and the first that hears and has each mark unknown (each the count if there is none).
 use Prim.Native.Nat.{ℕ, _+_, _*_}
 use mathlib.Core.Bool.{Bool, cond, _&&_}
 use lib.Dec.{ltb, leb}
 use lib.ListN.{length, getD}
+use Rattle.sheet.specs.declared.Marks.{Marks}
 use Rattle.sheet.specs.declared.Expect.the-variants.{Control}
 use Rattle.sheet.specs.declared.Refusal.the-variants.{ManyChips, ChipField}
 use Rattle.sheet.specs.declared.Acknowledger.{Acknowledger}
@@ -18,6 +19,13 @@ use Rattle.plain.specs.declared.Turn.{Turn}
 use Rattle.plain.specs.declared.Found.{Found}
 use Rattle.plain.specs.declared.Start.{Start}
 
+-- a mark is unknown if some chip that hears has it so
+abbrev pub markAt : ℕ → ℕ → ℕ
+markAt place count = cond (ltb place count) 1 0
+
+abbrev pub marksOf : Found → Marks
+marksOf f = record { high = markAt (f .high) (f .count); low = markAt (f .low) (f .count); device = markAt (f .device) (f .count) }
+
 -- 16, 10
 abbrev pub checkBench : ℕ → ℕ → Check
 checkBench part count = orElse (checkPart part) (unless (leb count (2 * partOf part .limit)) ManyChips)
@@ -27,7 +35,7 @@ abbrev pub checkList : ℕ → Sent → Found → Check
 checkList part t f =
     orElse (unless (leb (f .count) (f .misfit)) (ChipField (f .misfit)))
     (orElse (checkSent t)
-    (cond (ltb (f .hearer) (f .count)) (faultOfSent (partOf part) (f .marks) t) Passed))
+    (cond (ltb (f .hearer) (f .count)) (faultOfSent (partOf part) (marksOf f) t) Passed))
 
 abbrev pub checkOf : ℕ → Sent → Found → Check
 checkOf part t f = orElse (checkBench part (f .count)) (checkList part t f)

@@ -17,10 +17,10 @@ ghost use Rattle.sheet.specs.Refusals.{plainNumbers};
 ghost use Rattle.sheet.specs.Parts.{partOf};
 ghost use Rattle.sheet.specs.Protocol.{sent, addressByte};
 ghost use Rattle.sheet.specs.Checks.{faultOfSent};
-ghost use Rattle.sheet.specs.Plain.{lower, smallest, once, lastOf, lastAfter, marksIn, plainPart};
-ghost use Rattle.plain.specs.Asking.{yes, answers, taken, firstYes, withMark, withChip};
+ghost use Rattle.sheet.specs.Plain.{lower, smallest, once, lastOf, lastAfter, plainPart};
+ghost use Rattle.plain.specs.Asking.{yes, answers, taken, firstYes};
 ghost use Rattle.plain.specs.Turns.{lastHeard, turnAfter, followed, tallyOf, Ready};
-ghost use Rattle.plain.specs.Starts.{checkBench, checkList, checkOf, turnAt, startOf, answerOf};
+ghost use Rattle.plain.specs.Starts.{markAt, marksOf, checkBench, checkList, checkOf, turnAt, startOf, answerOf};
 ghost use Rattle.plain.specs.Benches.{tooMany, firstTransferred, benchTransferred};
 
 // ---- one chip, by value
@@ -34,18 +34,25 @@ struct BusByte {
     cut: bool,
 }
 
-// What a chip is asked: whether it is no chip of a part, or hears an address.
+// What a chip is asked: whether it is no chip of a part, or hears an address, or hears it and has a mark that is unknown.
 enum Question {
     Misfit(u8),
     Hears(u8),
+    HighUnknown(u8),
+    LowUnknown(u8),
+    DeviceUnknown(u8),
 }
 
 fn says_yes(chip: Chip, question: Question) -> bool
     ensures { λ r. ⌜ r ≡ yes question chip ⌝ }
 {
+    let marks = chip::marks(chip);
     match question {
         Question::Misfit(part) => !chip::fits(part, chip),
         Question::Hears(address) => chip::hears(chip, address),
+        Question::HighUnknown(address) => chip::hears(chip, address) & (marks.high == 1),
+        Question::LowUnknown(address) => chip::hears(chip, address) & (marks.low == 1),
+        Question::DeviceUnknown(address) => chip::hears(chip, address) & (marks.device == 1),
     }
 }
 
@@ -98,26 +105,6 @@ fn take(chip: Chip, heard: BusByte) -> Chip
     }
 }
 
-// A mark that is unknown if a chip that hears has it so, or else one of the others.
-fn with_mark(hears: bool, mark: u8, others: u8) -> u8
-    ensures { λ r. ⌜ r ≡ withMark hears mark others ⌝ }
-{
-    if hears & (mark == 1) { 1 } else { others }
-}
-
-// The marks of this chip, if it hears, and the others.
-fn with_marks(chip: Chip, address: u8, others: Marks) -> Marks
-    ensures { λ r. ⌜ r ≡ withChip address chip others ⌝ }
-{
-    let hears = chip::hears(chip, address);
-    let own = chip::marks(chip);
-    Marks {
-        high: with_mark(hears, own.high, others.high),
-        low: with_mark(hears, own.low, others.low),
-        device: with_mark(hears, own.device, others.device),
-    }
-}
-
 // ---- the list
 
 // The place of the first chip that says yes, or the count.
@@ -145,23 +132,6 @@ fn smallest(chips: &[Chip], heard: BusByte) -> Acknowledger
         who = with_chip(chips[i], heard, who);
     }
     who
-}
-
-// Which marks are unknown at some chip that hears.
-fn unknown(chips: &[Chip], address: u8) -> Marks
-    ensures { λ r. ⌜ r ≡ marksIn address (now (chips .entry)) ⌝ }
-{
-    let mut marks = Marks {
-        high: 0,
-        low: 0,
-        device: 0,
-    };
-    let mut i = chips.len();
-    while 0 < i {
-        i -= 1;
-        marks = with_marks(chips[i], address, marks);
-    }
-    marks
 }
 
 // Every chip takes the byte.
@@ -306,19 +276,39 @@ fn check_bench(part: u8, count: usize) -> Check
     }
 }
 
-// What the list was found to hold: how many chips, where the first misfit and the first that hears stand, or else the count, and the marks of those that hear.
+// What the list was found to hold: how many chips, and where the first misfit, the first that hears, and the first that hears and has each mark unknown stand, or else the count.
 struct Found {
     count: usize,
     misfit: usize,
     hearer: usize,
-    marks: Marks,
+    high: usize,
+    low: usize,
+    device: usize,
+}
+
+// A mark, by where the first chip that has it unknown stands.
+fn mark_at(place: usize, count: usize) -> u8
+    ensures { λ r. ⌜ r ≡ markAt place count ⌝ }
+{
+    if place < count { 1 } else { 0 }
+}
+
+// The marks of the chips that hear.
+fn marks_of(found: Found) -> Marks
+    ensures { λ r. ⌜ r ≡ marksOf found ⌝ }
+{
+    Marks {
+        high: mark_at(found.high, found.count),
+        low: mark_at(found.low, found.count),
+        device: mark_at(found.device, found.count),
+    }
 }
 
 // 11, 1, 2, 19, then 7, 17 and 18.
 fn check_chips(part: u8, bytes: &[u8], bits: u8, found: Found) -> Check
     ensures { λ r. ⌜ r ≡ checkList part (sent (now (bytes .entry)) bits) found ⌝ }
 {
-    let marks = found.marks;
+    let marks = marks_of(found);
     if found.count <= found.misfit {
         match checks::check_sent(bytes.len(), bits) {
             Check::Refused(refusal) => Check::Refused(refusal),
@@ -403,13 +393,17 @@ pub fn transfer(chips: &mut [Chip], bytes: &[u8], part: u8, bits: u8) -> PlainAn
     let called = address(bytes, bits);
     let misfit = first(chips, Question::Misfit(part));
     let hearer = first(chips, Question::Hears(called));
-    let marks = unknown(chips, called);
+    let high = first(chips, Question::HighUnknown(called));
+    let low = first(chips, Question::LowUnknown(called));
+    let device = first(chips, Question::DeviceUnknown(called));
     let count = chips.len();
     let found = Found {
         count,
         misfit,
         hearer,
-        marks,
+        high,
+        low,
+        device,
     };
     let start = begin(bytes, part, bits, found);
     let tally = follow(chips, bytes, start.turn);

@@ -1,4 +1,4 @@
--- `plain::transfer` meets its contract: a walk of its MIR, by hand, of seven calls and no branch. The list is opened once; its row is shown to `first` twice and to `unknown`, and lent to `follow`.
+-- `plain::transfer` meets its contract: a walk of its MIR, by hand, of nine calls and no branch. The list is opened once; its row is shown to `first` five times, and lent to `follow`.
 -- Assumes nothing.
 use Rattle.walks.proofs.Walk.{_≡_, refl, ap, _∙_, List, [], _∷_, ℕ, length, getD, URA, fullShare, Lfts, Args, w64, SProp, emp, id⊢, Memory, Routine, Heap, Tables, Atoms, Fun, factI, givenOf, tables, tablesOf, Given, ‵, _$_, !, move, lit, of-opd, and-then, no-more, agg, Is, u8, usize, row, plain, Meets, tripleOf, entered, cited}
 use Rattle.walks.proofs.Walk.{get, field, sets, leaves, number, opens, shuts, reslices, then, calls-plain, calls-showing, calls-passing, calls-lending-passing, both-said, Mut-shared-walk, mut-shared-meets, said-both}
@@ -10,16 +10,15 @@ use Rattle.sheet.specs.declared.PlainAnswer.{PlainAnswer}
 use Rattle.sheet.specs.Refusals.{plainNumbers}
 use Rattle.sheet.specs.Parts.{partOf}
 use Rattle.sheet.specs.Protocol.{Sent, sent, addressByte}
-use Rattle.sheet.specs.Plain.{PlainAfter, marksIn, plainPart}
+use Rattle.sheet.specs.Plain.{PlainAfter, plainPart}
 use Rattle.plain.specs.declared.Found.{Found}
 use Rattle.plain.specs.declared.Start.{Start}
-use Rattle.plain.specs.declared.Question.the-variants.{Misfit, Hears}
+use Rattle.plain.specs.declared.Question.the-variants.{Misfit, Hears, HighUnknown, LowUnknown, DeviceUnknown}
 use Rattle.plain.specs.Turns.{tallyOf, followed, Ready}
 use Rattle.plain.specs.Starts.{answerOf}
-use Rattle.plain.proofs.Starting.{misfit-at, hearer-at, found as found-in, begun, ready, concluded}
-use Rattle.plain.proofs.Shapes.{question, marks, tally, turn, check, found, start, answer}
+use Rattle.plain.proofs.Starting.{misfit-at, hearer-at, high-at, low-at, device-at, found as found-in, begun, ready, concluded}
+use Rattle.plain.proofs.Shapes.{question, tally, turn, check, found, start, answer}
 use Rattle.sheet.proofs.Chip as ChipType
-use Rattle.sheet.proofs.Marks as MarksType
 use Rattle.sheet.proofs.Check as CheckType
 use Rattle.sheet.proofs.PlainAnswer as AnswerType
 use Rattle.plain.proofs.Question as QuestionType
@@ -38,10 +37,6 @@ use Rattle.plain.proofs.address as address
 use Rattle.plain.proofs.address.Symbol as address-symbol
 use Rattle.plain.proofs.address.Symbol.{name as #plain·address}
 use Rattle.plain.proofs.address.Met as address-theorem
-use Rattle.plain.proofs.unknown as unknown
-use Rattle.plain.proofs.unknown.Symbol as unknown-symbol
-use Rattle.plain.proofs.unknown.Symbol.{name as #plain·unknown}
-use Rattle.plain.proofs.unknown.Met as unknown-theorem
 use Rattle.plain.proofs.begin as begin
 use Rattle.plain.proofs.begin.Symbol as begin-symbol
 use Rattle.plain.proofs.begin.Symbol.{name as #plain·begin}
@@ -66,7 +61,7 @@ Says κs a zs r =
     ((r ≡ p .answer) × (plainNumbers (partOf part) r ≡ plainNumbers (partOf part) (p .answer))) × (zs ≡ p .chips)
 
 module _ {M : Type 1} (𝓤 : URA M) (H : Heap 𝓤) (A : Atoms 𝓤) (W : Given 𝓤 H A) (mem : Memory → SProp 𝓤) (run : Routine → Fun 𝓤) (𝓣 : Tables 𝓤 H)
-    (address-met : Meets 𝓤 H A address.signature (𝓣 .C #plain·address) (address.spec 𝓤 H A mem run)) (first-met : Meets 𝓤 H A first.signature (𝓣 .C #plain·first) (first.spec 𝓤 H A mem run)) (unknown-met : Meets 𝓤 H A unknown.signature (𝓣 .C #plain·unknown) (unknown.spec 𝓤 H A mem run)) (begin-met : Meets 𝓤 H A begin.signature (𝓣 .C #plain·begin) (begin.spec 𝓤 H A mem run)) (follow-met : Meets 𝓤 H A follow.signature (𝓣 .C #plain·follow) (follow.spec 𝓤 H A mem run)) (answer-met : Meets 𝓤 H A answers.signature (𝓣 .C #plain·answer) (answers.spec 𝓤 H A mem run)) where
+    (address-met : Meets 𝓤 H A address.signature (𝓣 .C #plain·address) (address.spec 𝓤 H A mem run)) (first-met : Meets 𝓤 H A first.signature (𝓣 .C #plain·first) (first.spec 𝓤 H A mem run)) (begin-met : Meets 𝓤 H A begin.signature (𝓣 .C #plain·begin) (begin.spec 𝓤 H A mem run)) (follow-met : Meets 𝓤 H A follow.signature (𝓣 .C #plain·follow) (follow.spec 𝓤 H A mem run)) (answer-met : Meets 𝓤 H A answers.signature (𝓣 .C #plain·answer) (answers.spec 𝓤 H A mem run)) where
   walk : Mut-shared-walk 𝓤 H A W 𝓣 code.function AnswerType.the-row answer ChipType.the-row u8 (plain (λ _. u8) ∷ plain (λ _. u8) ∷ []) (λ _. (number w8, (number w8, tt))) (own.clauses 𝓤 H A mem run) (λ κs a. Unit {0}) Says
   walk κ κ₂ s s₂ b o b₂ o₂ γ γ₂ xs bytes a space space₂ are _ post ends l =
       move ! (1 ∷ []) $ opens ChipType.the-row ! tt xs b o $ move ! (2 ∷ 0 ∷ 3 ∷ []) $
@@ -83,21 +78,30 @@ module _ {M : Type 1} (𝓤 : URA M) (H : Heap 𝓤) (A : Atoms 𝓤) (W : Given
       reslices ! refl refl tt (tt, tt) refl refl tt (tt, (tt, (record { fits = space .0 }, tt))) $ sets ! (agg ! (and-then ! (lit ! tt) (and-then ! (get ! refl) (no-more !)))) tt (question .typed 𝓤 H A W (Hears called) is-hail) $
       calls-showing ! 7 𝓣 usize (number w64) tt refl hearer (plain (λ _. QuestionType.the-row) ∷ []) (λ _. (question, tt)) (λ _. (Hears called, tt)) (λ _. (is-hail, tt)) ChipType.the-row xs b o space (length xs) refl
       (first.clauses 𝓤 H A mem run) first-met (λ κ γ. tt) (λ κ γ. id⊢ 𝓤 (emp 𝓤)) (λ κ Δ. and-then ! (get ! refl) (and-then ! (get ! refl) (no-more !))) (λ κ γ r ws. id⊢ 𝓤 _) (λ is-hearer.
-      -- the marks of those that hear
-      reslices ! refl refl tt (tt, tt) refl refl tt (tt, (tt, (record { fits = space .0 }, tt))) $
-      calls-showing ! 8 𝓣 MarksType.the-row marks tt refl (marksIn called xs) (plain (λ _. u8) ∷ []) (λ _. (number w8, tt)) (λ _. (called, tt)) (λ _. (is-called, tt)) ChipType.the-row xs b o space (length xs) refl
-      (unknown.clauses 𝓤 H A mem run) unknown-met (λ κ γ. tt) (λ κ γ. id⊢ 𝓤 (emp 𝓤)) (λ κ Δ. and-then ! (get ! refl) (and-then ! (get ! refl) (no-more !))) (λ κ γ r ws. id⊢ 𝓤 _) (λ is-marks.
+      -- the first that hears and has each mark unknown
+      let is-asked-high : Is QuestionType.the-row (HighUnknown called) (question .val (HighUnknown called) ∷ []) = owes QuestionType.the-type QuestionLaws.the-laws (HighUnknown called) (is-called, tt) in
+      reslices ! refl refl tt (tt, tt) refl refl tt (tt, (tt, (record { fits = space .0 }, tt))) $ sets ! (agg ! (and-then ! (lit ! tt) (and-then ! (get ! refl) (no-more !)))) tt (question .typed 𝓤 H A W (HighUnknown called) is-asked-high) $
+      calls-showing ! 8 𝓣 usize (number w64) tt refl high (plain (λ _. QuestionType.the-row) ∷ []) (λ _. (question, tt)) (λ _. (HighUnknown called, tt)) (λ _. (is-asked-high, tt)) ChipType.the-row xs b o space (length xs) refl
+      (first.clauses 𝓤 H A mem run) first-met (λ κ γ. tt) (λ κ γ. id⊢ 𝓤 (emp 𝓤)) (λ κ Δ. and-then ! (get ! refl) (and-then ! (get ! refl) (no-more !))) (λ κ γ r ws. id⊢ 𝓤 _) (λ is-high.
+      let is-asked-low : Is QuestionType.the-row (LowUnknown called) (question .val (LowUnknown called) ∷ []) = owes QuestionType.the-type QuestionLaws.the-laws (LowUnknown called) (is-called, tt) in
+      reslices ! refl refl tt (tt, tt) refl refl tt (tt, (tt, (record { fits = space .0 }, tt))) $ sets ! (agg ! (and-then ! (lit ! tt) (and-then ! (get ! refl) (no-more !)))) tt (question .typed 𝓤 H A W (LowUnknown called) is-asked-low) $
+      calls-showing ! 9 𝓣 usize (number w64) tt refl low (plain (λ _. QuestionType.the-row) ∷ []) (λ _. (question, tt)) (λ _. (LowUnknown called, tt)) (λ _. (is-asked-low, tt)) ChipType.the-row xs b o space (length xs) refl
+      (first.clauses 𝓤 H A mem run) first-met (λ κ γ. tt) (λ κ γ. id⊢ 𝓤 (emp 𝓤)) (λ κ Δ. and-then ! (get ! refl) (and-then ! (get ! refl) (no-more !))) (λ κ γ r ws. id⊢ 𝓤 _) (λ is-low.
+      let is-asked-device : Is QuestionType.the-row (DeviceUnknown called) (question .val (DeviceUnknown called) ∷ []) = owes QuestionType.the-type QuestionLaws.the-laws (DeviceUnknown called) (is-called, tt) in
+      reslices ! refl refl tt (tt, tt) refl refl tt (tt, (tt, (record { fits = space .0 }, tt))) $ sets ! (agg ! (and-then ! (lit ! tt) (and-then ! (get ! refl) (no-more !)))) tt (question .typed 𝓤 H A W (DeviceUnknown called) is-asked-device) $
+      calls-showing ! 10 𝓣 usize (number w64) tt refl device (plain (λ _. QuestionType.the-row) ∷ []) (λ _. (question, tt)) (λ _. (DeviceUnknown called, tt)) (λ _. (is-asked-device, tt)) ChipType.the-row xs b o space (length xs) refl
+      (first.clauses 𝓤 H A mem run) first-met (λ κ γ. tt) (λ κ γ. id⊢ 𝓤 (emp 𝓤)) (λ κ Δ. and-then ! (get ! refl) (and-then ! (get ! refl) (no-more !))) (λ κ γ r ws. id⊢ 𝓤 _) (λ is-device.
       -- how it begins
-      let is-found : Is FoundType.the-row held (found .val held ∷ []) = owes-fields FoundType.the-type FoundLaws.the-laws held ((refl, space .0), (is-misfit, (is-hearer, (is-marks, tt)))) in
+      let is-found : Is FoundType.the-row held (found .val held ∷ []) = owes-fields FoundType.the-type FoundLaws.the-laws held ((refl, space .0), (is-misfit, (is-hearer, (is-high, (is-low, (is-device, tt)))))) in
       sets ! (of-opd ! (field ! refl refl refl)) tt (tt, record { fits = space .0 }) $
-      sets ! (agg ! (and-then ! (get ! refl) (and-then ! (get ! refl) (and-then ! (get ! refl) (and-then ! (get ! refl) (no-more !)))))) tt (found .typed 𝓤 H A W held is-found) $
-      calls-passing ! 11 𝓣 StartType.the-row start tt refl st (plain (λ _. u8) ∷ plain (λ _. u8) ∷ plain (λ _. FoundType.the-row) ∷ []) (λ _. (number w8, (number w8, (found, tt)))) (λ _. (part, (bits, (held, tt)))) (λ _. (are .0, (are .1 .0, (is-found, tt))))
+      sets ! (agg ! (and-then ! (get ! refl) (and-then ! (get ! refl) (and-then ! (get ! refl) (and-then ! (get ! refl) (and-then ! (get ! refl) (and-then ! (get ! refl) (no-more !)))))))) tt (found .typed 𝓤 H A W held is-found) $
+      calls-passing ! 13 𝓣 StartType.the-row start tt refl st (plain (λ _. u8) ∷ plain (λ _. u8) ∷ plain (λ _. FoundType.the-row) ∷ []) (λ _. (number w8, (number w8, (found, tt)))) (λ _. (part, (bits, (held, tt)))) (λ _. (are .0, (are .1 .0, (is-found, tt))))
       u8 bytes b₂ o₂ γ₂ κ₂ s₂ (‵ (row ChipType.the-row fullShare xs b o)) (then _) (begin.clauses 𝓤 H A mem run) begin-met tt (id⊢ 𝓤 (emp 𝓤))
       (λ Δ. and-then ! (get ! refl) (and-then ! (get ! refl) (and-then ! (get ! refl) (and-then ! (get ! refl) (no-more !))))) (λ r ws. id⊢ 𝓤 _) (λ is-start.
       let is-st = owed StartType.the-type StartLaws.the-laws st _ is-start in
       -- the chips follow
       reslices ! refl refl tt (tt, tt) refl refl tt (tt, (tt, (record { fits = space .0 }, tt))) $
-      calls-lending-passing ! 12 𝓣 TallyType.the-row tally tt refl (tallyOf (followed xs bytes (st .turn))) (plain (λ _. TurnType.the-row) ∷ []) (λ _. (turn, tt)) (λ _. (st .turn, tt)) (λ _. (is-st .1 .0, tt)) ChipType.the-row xs b o space u8 bytes b₂ o₂ γ₂ κ₂ s₂ (length xs) refl
+      calls-lending-passing ! 14 𝓣 TallyType.the-row tally tt refl (tallyOf (followed xs bytes (st .turn))) (plain (λ _. TurnType.the-row) ∷ []) (λ _. (turn, tt)) (λ _. (st .turn, tt)) (λ _. (is-st .1 .0, tt)) ChipType.the-row xs b o space u8 bytes b₂ o₂ γ₂ κ₂ s₂ (length xs) refl
       (λ r zs. (r ≡ tallyOf (followed xs bytes (st .turn))) × (zs ≡ followed xs bytes (st .turn) .chips)) (λ r zs e. e .0) (follow.clauses 𝓤 H A mem run) follow-met (λ κ γ. tt) (λ κ γ. factI 𝓤 (Ready xs bytes (st .turn)) (emp 𝓤) (ready part xs t))
       (λ κ Δ. and-then ! (get ! refl) (and-then ! (get ! refl) (and-then ! (field ! refl refl refl) (no-more !)))) (λ κ γ r ws. both-said 𝓤 _ _) (λ zs len e is-tally.
       -- the answer
@@ -106,7 +110,7 @@ module _ {M : Type 1} (𝓤 : URA M) (H : Heap 𝓤) (A : Atoms 𝓤) (W : Given
       (λ Δ. and-then ! (field ! refl refl refl) (and-then ! (get ! refl) (no-more !))) (λ r ws. id⊢ 𝓤 _) (λ is-answer.
       move ! (1 ∷ 3 ∷ []) $ shuts ChipType.the-row ! tt xs zs b o space len $ move ! (1 ∷ []) $ leaves ! post refl refl tt $
       ends _ zs len is-answer
-      ((ap (λ (p : PlainAfter). p .answer) (concluded part xs t), ap (λ (p : PlainAfter). plainNumbers (partOf part) (p .answer)) (concluded part xs t)), e .1 ∙ ap (λ (p : PlainAfter). p .chips) (concluded part xs t)))))))))
+      ((ap (λ (p : PlainAfter). p .answer) (concluded part xs t), ap (λ (p : PlainAfter). plainNumbers (partOf part) (p .answer)) (concluded part xs t)), e .1 ∙ ap (λ (p : PlainAfter). p .chips) (concluded part xs t)))))))))))
     where
       part : ℕ
       part = a .0
@@ -126,6 +130,15 @@ module _ {M : Type 1} (𝓤 : URA M) (H : Heap 𝓤) (A : Atoms 𝓤) (W : Given
       hearer : ℕ
       hearer = hearer-at (a .0) xs (sent bytes (a .1 .0))
 
+      high : ℕ
+      high = high-at (a .0) xs (sent bytes (a .1 .0))
+
+      low : ℕ
+      low = low-at (a .0) xs (sent bytes (a .1 .0))
+
+      device : ℕ
+      device = device-at (a .0) xs (sent bytes (a .1 .0))
+
       held : Found
       held = found-in (a .0) xs (sent bytes (a .1 .0))
 
@@ -144,7 +157,6 @@ transfer-spec 𝓤 H 𝓜 𝓖 𝓡 =
     (walk 𝓤 H A W (𝓜 .mem) (𝓡 .run) 𝓣
     (cited 𝓤 H (tripleOf 𝓤 H A address.signature (address.spec 𝓤 H A (𝓜 .mem) (𝓡 .run))) 𝓜 𝓡 code.env #plain·address address-symbol.routine code.calls-plain·address (address-theorem.met 𝓤 H 𝓜 𝓖 𝓡))
     (cited 𝓤 H (tripleOf 𝓤 H A first.signature (first.spec 𝓤 H A (𝓜 .mem) (𝓡 .run))) 𝓜 𝓡 code.env #plain·first first-symbol.routine code.calls-plain·first (first-theorem.met 𝓤 H 𝓜 𝓖 𝓡))
-    (cited 𝓤 H (tripleOf 𝓤 H A unknown.signature (unknown.spec 𝓤 H A (𝓜 .mem) (𝓡 .run))) 𝓜 𝓡 code.env #plain·unknown unknown-symbol.routine code.calls-plain·unknown (unknown-theorem.met 𝓤 H 𝓜 𝓖 𝓡))
     (cited 𝓤 H (tripleOf 𝓤 H A begin.signature (begin.spec 𝓤 H A (𝓜 .mem) (𝓡 .run))) 𝓜 𝓡 code.env #plain·begin begin-symbol.routine code.calls-plain·begin (begin-theorem.met 𝓤 H 𝓜 𝓖 𝓡))
     (cited 𝓤 H (tripleOf 𝓤 H A follow.signature (follow.spec 𝓤 H A (𝓜 .mem) (𝓡 .run))) 𝓜 𝓡 code.env #plain·follow follow-symbol.routine code.calls-plain·follow (follow-theorem.met 𝓤 H 𝓜 𝓖 𝓡))
     (cited 𝓤 H (tripleOf 𝓤 H A answers.signature (answers.spec 𝓤 H A (𝓜 .mem) (𝓡 .run))) 𝓜 𝓡 code.env #plain·answer answer-symbol.routine code.calls-plain·answer (answer-theorem.met 𝓤 H 𝓜 𝓖 𝓡))))
