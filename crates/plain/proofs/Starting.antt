@@ -28,7 +28,7 @@ use Rattle.plain.specs.declared.Start.{Start}
 use Rattle.plain.specs.declared.Question.the-variants.{Misfit, Hears, HighUnknown, LowUnknown, DeviceUnknown}
 use Rattle.plain.specs.Asking.{yes, firstYes}
 use Rattle.plain.specs.Turns.{tallyOf, plainLeft, followed, Ready}
-use Rattle.plain.specs.Starts.{marksOf, checkOf, turnAt, firstTurn, startOf, answerOf}
+use Rattle.plain.specs.Starts.{marksFound, checkOf, turnAt, firstTurn, startOf, answerOf}
 use Rattle.plain.proofs.Searching.{any-first}
 use Rattle.plain.proofs.Lefts.{left-is}
 
@@ -82,7 +82,7 @@ module _ (part : ℕ) (cs : List Chip) (t : Sent) where
   found = record { count = length cs; misfit = misfit-at; hearer = hearer-at; high = high-at; low = low-at; device = device-at }
 
   -- the marks of those that hear
-  marks-found : marksOf found ≡ marksIn (addressByte t) cs
+  marks-found : marksFound found ≡ marksIn (addressByte t) cs
   marks-found = λ j. record {
     high = cond (sym (any-first (yes (HighUnknown (addressByte t))) cs) j) 1 0;
     low = cond (sym (any-first (yes (LowUnknown (addressByte t))) cs) j) 1 0;

@@ -23,8 +23,8 @@ use Rattle.plain.specs.declared.Start.{Start}
 abbrev pub markAt : ℕ → ℕ → ℕ
 markAt place count = cond (ltb place count) 1 0
 
-abbrev pub marksOf : Found → Marks
-marksOf f = record { high = markAt (f .high) (f .count); low = markAt (f .low) (f .count); device = markAt (f .device) (f .count) }
+abbrev pub marksFound : Found → Marks
+marksFound f = record { high = markAt (f .high) (f .count); low = markAt (f .low) (f .count); device = markAt (f .device) (f .count) }
 
 -- 16, 10
 abbrev pub checkBench : ℕ → ℕ → Check
@@ -35,7 +35,7 @@ abbrev pub checkList : ℕ → Sent → Found → Check
 checkList part t f =
     orElse (unless (leb (f .count) (f .misfit)) (ChipField (f .misfit)))
     (orElse (checkSent t)
-    (cond (ltb (f .hearer) (f .count)) (faultOfSent (partOf part) (marksOf f) t) Passed))
+    (cond (ltb (f .hearer) (f .count)) (faultOfSent (partOf part) (marksFound f) t) Passed))
 
 abbrev pub checkOf : ℕ → Sent → Found → Check
 checkOf part t f = orElse (checkBench part (f .count)) (checkList part t f)

@@ -20,7 +20,7 @@ ghost use Rattle.sheet.specs.Checks.{faultOfSent};
 ghost use Rattle.sheet.specs.Plain.{lower, smallest, once, lastOf, lastAfter, plainPart};
 ghost use Rattle.plain.specs.Asking.{yes, answers, taken, firstYes};
 ghost use Rattle.plain.specs.Turns.{lastHeard, turnAfter, followed, tallyOf, Ready};
-ghost use Rattle.plain.specs.Starts.{markAt, marksOf, checkBench, checkList, checkOf, turnAt, startOf, answerOf};
+ghost use Rattle.plain.specs.Starts.{markAt, marksFound, checkBench, checkList, checkOf, turnAt, startOf, answerOf};
 ghost use Rattle.plain.specs.Benches.{tooMany, firstTransferred, benchTransferred};
 
 // ---- one chip, by value
@@ -294,8 +294,8 @@ fn mark_at(place: usize, count: usize) -> u8
 }
 
 // The marks of the chips that hear.
-fn marks_of(found: Found) -> Marks
-    ensures { λ r. ⌜ r ≡ marksOf found ⌝ }
+fn marks_found(found: Found) -> Marks
+    ensures { λ r. ⌜ r ≡ marksFound found ⌝ }
 {
     Marks {
         high: mark_at(found.high, found.count),
@@ -308,7 +308,7 @@ fn marks_of(found: Found) -> Marks
 fn check_chips(part: u8, bytes: &[u8], bits: u8, found: Found) -> Check
     ensures { λ r. ⌜ r ≡ checkList part (sent (now (bytes .entry)) bits) found ⌝ }
 {
-    let marks = marks_of(found);
+    let marks = marks_found(found);
     if found.count <= found.misfit {
         match checks::check_sent(bytes.len(), bits) {
             Check::Refused(refusal) => Check::Refused(refusal),

@@ -27,7 +27,7 @@ returns-2 c =
     let marks = told .before .before .before in
     let a = marks .before .before .args in
     rw (le-leb _ _ (told .before .if1 .taken), sym (told .check-sent .ensures) ∙ c .before .before .enum-told .given .1)
-    (c .check-bytes .ensures ∙ ap (λ (m : Marks). cond (ltb (a .found .hearer) (a .found .count)) (faultOfSent (partOf (a .part)) m (sent (now (a .bytes)) (a .bits))) Passed) (marks .marks-of .ensures))
+    (c .check-bytes .ensures ∙ ap (λ (m : Marks). cond (ltb (a .found .hearer) (a .found .count)) (faultOfSent (partOf (a .part)) m (sent (now (a .bytes)) (a .bits))) Passed) (marks .marks-found .ensures))
 
 returns-3 : tie.Need-returns-3
 returns-3 c = rw (lt-leb _ _ (c .if1 .left)) refl
