@@ -1,0 +1,370 @@
+-- The transfer for wanted rows puts them there: it is taken from any valid registers, its run lands on the rows that it reaches, and everything else stays.
+-- Assumes nothing.
+use mathlib.Core.Path.{_≡_, refl, sym, ap, ap₂, subst, _∙_}
+use mathlib.Core.Logic.{⊎-elim, _≢_}
+use mathlib.Core.Bool.{Bool, true, false, cond, _&&_, true≢false}
+use mathlib.Core.List.{List, [], _∷_, _++_}
+use Prim.Native.Nat.{ℕ, zero, suc, _+_, _-_, _*_, _/_, _%_, _≤_, _<_, zero-le}
+use native.Mathlib.Nat.{add-zero, zero-add, mul-zero, mul-comm, mul-le-mul-left, mod-lt, div-add-mod', div-le-self}
+use native.Mathlib.Omega.{arith}
+use lib.Arith.{digits-div}
+use lib.Dec.{eqb, ltb, leb}
+use lib.ListN.{length, getD, take, drop, length-append, length-take, length-drop}
+use borrow.Author.Tests.{eq-eqb, ne-eqb, lt-ltb, le-ltb, le-leb, ltb-true, eqb-true}
+use Rattle.lemmas.proofs.Order.{equal-or-not}
+use Rattle.lemmas.proofs.Tests.{both-true}
+use Rattle.sheet.specs.declared.Registers.{Registers}
+use Rattle.sheet.specs.declared.Both.{Both}
+use Rattle.sheet.specs.declared.Chips.{Chips}
+use Rattle.sheet.specs.declared.Counts.{Counts}
+use Rattle.sheet.specs.declared.Acknowledger.{Acknowledger}
+use Rattle.sheet.specs.declared.Answer.{Answer}
+use Rattle.sheet.specs.declared.Addressed.the-variants.{To}
+use Rattle.sheet.specs.declared.Kind.{Kind}
+use Rattle.sheet.specs.declared.Expect.the-variants.{Control, All}
+use Rattle.sheet.specs.declared.Command.the-variants.{ModeSet, BankSelect}
+use Rattle.sheet.specs.declared.Refusal.the-variants.{RamLength, Register, GroupOrPhase}
+use Rattle.sheet.specs.declared.Check.the-variants.{Passed}
+use Rattle.sheet.specs.Parts.{Part, within, partOf}
+use Rattle.sheet.specs.Registers.{known, backplanes, bankRow, registersOf}
+use Rattle.sheet.specs.Commands.{defined, obeyed, obeyedAll, allDefined}
+use Rattle.sheet.specs.Protocol.{addressOf, heardBy, chipsIn, controlOf, Sent, whole, wholeOf, cutData}
+use Rattle.sheet.specs.Checks.{unless, checkChips, checkRegisters, overIn, checkLength, checkBits, checkSent, faultIn, checkState, checkTransfer}
+use Rattle.sheet.specs.Places.{position, atPosition}
+use Rattle.sheet.specs.Data.{bitOf, rowOf, widthOf, acknowledger}
+use Rattle.sheet.specs.Runs.{putRun, lastRun, countedRun}
+use Rattle.sheet.specs.Long.{Group, After, begun, control, heard, replaced, startOf, columnsOf, withColumns, heardIn, transferCall}
+use Rattle.sheet.specs.Writer.{eachAfter80, settings, modeSetOf, bankSelectOf, setTo, bytesFor, dataFrom, dataOf, rowsTransfer, checkWanted}
+use Rattle.sheet.specs.Puts.{Settable, reaches, putCounts, putLast, Puts, AlikeWhere, WritesRows, ClaimRows}
+use Rattle.laws.proofs.Ranges.{planes-pos}
+use Rattle.laws.proofs.Fits.{Fits, both-pass, unless-passes, fits-of}
+use Rattle.laws.proofs.Lens.{range-of-group, few-chips-in, ends-in-ram, length-columns, own-columns, other-columns}
+use Rattle.laws.proofs.Counts.{counted-at-once, counts-alike, width-less}
+use Rattle.laws.proofs.Runs.{length-run, last-at-once, ran, run-at-once}
+use Rattle.laws.proofs.Rows.{run-lands}
+use Rattle.laws.proofs.Commanded.{on, heard-commands, fault-commands, fault-data}
+use Rattle.laws.proofs.Settables.{part-settable}
+use Rattle.laws.proofs.Named.{of-both, ram-small}
+use Rattle.laws.proofs.Wanted.{length-data, data-at, bit-at, Bit, reached, reached-by, byte-there, same-data}
+
+-- ---- the checks
+
+-- what wanted rows that pass are known to be
+pub record Asked (K : Part) (n : Chips) (g mode bank : ℕ) (wanted : List ℕ) : Type 0 where
+  pub mode-in : mode < 4
+  pub bank-in : bank < 2
+  pub group-in : g < 2
+  pub columns : length wanted ≡ K .columns * chipsIn g n
+
+pub asked-of : (K : Part) (n : Chips) (r : Both) (g mode bank : ℕ) (wanted : List ℕ) → checkWanted K n r g mode bank wanted ≡ Passed → Asked K n g mode bank wanted
+unfolding checkWanted
+asked-of K n r g mode bank wanted e =
+    let a = both-pass (checkChips K n) _ e in
+    let b = both-pass (checkRegisters K r) _ (a .1) in
+    let c = both-pass (unless (ltb mode 4 && ltb bank 2) Register) _ (b .1) in
+    let d = both-pass (unless (ltb g 2) GroupOrPhase) _ (c .1) in
+    let f = both-pass (unless (eqb (length wanted) (K .columns * chipsIn g n)) RamLength) (overIn 0 wanted) (d .1) in
+    let both = both-true (ltb mode 4) (ltb bank 2) (unless-passes _ Register (c .0)) in
+    record {
+      mode-in = ltb-true mode 4 (both .0);
+      bank-in = ltb-true bank 2 (both .1);
+      group-in = ltb-true g 2 (unless-passes _ GroupOrPhase (d .0));
+      columns = eqb-true (length wanted) (K .columns * chipsIn g n) (unless-passes _ RamLength (f .0));
+    }
+
+-- ---- a transfer to a group with a chip: commands each after 80, then 40 and data
+
+hears : (n : Chips) (g : ℕ) → g < 2 → 0 < chipsIn g n → heardBy n (addressOf g) ≡ To g
+unfolding heardBy
+hears n zero l h = rw (lt-ltb 0 (n .zero) h)
+hears n (suc zero) l h = rw (lt-ltb 0 (n .one) h)
+hears n (suc (suc g)) l h = absurd (omega arith)
+
+-- the group once its commands are obeyed
+abbrev pub ready : Part → Chips → Both → List ℕ → ℕ → List ℕ → Registers → Group
+ready K n r ram g xs s = control (on (2 * length xs) s (begun (registersOf g r) (columnsOf K n g ram)))
+
+module _ (K : Part) (n : Chips) (r : Both) (ram : List ℕ) (es : checkState K n r ram ≡ Passed) (g : ℕ) (pg : g < 2) (some : 0 < chipsIn g n)
+    (xs ys : List ℕ) (s : Registers) (all : allDefined K xs ≡ true) (made : obeyedAll K xs (registersOf g r) ≡ s) (there : known (s .unknown) ≡ true)
+    (few : length (addressOf g ∷ eachAfter80 xs ++ (0x40 ∷ ys)) ≤ 4096) where
+  abbrev sends : List ℕ
+  sends = addressOf g ∷ eachAfter80 xs ++ (0x40 ∷ ys)
+
+  abbrev first : Group
+  first = begun (registersOf g r) (columnsOf K n g ram)
+
+  no-fault : faultIn K false (registersOf g r .unknown) Control 1 (eachAfter80 xs ++ (0x40 ∷ ys)) ≡ Passed
+  unfolding faultIn controlOf
+  no-fault = fault-commands K xs (0x40 ∷ ys) (registersOf g r) 1 all ∙ rw made (fault-data K (s .unknown) ys _ there)
+
+  passes : checkTransfer K n r ram (whole sends) ≡ Passed
+  unfolding checkTransfer checkSent checkLength checkBits within wholeOf
+  passes = rw (es, lt-ltb 0 (length sends) (omega arith), le-leb (length sends) 4096 few, hears n g pg some) no-fault
+
+  follows : heard K Control (eachAfter80 xs ++ (0x40 ∷ ys)) first ≡ heard K (All Kind.Data) ys (ready K n r ram g xs s)
+  unfolding heard controlOf
+  follows = heard-commands K xs (0x40 ∷ ys) first ∙ ap (λ (q : Registers). heard K (All Kind.Data) ys (control (on (2 * length xs) q first))) made
+
+  -- it is taken, and the group has heard the data
+  pub sent-to : transferCall K n r ram (whole sends) ≡ heardIn K n g r ram (heard K (All Kind.Data) ys (ready K n r ram g xs s))
+  unfolding transferCall wholeOf cutData
+  sent-to = rw (passes, hears n g pg some) (ap (heardIn K n g r ram) follows)
+
+-- ---- how many data bytes, and what they count
+
+module _ (m size : ℕ) (pm : 0 < m) where
+  abbrev w : ℕ
+  w = widthOf m
+
+  -- size / w where that is all, and one more where a rest is left
+  even-bytes : size % w ≡ 0 → bytesFor m size ≡ size / w
+  even-bytes e =
+      let s : size + (w - 1) ≡ size / w * w + (w - 1) = omega (arith, div-add-mod' size w, e) in
+      ap (λ (k : ℕ). k / w) s ∙ digits-div (size / w) {m = w} {r = w - 1} (omega arith)
+
+  odd-bytes : size % w ≢ 0 → bytesFor m size ≡ suc (size / w)
+  odd-bytes ne =
+      let l : size % w < w = mod-lt size {m = w} (omega arith) in
+      let s : size + (w - 1) ≡ suc (size / w) * w + (size % w - 1) = omega (arith, div-add-mod' size w, ne) in
+      ap (λ (k : ℕ). k / w) s ∙ digits-div (suc (size / w)) {m = w} {r = size % w - 1} (omega arith)
+
+  -- from counts of the bytes before it
+  pub run-counts : (before : ℕ) → countedRun (bytesFor m size) m 0 size (record { acknowledged = before; stored = 0; discarded = 0 }) ≡ putCounts m size (before + bytesFor m size)
+  run-counts before =
+      let all : size - 0 ≡ size = omega arith in
+      counted-at-once (bytesFor m size) m 0 size _ pm
+      ∙ ⊎-elim
+      (λ (e : size % w ≡ 0).
+      let none : m * (size % w) ≡ 0 = ap (λ (k : ℕ). m * k) e ∙ mul-zero m in
+      rw (all, eq-eqb (size % w) 0 e, even-bytes e) (counts-alike _ _ (omega arith) (omega (arith, none)) (omega (arith, none))))
+      (λ (ne : size % w ≢ 0).
+      let rest : m * (size % w) < 8 = width-less m (size % w) pm (mod-lt size {m = w} (omega arith)) in
+      rw (all, ne-eqb (size % w) 0 ne, odd-bytes ne) (counts-alike _ _ (omega arith) (omega (arith, rest)) (omega (arith, rest))))
+      (equal-or-not (size % w) 0)
+
+  last-of : (K : Part) (j : ℕ) → lastRun K (suc j) m 0 size Acknowledger.None ≡ acknowledger K m (w * j) size
+  last-of K j = last-at-once K j m 0 size Acknowledger.None ∙ ap (λ (v : ℕ). acknowledger K m v size) (zero-add (w * j))
+
+  -- the last byte ends with the last column, or past it
+  by-rest : (K : Part) (c j : ℕ) → 0 < K .columns → size ≡ K .columns * suc c → bytesFor m size ≡ suc j → lastRun K (bytesFor m size) m 0 size Acknowledger.None ≡ putLast m size (suc c)
+  unfolding acknowledger
+  by-rest K c j pc es ej =
+      ap (λ (k : ℕ). lastRun K k m 0 size Acknowledger.None) ej ∙ last-of K j
+      ∙ ⊎-elim
+      (λ (e : size % w ≡ 0).
+      let q : size / w ≡ suc j = sym (even-bytes e) ∙ ej in
+      let all : w * suc j ≡ size = sym (ap (λ (k : ℕ). w * k) q) ∙ omega (arith, div-add-mod' size w, e) in
+      let ends : w * j + 7 / m ≡ c * K .columns + (K .columns - 1) = omega (arith, all) in
+      let chip : (w * j + 7 / m) / K .columns ≡ suc c - 1 = ap (λ (k : ℕ). k / K .columns) ends ∙ digits-div c {m = K .columns} {r = K .columns - 1} (omega arith) ∙ omega arith in
+      rw (eq-eqb (size % w) 0 e, lt-ltb (w * j + 7 / m) size (omega (arith, all)), chip))
+      (λ (ne : size % w ≢ 0).
+      let q : size / w ≡ j = omega (arith, odd-bytes ne, ej) in
+      let over : w * j + size % w ≡ size = sym (ap (λ (k : ℕ). w * k + size % w) q) ∙ omega (arith, div-add-mod' size w) in
+      rw (ne-eqb (size % w) 0 ne, le-ltb (w * j + 7 / m) size (omega (arith, over, mod-lt size {m = w} (omega arith)))))
+      (equal-or-not (size % w) 0)
+
+  pub run-last : (K : Part) (chips : ℕ) → 0 < K .columns → 0 < chips → size ≡ K .columns * chips → lastRun K (bytesFor m size) m 0 size Acknowledger.None ≡ putLast m size chips
+  run-last K zero pc ph es = absurd (omega arith)
+  run-last K (suc c) pc ph es =
+      let some : 0 < bytesFor m size = omega (arith, byte-there m 0 size (omega arith)) in
+      by-rest K c (bytesFor m size - 1) pc es (omega (arith, some))
+
+-- ---- the commands make the registers
+
+module _ (K : Part) (u : Settable K) (mode bank : ℕ) (r : Registers) (le : r .e < 2) (lb : r .b < 2) (lo : r .o < 2) (lm : mode < 4) (li : bank < 2) where
+  is-mode : K .command (modeSetOf r mode) ≡ ModeSet (record { e = r .e; b = r .b; m = mode })
+  is-mode = u .mode-set (r .e) (r .b) mode le lb lm
+
+  is-bank : K .command (bankSelectOf r bank) ≡ BankSelect bank (r .o)
+  is-bank = u .bank-select bank (r .o) li lo
+
+  set-all : obeyedAll K (settings K r mode bank) r ≡ setTo mode bank r
+  set-all = (λ i. obeyedAll K (K .pointer 0) (obeyed (obeyed (obeyed r (is-mode i)) (is-bank i)) (u .device-select i))) ∙ u .pointer 0 (u .columns) _
+
+  all-defined : allDefined K (settings K r mode bank) ≡ true
+  all-defined = (λ i. defined (is-mode i) && (defined (is-bank i) && (defined (u .device-select i) && allDefined K (K .pointer 0)))) ∙ u .defined 0 (u .columns)
+
+-- ---- how long it is
+
+length-each : (xs : List ℕ) → length (eachAfter80 xs) ≡ 2 * length xs
+length-each [] = refl
+length-each (x ∷ xs) = omega (arith, length-each xs)
+
+length-of : (K : Part) (r : Registers) (mode bank address : ℕ) (ys : List ℕ) → length (address ∷ eachAfter80 (settings K r mode bank) ++ (0x40 ∷ ys)) ≡ 8 + 2 * length (K .pointer 0) + length ys
+length-of K r mode bank address ys = omega (arith, length-append (eachAfter80 (settings K r mode bank)) (0x40 ∷ ys), length-each (settings K r mode bank))
+
+pub length-rows : (K : Part) (n : Chips) (r : Both) (g mode bank : ℕ) (wanted : List ℕ) → 0 < chipsIn g n
+    → length (rowsTransfer K n r g mode bank wanted) ≡ 8 + 2 * length (K .pointer 0) + bytesFor (backplanes (setTo mode bank (registersOf g r))) (length wanted)
+unfolding rowsTransfer
+length-rows K n r g mode bank wanted some =
+    let s = setTo mode bank (registersOf g r) in
+    rw (ne-eqb (chipsIn g n) 0 (omega arith))
+    (length-of K (registersOf g r) mode bank (addressOf g) (dataOf s wanted) ∙ ap (λ (k : ℕ). 8 + 2 * length (K .pointer 0) + k) (length-data (bytesFor (backplanes s) (length wanted)) (backplanes s) _ wanted))
+
+-- ---- the law
+
+module _ (K : Part) (u : Settable K) (n : Chips) (r : Both) (ram : List ℕ) (g mode bank : ℕ) (wanted : List ℕ) (es : checkState K n r ram ≡ Passed)
+    (ew : checkWanted K n r g mode bank wanted ≡ Passed) (some : 0 < chipsIn g n) where
+  abbrev own : Registers
+  own = registersOf g r
+
+  abbrev columns : List ℕ
+  columns = columnsOf K n g ram
+
+  abbrev s : Registers
+  s = setTo mode bank own
+
+  abbrev m : ℕ
+  m = backplanes s
+
+  abbrev b : ℕ
+  b = bankRow m bank
+
+  abbrev commands : List ℕ
+  commands = settings K own mode bank
+
+  abbrev rows : List ℕ
+  rows = dataOf s wanted
+
+  abbrev bytes : List ℕ
+  bytes = addressOf g ∷ eachAfter80 commands ++ (0x40 ∷ rows)
+
+  asked : Asked K n g mode bank wanted
+  asked = asked-of K n r g mode bank wanted ew
+
+  fits : Fits K n r ram
+  fits = fits-of K n r ram es
+
+  as-many : length columns ≡ length wanted
+  as-many = length-columns K n r ram fits g ∙ sym (asked .columns)
+
+  at-zero : position K s ≡ 0
+  unfolding position
+  at-zero = omega (arith, mul-zero (K .columns))
+
+  is-bytes : rowsTransfer K n r g mode bank wanted ≡ bytes
+  unfolding rowsTransfer
+  is-bytes = rw (ne-eqb (chipsIn g n) 0 (omega arith))
+
+  length-data-rows : length rows ≡ bytesFor m (length wanted)
+  length-data-rows = length-data (bytesFor m (length wanted)) m b wanted
+
+  length-bytes : 0 + 1 + 2 * length commands + 1 + bytesFor m (length wanted) ≡ length bytes
+  length-bytes = omega (arith, length-append (eachAfter80 commands) (0x40 ∷ rows), length-each commands, length-data-rows)
+
+  few-columns : length columns ≤ K .columns * K .limit
+  few-columns = omega (arith, length-columns K n r ram fits g, mul-le-mul-left (K .columns) (few-chips-in K n r ram fits g))
+
+  -- the run from column 0
+  abbrev run : List ℕ
+  run = putRun m b (position K s) rows columns
+
+  length-own : length run ≡ K .columns * chipsIn g n
+  length-own = length-run m b (position K s) rows columns ∙ length-columns K n r ram fits g
+
+  module _ (few : length bytes ≤ 4096) where
+    abbrev called : After
+    called = transferCall K n r ram (whole bytes)
+
+    is-called : called ≡ heardIn K n g r ram (ran K rows (ready K n r ram g commands s))
+    is-called =
+        let range = range-of-group K n r ram fits g in
+        sent-to K n r ram es g (asked .group-in) some commands rows s
+        (all-defined K u mode bank own (range .e-in) (range .b-in) (range .o-in) (asked .mode-in) (asked .bank-in))
+        (set-all K u mode bank own (range .e-in) (range .b-in) (range .o-in) (asked .mode-in) (asked .bank-in))
+        refl few
+        ∙ ap (heardIn K n g r ram) (run-at-once K rows (ready K n r ram g commands s) (u .columns) zero-le few-columns)
+
+    answers : called .result .answer ≡ Answer.Taken (putCounts m (length wanted) (length bytes)) (putLast m (length wanted) (chipsIn g n))
+    answers =
+        (λ i. is-called i .result .answer)
+        ∙ (λ i. Answer.Taken
+        (countedRun (length-data-rows i) m (at-zero i) (as-many i) (record { acknowledged = 0 + 1 + 2 * length commands + 1; stored = 0; discarded = 0 }))
+        (lastRun K (length-data-rows i) m (at-zero i) (as-many i) Acknowledger.None))
+        ∙ ap₂ Answer.Taken
+        (run-counts m (length wanted) (planes-pos s) (0 + 1 + 2 * length commands + 1) ∙ ap (putCounts m (length wanted)) length-bytes)
+        (run-last m (length wanted) (planes-pos s) K (chipsIn g n) (u .columns) some (asked .columns))
+
+    registers : called .result .registers ≡ replaced g (atPosition K s (widthOf m * bytesFor m (length wanted))) r
+    registers =
+        (λ i. is-called i .result .registers)
+        ∙ (λ i. replaced g (atPosition K s (at-zero i + widthOf m * length-data-rows i)) r)
+        ∙ ap (λ (v : ℕ). replaced g (atPosition K s v) r) (zero-add (widthOf m * bytesFor m (length wanted)))
+
+    own-after : columnsOf K n g (called .ram) ≡ run
+    own-after = (λ i. columnsOf K n g (is-called i .ram)) ∙ own-columns K n r ram fits g run length-own
+
+    -- bit k of byte j lands on the row that it came from
+    lands : (j k : ℕ) → j < bytesFor m (length wanted) → k < 8 → widthOf m * j + k / m < length wanted
+        → rowOf (getD run (widthOf m * j + k / m) 0) (b + k % m) ≡ rowOf (getD wanted (widthOf m * j + k / m) 0) (b + k % m)
+    lands j k lj lk lc =
+        let at : position K s + widthOf m * j + k / m ≡ widthOf m * j + k / m = omega (arith, at-zero) in
+        sym (ap (λ (c : ℕ). rowOf (getD run c 0) (b + k % m)) at)
+        ∙ run-lands m b (position K s) rows columns (planes-pos s) .lands j k (rw length-data-rows lj) lk (rw (at, as-many) lc)
+        ∙ ap (λ (x : ℕ). bitOf x k) (data-at (bytesFor m (length wanted)) m b wanted j lj)
+        ∙ bit-at m b (widthOf m * j) wanted k lk
+
+    wanted-there : (c q : ℕ) → c < length wanted → reaches m b c q ≡ true → rowOf (getD (columnsOf K n g (called .ram)) c 0) q ≡ rowOf (getD wanted c 0) q
+    wanted-there c q lc e =
+        let x : Bit m b c q = reached m b c q (planes-pos s) e in
+        (λ i. rowOf (getD (own-after i) (x .column i) 0) (x .row i))
+        ∙ lands (x .byte) (x .bit) (rw (x .byte-is) (byte-there m c (length wanted) lc)) (x .eight) (rw (← x .column) lc)
+        ∙ sym (ap₂ (λ (i h : ℕ). rowOf (getD wanted i 0) h) (x .column) (x .row))
+
+    others-stay : (c q : ℕ) → reaches m b c q ≡ false → rowOf (getD (columnsOf K n g (called .ram)) c 0) q ≡ rowOf (getD columns c 0) q
+    others-stay c q e =
+        (λ i. rowOf (getD (own-after i) c 0) q)
+        ∙ run-lands m b (position K s) rows columns (planes-pos s) .stays c q
+        (λ j k lj lk ec eq. true≢false
+        (sym (reached-by m b j k (planes-pos s) lk)
+        ∙ ap₂ (λ (i h : ℕ). reaches m b i h) (sym (ec ∙ omega (arith, at-zero))) (sym eq) ∙ e))
+
+    puts : Puts K n r ram g mode bank wanted m b bytes called
+    puts = record {
+      answer = answers;
+      registers = registers;
+      wanted-there = wanted-there;
+      others-stay = others-stay;
+      other-group = λ h ph ne. (λ i. columnsOf K n h (is-called i .ram)) ∙ other-columns K n r ram fits g h (asked .group-in) ph ne run length-own;
+      size = (λ i. length (is-called i .ram)) ∙ simp (length-append, length-take, length-drop) (omega (arith, length-own, ends-in-ram K n r ram fits g));
+    }
+
+  pub law : length (rowsTransfer K n r g mode bank wanted) ≤ 4096
+      → Puts K n r ram g mode bank wanted m b (rowsTransfer K n r g mode bank wanted) (transferCall K n r ram (whole (rowsTransfer K n r g mode bank wanted)))
+  law few = subst (λ (x : List ℕ). Puts K n r ram g mode bank wanted m b x (transferCall K n r ram (whole x))) (sym is-bytes) (puts (subst (λ (x : List ℕ). length x ≤ 4096) is-bytes few))
+
+-- rows that the run does not reach are ignored
+ignored : (K : Part) (n : Chips) (r : Both) (g mode bank : ℕ) (one other : List ℕ) → let s = setTo mode bank (registersOf g r) in
+    length one ≡ length other → AlikeWhere (backplanes s) (bankRow (backplanes s) bank) one other → rowsTransfer K n r g mode bank one ≡ rowsTransfer K n r g mode bank other
+unfolding rowsTransfer
+ignored K n r g mode bank one other e alike =
+    let s = setTo mode bank (registersOf g r) in
+    ap (λ (xs : List ℕ). cond (eqb (chipsIn g n) 0) [] (addressOf g ∷ eachAfter80 (settings K (registersOf g r) mode bank) ++ (0x40 ∷ xs)))
+    (ap (λ (k : ℕ). dataFrom (bytesFor (backplanes s) k) (backplanes s) (bankRow (backplanes s) bank) one) e
+    ∙ same-data (bytesFor (backplanes s) (length other)) (backplanes s) (bankRow (backplanes s) bank) one other (planes-pos s) alike)
+
+pub writes-rows : ClaimRows
+writes-rows K u = record {
+  bytes = length-rows K;
+  puts = λ n r ram g mode bank wanted es ew some few. law K u n r ram g mode bank wanted es ew some few;
+  ignored = λ n r g mode bank one other e alike. ignored K n r g mode bank one other e alike;
+}
+
+-- each part's commands set what is sent
+pub part-writes-rows : (part : ℕ) → WritesRows (partOf part)
+part-writes-rows part = writes-rows (partOf part) (part-settable part)
+
+-- and a transfer to at most 640 columns is short
+short : (part m size : ℕ) → size ≤ 640 → 8 + 2 * length (partOf part .pointer 0) + bytesFor m size ≤ 4096
+short part m size h = omega (arith, of-both (λ K. length (K .pointer 0) ≤ 2) part (omega arith) (omega arith), div-le-self (size + (widthOf m - 1)) (widthOf m), div-le-self 7 m)
+
+pub part-puts : (part : ℕ) (n : Chips) (r : Both) (ram : List ℕ) (g mode bank : ℕ) (wanted : List ℕ) → checkState (partOf part) n r ram ≡ Passed
+    → checkWanted (partOf part) n r g mode bank wanted ≡ Passed → 0 < chipsIn g n
+    → let s = setTo mode bank (registersOf g r) in
+    let transfer = rowsTransfer (partOf part) n r g mode bank wanted in
+    Puts (partOf part) n r ram g mode bank wanted (backplanes s) (bankRow (backplanes s) bank) transfer (transferCall (partOf part) n r ram (whole transfer))
+part-puts part n r ram g mode bank wanted es ew some =
+    let few = few-chips-in (partOf part) n r ram (fits-of (partOf part) n r ram es) g in
+    part-writes-rows part .puts n r ram g mode bank wanted es ew some
+    (rw (length-rows (partOf part) n r g mode bank wanted some)
+    (short part _ (length wanted) (rw (asked-of (partOf part) n r g mode bank wanted ew .columns) (ram-small part (chipsIn g n) few))))
