@@ -39,10 +39,10 @@ use Rattle.sheet.specs.Puts.{Settable, reaches, putCounts, putLast, Puts, Alike
 use Rattle.laws.proofs.Ranges.{planes-pos}
 use Rattle.laws.proofs.Fits.{Fits, both-pass, unless-passes, fits-of}
 use Rattle.laws.proofs.Lens.{range-of-group, few-chips-in, ends-in-ram, length-columns, own-columns, other-columns}
-use Rattle.laws.proofs.Counts.{counted-at-once, counts-alike, width-less}
-use Rattle.laws.proofs.Runs.{length-run, last-at-once, ran, run-at-once}
+use Rattle.laws.proofs.Runs.{length-run, ran, run-at-once}
 use Rattle.laws.proofs.Rows.{run-lands}
-use Rattle.laws.proofs.Commanded.{on, heard-commands, fault-commands, fault-data}
+use Rattle.laws.proofs.Sending.{ready, sent-to}
+use Rattle.laws.proofs.Enough.{run-counts, run-last}
 use Rattle.laws.proofs.Settables.{part-settable}
 use Rattle.laws.proofs.Named.{of-both, ram-small}
 use Rattle.laws.proofs.Wanted.{length-data, data-at, bit-at, Bit, reached, reached-by, byte-there, same-data}
@@ -71,103 +71,6 @@ asked-of K n r g mode bank wanted e =
       group-in = ltb-true g 2 (unless-passes _ GroupOrPhase (d .0));
       columns = eqb-true (length wanted) (K .columns * chipsIn g n) (unless-passes _ RamLength (f .0));
     }
-
--- ---- a transfer to a group with a chip: commands each after 80, then 40 and data
-
-hears : (n : Chips) (g : ℕ) → g < 2 → 0 < chipsIn g n → heardBy n (addressOf g) ≡ To g
-unfolding heardBy
-hears n zero l h = rw (lt-ltb 0 (n .zero) h)
-hears n (suc zero) l h = rw (lt-ltb 0 (n .one) h)
-hears n (suc (suc g)) l h = absurd (omega arith)
-
--- the group once its commands are obeyed
-abbrev pub ready : Part → Chips → Both → List ℕ → ℕ → List ℕ → Registers → Group
-ready K n r ram g xs s = control (on (2 * length xs) s (begun (registersOf g r) (columnsOf K n g ram)))
-
-module _ (K : Part) (n : Chips) (r : Both) (ram : List ℕ) (es : checkState K n r ram ≡ Passed) (g : ℕ) (pg : g < 2) (some : 0 < chipsIn g n)
-    (xs ys : List ℕ) (s : Registers) (all : allDefined K xs ≡ true) (made : obeyedAll K xs (registersOf g r) ≡ s) (there : known (s .unknown) ≡ true)
-    (few : length (addressOf g ∷ eachAfter80 xs ++ (0x40 ∷ ys)) ≤ 4096) where
-  abbrev sends : List ℕ
-  sends = addressOf g ∷ eachAfter80 xs ++ (0x40 ∷ ys)
-
-  abbrev first : Group
-  first = begun (registersOf g r) (columnsOf K n g ram)
-
-  no-fault : faultIn K false (registersOf g r .unknown) Control 1 (eachAfter80 xs ++ (0x40 ∷ ys)) ≡ Passed
-  unfolding faultIn controlOf
-  no-fault = fault-commands K xs (0x40 ∷ ys) (registersOf g r) 1 all ∙ rw made (fault-data K (s .unknown) ys _ there)
-
-  passes : checkTransfer K n r ram (whole sends) ≡ Passed
-  unfolding checkTransfer checkSent checkLength checkBits within wholeOf
-  passes = rw (es, lt-ltb 0 (length sends) (omega arith), le-leb (length sends) 4096 few, hears n g pg some) no-fault
-
-  follows : heard K Control (eachAfter80 xs ++ (0x40 ∷ ys)) first ≡ heard K (All Kind.Data) ys (ready K n r ram g xs s)
-  unfolding heard controlOf
-  follows = heard-commands K xs (0x40 ∷ ys) first ∙ ap (λ (q : Registers). heard K (All Kind.Data) ys (control (on (2 * length xs) q first))) made
-
-  -- it is taken, and the group has heard the data
-  pub sent-to : transferCall K n r ram (whole sends) ≡ heardIn K n g r ram (heard K (All Kind.Data) ys (ready K n r ram g xs s))
-  unfolding transferCall wholeOf cutData
-  sent-to = rw (passes, hears n g pg some) (ap (heardIn K n g r ram) follows)
-
--- ---- how many data bytes, and what they count
-
-module _ (m size : ℕ) (pm : 0 < m) where
-  abbrev w : ℕ
-  w = widthOf m
-
-  -- size / w where that is all, and one more where a rest is left
-  even-bytes : size % w ≡ 0 → bytesFor m size ≡ size / w
-  even-bytes e =
-      let s : size + (w - 1) ≡ size / w * w + (w - 1) = omega (arith, div-add-mod' size w, e) in
-      ap (λ (k : ℕ). k / w) s ∙ digits-div (size / w) {m = w} {r = w - 1} (omega arith)
-
-  odd-bytes : size % w ≢ 0 → bytesFor m size ≡ suc (size / w)
-  odd-bytes ne =
-      let l : size % w < w = mod-lt size {m = w} (omega arith) in
-      let s : size + (w - 1) ≡ suc (size / w) * w + (size % w - 1) = omega (arith, div-add-mod' size w, ne) in
-      ap (λ (k : ℕ). k / w) s ∙ digits-div (suc (size / w)) {m = w} {r = size % w - 1} (omega arith)
-
-  -- from counts of the bytes before it
-  pub run-counts : (before : ℕ) → countedRun (bytesFor m size) m 0 size (record { acknowledged = before; stored = 0; discarded = 0 }) ≡ putCounts m size (before + bytesFor m size)
-  run-counts before =
-      let all : size - 0 ≡ size = omega arith in
-      counted-at-once (bytesFor m size) m 0 size _ pm
-      ∙ ⊎-elim
-      (λ (e : size % w ≡ 0).
-      let none : m * (size % w) ≡ 0 = ap (λ (k : ℕ). m * k) e ∙ mul-zero m in
-      rw (all, eq-eqb (size % w) 0 e, even-bytes e) (counts-alike _ _ (omega arith) (omega (arith, none)) (omega (arith, none))))
-      (λ (ne : size % w ≢ 0).
-      let rest : m * (size % w) < 8 = width-less m (size % w) pm (mod-lt size {m = w} (omega arith)) in
-      rw (all, ne-eqb (size % w) 0 ne, odd-bytes ne) (counts-alike _ _ (omega arith) (omega (arith, rest)) (omega (arith, rest))))
-      (equal-or-not (size % w) 0)
-
-  last-of : (K : Part) (j : ℕ) → lastRun K (suc j) m 0 size Acknowledger.None ≡ acknowledger K m (w * j) size
-  last-of K j = last-at-once K j m 0 size Acknowledger.None ∙ ap (λ (v : ℕ). acknowledger K m v size) (zero-add (w * j))
-
-  -- the last byte ends with the last column, or past it
-  by-rest : (K : Part) (c j : ℕ) → 0 < K .columns → size ≡ K .columns * suc c → bytesFor m size ≡ suc j → lastRun K (bytesFor m size) m 0 size Acknowledger.None ≡ putLast m size (suc c)
-  unfolding acknowledger
-  by-rest K c j pc es ej =
-      ap (λ (k : ℕ). lastRun K k m 0 size Acknowledger.None) ej ∙ last-of K j
-      ∙ ⊎-elim
-      (λ (e : size % w ≡ 0).
-      let q : size / w ≡ suc j = sym (even-bytes e) ∙ ej in
-      let all : w * suc j ≡ size = sym (ap (λ (k : ℕ). w * k) q) ∙ omega (arith, div-add-mod' size w, e) in
-      let ends : w * j + 7 / m ≡ c * K .columns + (K .columns - 1) = omega (arith, all) in
-      let chip : (w * j + 7 / m) / K .columns ≡ suc c - 1 = ap (λ (k : ℕ). k / K .columns) ends ∙ digits-div c {m = K .columns} {r = K .columns - 1} (omega arith) ∙ omega arith in
-      rw (eq-eqb (size % w) 0 e, lt-ltb (w * j + 7 / m) size (omega (arith, all)), chip))
-      (λ (ne : size % w ≢ 0).
-      let q : size / w ≡ j = omega (arith, odd-bytes ne, ej) in
-      let over : w * j + size % w ≡ size = sym (ap (λ (k : ℕ). w * k + size % w) q) ∙ omega (arith, div-add-mod' size w) in
-      rw (ne-eqb (size % w) 0 ne, le-ltb (w * j + 7 / m) size (omega (arith, over, mod-lt size {m = w} (omega arith)))))
-      (equal-or-not (size % w) 0)
-
-  pub run-last : (K : Part) (chips : ℕ) → 0 < K .columns → 0 < chips → size ≡ K .columns * chips → lastRun K (bytesFor m size) m 0 size Acknowledger.None ≡ putLast m size chips
-  run-last K zero pc ph es = absurd (omega arith)
-  run-last K (suc c) pc ph es =
-      let some : 0 < bytesFor m size = omega (arith, byte-there m 0 size (omega arith)) in
-      by-rest K c (bytesFor m size - 1) pc es (omega (arith, some))
 
 -- ---- the commands make the registers
 

@@ -5,7 +5,7 @@ use mathlib.Core.Logic.{⊎-elim, _≢_}
 use mathlib.Core.Bool.{Bool, true, false, _&&_, true≢false}
 use mathlib.Core.List.{List, [], _∷_, _++_}
 use Prim.Native.Nat.{ℕ, zero, suc, _+_, _-_, _*_, _/_, _%_, _^_, _≤_, _<_}
-use native.Mathlib.Nat.{add-zero, add-comm, mul-comm, zero-add, div-one, mod-lt, div-add-mod, div-add-mod', le-div-iff-mul-le, div-mul-le-self}
+use native.Mathlib.Nat.{add-zero, add-comm, mul-comm, zero-add, pow-suc, div-one, mod-lt, div-add-mod, div-add-mod', le-div-iff-mul-le, div-mul-le-self}
 use native.Mathlib.Omega.{arith}
 use lib.Arith.{digits-div, digits-mod}
 use lib.Dec.{leb, ltb}
@@ -22,8 +22,13 @@ use Rattle.laws.proofs.Rows.{within-width}
 
 -- ---- the bits of a byte
 
-bit-lt : (m b v : ℕ) (wanted : List ℕ) (k : ℕ) → bitFrom m b v wanted k < 2
+pub bit-lt : (m b v : ℕ) (wanted : List ℕ) (k : ℕ) → bitFrom m b v wanted k < 2
 bit-lt m b v wanted k = mod-lt (getD wanted (v + k / m) 0 / 2 ^ (b + k % m)) {m = 2} (omega arith)
+
+pub bits-lt : (n m b v : ℕ) (wanted : List ℕ) → bitsFrom n m b v wanted < 2 ^ n
+unfolding bitsFrom
+bits-lt zero m b v wanted = omega arith
+bits-lt (suc n) m b v wanted = rw (pow-suc 2 n) (omega (arith, bits-lt n m b v wanted, bit-lt m b v wanted n))
 
 -- of n bits, the one with d behind it
 bits-at : (n m b v : ℕ) (wanted : List ℕ) (d k : ℕ) → n ≡ suc k + d → bitsFrom n m b v wanted / 2 ^ d % 2 ≡ bitFrom m b v wanted k
