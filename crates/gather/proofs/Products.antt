@@ -1,10 +1,9 @@
 -- Four columns as one word, the rows of a bank kept: a product brings each column's rows side by side.
 -- Assumes nothing.
-use mathlib.Core.Path.{_≡_, refl, sym, ap, ap₂, _∙_}
+use mathlib.Core.Path.{_≡_, refl, ap, ap₂, _∙_}
 use mathlib.Core.Bool.{Bool, _&&_}
 use Prim.Native.Nat.{ℕ, zero, suc, _+_, _-_, _*_, _/_, _%_, _^_, _<_}
 use native.Mathlib.Nat.{mod-lt}
-use native.Mathlib.Omega.{arith}
 use lib.Bits.{bitAnd, and-zero-l, and-block, and-high}
 use lib.Dec.{T, eqb, eqb→eq, ltb, ltb→lt}
 use lib.Pow.{pow-pos}

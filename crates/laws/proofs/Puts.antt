@@ -1,76 +1,44 @@
 -- The transfer for wanted rows puts them there: it is taken from any valid registers, its run lands on the rows that it reaches, and everything else stays.
 -- Assumes nothing.
 use mathlib.Core.Path.{_≡_, refl, sym, ap, ap₂, subst, _∙_}
-use mathlib.Core.Logic.{⊎-elim, _≢_}
-use mathlib.Core.Bool.{Bool, true, false, cond, _&&_, true≢false}
+use mathlib.Core.Logic.{_≢_}
+use mathlib.Core.Bool.{true, false, cond, _&&_, true≢false}
 use mathlib.Core.List.{List, [], _∷_, _++_}
-use Prim.Native.Nat.{ℕ, zero, suc, _+_, _-_, _*_, _/_, _%_, _≤_, _<_, zero-le}
-use native.Mathlib.Nat.{add-zero, zero-add, mul-zero, mul-comm, mul-le-mul-left, mod-lt, div-add-mod', div-le-self}
+use Prim.Native.Nat.{ℕ, _+_, _-_, _*_, _/_, _%_, _≤_, _<_, zero-le}
+use native.Mathlib.Nat.{zero-add, mul-zero, mul-le-mul-left, div-le-self}
 use native.Mathlib.Omega.{arith}
-use lib.Arith.{digits-div}
-use lib.Dec.{eqb, ltb, leb}
-use lib.ListN.{length, getD, take, drop, length-append, length-take, length-drop}
-use borrow.Author.Tests.{eq-eqb, ne-eqb, lt-ltb, le-ltb, le-leb, ltb-true, eqb-true}
-use Rattle.lemmas.proofs.Order.{equal-or-not}
-use Rattle.lemmas.proofs.Tests.{both-true}
+use lib.Dec.{eqb}
+use lib.ListN.{length, getD, length-append, length-take, length-drop}
+use borrow.Author.Tests.{ne-eqb}
 use Rattle.sheet.specs.declared.Registers.{Registers}
 use Rattle.sheet.specs.declared.Both.{Both}
 use Rattle.sheet.specs.declared.Chips.{Chips}
-use Rattle.sheet.specs.declared.Counts.{Counts}
 use Rattle.sheet.specs.declared.Acknowledger.{Acknowledger}
 use Rattle.sheet.specs.declared.Answer.{Answer}
-use Rattle.sheet.specs.declared.Addressed.the-variants.{To}
-use Rattle.sheet.specs.declared.Kind.{Kind}
-use Rattle.sheet.specs.declared.Expect.the-variants.{Control, All}
 use Rattle.sheet.specs.declared.Command.the-variants.{ModeSet, BankSelect}
-use Rattle.sheet.specs.declared.Refusal.the-variants.{RamLength, Register, GroupOrPhase}
 use Rattle.sheet.specs.declared.Check.the-variants.{Passed}
-use Rattle.sheet.specs.Parts.{Part, within, partOf}
-use Rattle.sheet.specs.Registers.{known, backplanes, bankRow, registersOf}
+use Rattle.sheet.specs.Parts.{Part, partOf}
+use Rattle.sheet.specs.Registers.{backplanes, bankRow, registersOf}
 use Rattle.sheet.specs.Commands.{defined, obeyed, obeyedAll, allDefined}
-use Rattle.sheet.specs.Protocol.{addressOf, heardBy, chipsIn, controlOf, Sent, whole, wholeOf, cutData}
-use Rattle.sheet.specs.Checks.{unless, checkChips, checkRegisters, overIn, checkLength, checkBits, checkSent, faultIn, checkState, checkTransfer}
+use Rattle.sheet.specs.Protocol.{addressOf, chipsIn, whole}
+use Rattle.sheet.specs.Checks.{checkState}
 use Rattle.sheet.specs.Places.{position, atPosition}
-use Rattle.sheet.specs.Data.{bitOf, rowOf, widthOf, acknowledger}
+use Rattle.sheet.specs.Data.{bitOf, rowOf, widthOf}
 use Rattle.sheet.specs.Runs.{putRun, lastRun, countedRun}
-use Rattle.sheet.specs.Long.{Group, After, begun, control, heard, replaced, startOf, columnsOf, withColumns, heardIn, transferCall}
+use Rattle.sheet.specs.Long.{After, replaced, columnsOf, heardIn, transferCall}
 use Rattle.sheet.specs.Writer.{eachAfter80, settings, modeSetOf, bankSelectOf, setTo, bytesFor, dataFrom, dataOf, rowsTransfer, checkWanted}
 use Rattle.sheet.specs.Puts.{Settable, reaches, putCounts, putLast, Puts, AlikeWhere, WritesRows, ClaimRows}
 use Rattle.laws.proofs.Ranges.{planes-pos}
-use Rattle.laws.proofs.Fits.{Fits, both-pass, unless-passes, fits-of}
-use Rattle.laws.proofs.Lens.{range-of-group, few-chips-in, ends-in-ram, length-columns, own-columns, other-columns}
+use Rattle.laws.proofs.Fits.{Fits, fits-of}
+use Rattle.laws.proofs.Lens.{ends-in-ram, length-columns, own-columns, other-columns}
 use Rattle.laws.proofs.Runs.{length-run, ran, run-at-once}
 use Rattle.laws.proofs.Rows.{run-lands}
+use Rattle.laws.proofs.Asked.{Asked, asked-of}
 use Rattle.laws.proofs.Sending.{ready, sent-to}
 use Rattle.laws.proofs.Enough.{run-counts, run-last}
 use Rattle.laws.proofs.Settables.{part-settable}
-use Rattle.laws.proofs.Named.{of-both, ram-small}
+use Rattle.laws.proofs.Named.{pointer-bytes, ram-small}
 use Rattle.laws.proofs.Wanted.{length-data, data-at, bit-at, Bit, reached, reached-by, byte-there, same-data}
-
--- ---- the checks
-
--- what wanted rows that pass are known to be
-pub record Asked (K : Part) (n : Chips) (g mode bank : ℕ) (wanted : List ℕ) : Type 0 where
-  pub mode-in : mode < 4
-  pub bank-in : bank < 2
-  pub group-in : g < 2
-  pub columns : length wanted ≡ K .columns * chipsIn g n
-
-pub asked-of : (K : Part) (n : Chips) (r : Both) (g mode bank : ℕ) (wanted : List ℕ) → checkWanted K n r g mode bank wanted ≡ Passed → Asked K n g mode bank wanted
-unfolding checkWanted
-asked-of K n r g mode bank wanted e =
-    let a = both-pass (checkChips K n) _ e in
-    let b = both-pass (checkRegisters K r) _ (a .1) in
-    let c = both-pass (unless (ltb mode 4 && ltb bank 2) Register) _ (b .1) in
-    let d = both-pass (unless (ltb g 2) GroupOrPhase) _ (c .1) in
-    let f = both-pass (unless (eqb (length wanted) (K .columns * chipsIn g n)) RamLength) (overIn 0 wanted) (d .1) in
-    let both = both-true (ltb mode 4) (ltb bank 2) (unless-passes _ Register (c .0)) in
-    record {
-      mode-in = ltb-true mode 4 (both .0);
-      bank-in = ltb-true bank 2 (both .1);
-      group-in = ltb-true g 2 (unless-passes _ GroupOrPhase (d .0));
-      columns = eqb-true (length wanted) (K .columns * chipsIn g n) (unless-passes _ RamLength (f .0));
-    }
 
 -- ---- the commands make the registers
 
@@ -96,13 +64,17 @@ length-each (x ∷ xs) = omega (arith, length-each xs)
 length-of : (K : Part) (r : Registers) (mode bank address : ℕ) (ys : List ℕ) → length (address ∷ eachAfter80 (settings K r mode bank) ++ (0x40 ∷ ys)) ≡ 8 + 2 * length (K .pointer 0) + length ys
 length-of K r mode bank address ys = omega (arith, length-append (eachAfter80 (settings K r mode bank)) (0x40 ∷ ys), length-each (settings K r mode bank))
 
+-- to a group with a chip
+pub is-rows : (K : Part) (n : Chips) (r : Both) (g mode bank : ℕ) (wanted : List ℕ) → 0 < chipsIn g n
+    → rowsTransfer K n r g mode bank wanted ≡ addressOf g ∷ eachAfter80 (settings K (registersOf g r) mode bank) ++ (0x40 ∷ dataOf (setTo mode bank (registersOf g r)) wanted)
+unfolding rowsTransfer
+is-rows K n r g mode bank wanted some = rw (ne-eqb (chipsIn g n) 0 (omega arith))
+
 pub length-rows : (K : Part) (n : Chips) (r : Both) (g mode bank : ℕ) (wanted : List ℕ) → 0 < chipsIn g n
     → length (rowsTransfer K n r g mode bank wanted) ≡ 8 + 2 * length (K .pointer 0) + bytesFor (backplanes (setTo mode bank (registersOf g r))) (length wanted)
-unfolding rowsTransfer
 length-rows K n r g mode bank wanted some =
     let s = setTo mode bank (registersOf g r) in
-    rw (ne-eqb (chipsIn g n) 0 (omega arith))
-    (length-of K (registersOf g r) mode bank (addressOf g) (dataOf s wanted) ∙ ap (λ (k : ℕ). 8 + 2 * length (K .pointer 0) + k) (length-data (bytesFor (backplanes s) (length wanted)) (backplanes s) _ wanted))
+    ap length (is-rows K n r g mode bank wanted some) ∙ (length-of K (registersOf g r) mode bank (addressOf g) (dataOf s wanted) ∙ ap (λ (k : ℕ). 8 + 2 * length (K .pointer 0) + k) (length-data (bytesFor (backplanes s) (length wanted)) (backplanes s) _ wanted))
 
 -- ---- the law
 
@@ -132,7 +104,7 @@ module _ (K : Part) (u : Settable K) (n : Chips) (r : Both) (ram : List ℕ) (g 
   abbrev bytes : List ℕ
   bytes = addressOf g ∷ eachAfter80 commands ++ (0x40 ∷ rows)
 
-  asked : Asked K n g mode bank wanted
+  asked : Asked K n r g mode bank wanted
   asked = asked-of K n r g mode bank wanted ew
 
   fits : Fits K n r ram
@@ -146,8 +118,7 @@ module _ (K : Part) (u : Settable K) (n : Chips) (r : Both) (ram : List ℕ) (g 
   at-zero = omega (arith, mul-zero (K .columns))
 
   is-bytes : rowsTransfer K n r g mode bank wanted ≡ bytes
-  unfolding rowsTransfer
-  is-bytes = rw (ne-eqb (chipsIn g n) 0 (omega arith))
+  is-bytes = is-rows K n r g mode bank wanted some
 
   length-data-rows : length rows ≡ bytesFor m (length wanted)
   length-data-rows = length-data (bytesFor m (length wanted)) m b wanted
@@ -156,7 +127,7 @@ module _ (K : Part) (u : Settable K) (n : Chips) (r : Both) (ram : List ℕ) (g 
   length-bytes = omega (arith, length-append (eachAfter80 commands) (0x40 ∷ rows), length-each commands, length-data-rows)
 
   few-columns : length columns ≤ K .columns * K .limit
-  few-columns = omega (arith, length-columns K n r ram fits g, mul-le-mul-left (K .columns) (few-chips-in K n r ram fits g))
+  few-columns = omega (arith, length-columns K n r ram fits g, mul-le-mul-left (K .columns) (asked .few))
 
   -- the run from column 0
   abbrev run : List ℕ
@@ -171,7 +142,7 @@ module _ (K : Part) (u : Settable K) (n : Chips) (r : Both) (ram : List ℕ) (g 
 
     is-called : called ≡ heardIn K n g r ram (ran K rows (ready K n r ram g commands s))
     is-called =
-        let range = range-of-group K n r ram fits g in
+        let range = asked .own-in in
         sent-to K n r ram es g (asked .group-in) some commands rows s
         (all-defined K u mode bank own (range .e-in) (range .b-in) (range .o-in) (asked .mode-in) (asked .bank-in))
         (set-all K u mode bank own (range .e-in) (range .b-in) (range .o-in) (asked .mode-in) (asked .bank-in))
@@ -259,7 +230,7 @@ part-writes-rows part = writes-rows (partOf part) (part-settable part)
 
 -- and a transfer to at most 640 columns is short
 short : (part m size : ℕ) → size ≤ 640 → 8 + 2 * length (partOf part .pointer 0) + bytesFor m size ≤ 4096
-short part m size h = omega (arith, of-both (λ K. length (K .pointer 0) ≤ 2) part (omega arith) (omega arith), div-le-self (size + (widthOf m - 1)) (widthOf m), div-le-self 7 m)
+short part m size h = omega (arith, pointer-bytes part .1, div-le-self (size + (widthOf m - 1)) (widthOf m), div-le-self 7 m)
 
 pub part-puts : (part : ℕ) (n : Chips) (r : Both) (ram : List ℕ) (g mode bank : ℕ) (wanted : List ℕ) → checkState (partOf part) n r ram ≡ Passed
     → checkWanted (partOf part) n r g mode bank wanted ≡ Passed → 0 < chipsIn g n
@@ -267,7 +238,7 @@ pub part-puts : (part : ℕ) (n : Chips) (r : Both) (ram : List ℕ) (g mode ban
     let transfer = rowsTransfer (partOf part) n r g mode bank wanted in
     Puts (partOf part) n r ram g mode bank wanted (backplanes s) (bankRow (backplanes s) bank) transfer (transferCall (partOf part) n r ram (whole transfer))
 part-puts part n r ram g mode bank wanted es ew some =
-    let few = few-chips-in (partOf part) n r ram (fits-of (partOf part) n r ram es) g in
+    let asked = asked-of (partOf part) n r g mode bank wanted ew in
     part-writes-rows part .puts n r ram g mode bank wanted es ew some
     (rw (length-rows (partOf part) n r g mode bank wanted some)
-    (short part _ (length wanted) (rw (asked-of (partOf part) n r g mode bank wanted ew .columns) (ram-small part (chipsIn g n) few))))
+    (short part _ (length wanted) (rw (asked .columns) (ram-small part (chipsIn g n) (asked .few)))))

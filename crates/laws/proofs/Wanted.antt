@@ -2,10 +2,10 @@
 -- Assumes nothing.
 use mathlib.Core.Path.{_≡_, refl, sym, ap, ap₂, _∙_}
 use mathlib.Core.Logic.{⊎-elim, _≢_}
-use mathlib.Core.Bool.{Bool, true, false, _&&_, true≢false}
+use mathlib.Core.Bool.{true}
 use mathlib.Core.List.{List, [], _∷_, _++_}
 use Prim.Native.Nat.{ℕ, zero, suc, _+_, _-_, _*_, _/_, _%_, _^_, _≤_, _<_}
-use native.Mathlib.Nat.{add-zero, add-comm, mul-comm, zero-add, pow-suc, div-one, mod-lt, div-add-mod, div-add-mod', le-div-iff-mul-le, div-mul-le-self}
+use native.Mathlib.Nat.{add-comm, mul-comm, pow-suc, div-one, mod-lt, div-add-mod, le-div-iff-mul-le, div-mul-le-self}
 use native.Mathlib.Omega.{arith}
 use lib.Arith.{digits-div, digits-mod}
 use lib.Dec.{leb, ltb}
@@ -15,7 +15,7 @@ use lib.Seq.{getD-append-seam}
 use borrow.Author.Tests.{le-leb, lt-ltb, leb-true, ltb-true}
 use Rattle.lemmas.proofs.Order.{equal-or-not}
 use Rattle.lemmas.proofs.Tests.{both-true}
-use Rattle.sheet.specs.Data.{bitOf, rowOf, widthOf}
+use Rattle.sheet.specs.Data.{bitOf, widthOf}
 use Rattle.sheet.specs.Writer.{bitFrom, bitsFrom, dataFrom, bytesFor}
 use Rattle.sheet.specs.Puts.{reaches, AlikeWhere}
 use Rattle.laws.proofs.Rows.{within-width}

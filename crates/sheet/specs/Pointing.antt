@@ -1,9 +1,7 @@
 -- Computed of both parts: the command bytes that a part has for a column make P that column, wherever P was, and leave A.
 use Prim.Native.Nat.{ℕ, zero, suc}
 use mathlib.Core.Bool.{Bool, true, _&&_}
-use mathlib.Core.List.{List, [], _∷_}
 use lib.Dec.{T, eqb}
-use Rattle.sheet.specs.declared.Registers.{Registers}
 use Rattle.sheet.specs.Parts.{Part, within, commandIn, pcf8532, pca85133}
 use Rattle.sheet.specs.Registers.{powerOn, atPlace}
 use Rattle.sheet.specs.Commands.{obeyedAll}

@@ -10,12 +10,12 @@ use Rattle.sheet.specs.declared.Both.{Both}
 use Rattle.sheet.specs.declared.Chips.{Chips}
 use Rattle.sheet.specs.declared.Check.{Check}
 use Rattle.sheet.specs.declared.Check.the-variants.{Passed, Refused}
-use Rattle.sheet.specs.declared.Refusal.the-variants.{RamLength, Register, GroupOrPhase, OutputLength}
+use Rattle.sheet.specs.declared.Refusal.the-variants.{Register, GroupOrPhase, OutputLength}
 use Rattle.sheet.specs.declared.Written.{Written}
 use Rattle.sheet.specs.Parts.{Part, partOf}
 use Rattle.sheet.specs.Registers.{marked, backplanes, bankRow, registersOf}
 use Rattle.sheet.specs.Protocol.{addressOf, chipsIn}
-use Rattle.sheet.specs.Checks.{unless, orElse, checkPart, checkChips, checkRegisters, overIn}
+use Rattle.sheet.specs.Checks.{unless, orElse, checkPart, checkChips, checkRegisters, checkColumns}
 use Rattle.sheet.specs.Data.{rowOf, widthOf}
 
 -- ---- the commands
@@ -77,7 +77,7 @@ rowsTransfer K n r g mode bank wanted =
 unfoldable pub checkWanted : Part → Chips → Both → ℕ → ℕ → ℕ → List ℕ → Check
 checkWanted K n r g mode bank wanted =
     orElse (checkChips K n) (orElse (checkRegisters K r) (orElse (unless (ltb mode 4 && ltb bank 2) Register)
-    (orElse (unless (ltb g 2) GroupOrPhase) (orElse (unless (eqb (length wanted) (K .columns * chipsIn g n)) RamLength) (overIn 0 wanted)))))
+    (orElse (unless (ltb g 2) GroupOrPhase) (checkColumns (K .columns * chipsIn g n) wanted))))
 
 -- then 9 for an output shorter than the transfer
 abbrev pub checkRoom : List ℕ → ℕ → Check

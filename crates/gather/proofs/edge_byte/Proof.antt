@@ -1,15 +1,14 @@
 -- `gather::edge_byte` meets its contract: after k turns it has the first k bits.
 -- Assumes nothing.
 use mathlib.Core.Path.{_≡_, refl, ap, ap₂, _∙_}
-use Prim.Native.Nat.{ℕ, suc, _+_, _-_, _*_, _/_, _%_, _^_, _≤_, _<_}
+use Prim.Native.Nat.{ℕ, _+_, _-_, _*_, _/_, _%_, _^_, _≤_, _<_}
 use native.Mathlib.Nat.{mod-lt, div-le-self, lt-of-lt-of-le}
 use native.Mathlib.Numerals.{add-one}
 use native.Mathlib.Omega.{arith}
 use lib.Pow.{pow-mono}
-use lib.ListN.{getD}
 use denote.Ref.{now}
-use Rattle.sheet.specs.Writer.{bitFrom, bitsFrom}
-use Rattle.laws.proofs.Wanted.{bit-lt, bits-lt}
+use Rattle.sheet.specs.Writer.{bitsFrom}
+use Rattle.laws.proofs.Wanted.{bits-lt}
 use borrow.Author.Needs.{needs}
 use Rattle.gather.proofs.edge_byte.Statement.{statement}
 use Rattle.gather.proofs.edge_byte.Tie as tie

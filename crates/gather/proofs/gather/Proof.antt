@@ -3,10 +3,10 @@
 use mathlib.Core.Path.{_≡_, sym, ap, ap₂, _∙_}
 use mathlib.Core.Logic.{⊎-elim, _≢_}
 use mathlib.Core.List.{List, [], _∷_, _++_, append-nil}
-use Prim.Native.Nat.{ℕ, suc, _+_, _*_, _/_, _%_, _^_, _≤_, _<_}
+use Prim.Native.Nat.{ℕ, suc, _+_, _*_, _/_, _%_, _≤_, _<_}
 use native.Mathlib.Nat.{div-mul-le-self}
 use native.Mathlib.Omega.{arith}
-use lib.ListN.{length, set, take, drop, length-set, length-append, length-drop, drop-of-length-le}
+use lib.ListN.{length, set, drop, length-set, length-append, length-drop, drop-of-length-le}
 use lib.Seq.{length-take-le, take-all, take-at, take-suc-set}
 use denote.Ref.{now}
 use Rattle.lemmas.proofs.Order.{equal-or-not}

@@ -1,10 +1,9 @@
 -- `gather::static_byte` meets its contract.
 -- Assumes nothing.
-use mathlib.Core.Path.{_≡_, ap₂, _∙_}
+use mathlib.Core.Path.{ap₂, _∙_}
 use Prim.Native.Nat.{ℕ, _+_, _*_, _<_}
 use native.Mathlib.Omega.{arith}
 use denote.Ref.{now}
-use Rattle.gather.specs.Lows.{lowBits}
 use Rattle.gather.proofs.Lows.{low-lt, low-eight, turned}
 use borrow.Author.Needs.{needs}
 use Rattle.gather.proofs.static_byte.Statement.{statement}

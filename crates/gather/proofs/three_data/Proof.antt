@@ -1,6 +1,6 @@
 -- `gather::three_data` meets its contract: after j turns the first j bytes are there.
 -- Assumes nothing.
-use Prim.Native.Nat.{_-_, _*_}
+use Prim.Native.Nat.{_-_}
 use native.Mathlib.Omega.{arith}
 use lib.ListN.{length}
 use Rattle.gather.proofs.Gathering.{Gathering, begun, turn, done}
