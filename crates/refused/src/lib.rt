@@ -39,7 +39,10 @@ fn check_columns(size: usize, columns: &[u8]) -> Check
 fn check_ram(part: u8, chips: Chips, ram: &[u8]) -> Check
     ensures { λ r. ⌜ r ≡ checkRam (partOf part) chips (now (ram .entry)) ⌝ }
 {
-    check_columns(arithmetic::columns_in(part, chips.zero as u16 + chips.one as u16), ram)
+    check_columns(
+        arithmetic::columns_in(part, chips.zero as u16 + chips.one as u16),
+        ram,
+    )
 }
 
 // What every call begins with: 16, 3.

@@ -1,6 +1,6 @@
 -- `writer::put_rows` meets its contract: the head, then the data.
 -- Assumes nothing.
-use mathlib.Core.Path.{_≡_, refl, sym, ap, ap₂, _∙_}
+use mathlib.Core.Path.{_≡_, sym, ap, ap₂, _∙_}
 use mathlib.Core.List.{List, [], _∷_, _++_, append-assoc}
 use Prim.Native.Nat.{ℕ, _+_, _-_, _≤_}
 use native.Mathlib.Omega.{arith}
@@ -8,20 +8,15 @@ use lib.ListN.{length, take, drop, length-drop}
 use lib.Seq.{length-take-le, drop-at}
 use denote.Ref.{now}
 use Rattle.lemmas.proofs.Lists.{part-rest, after-first}
-use Rattle.sheet.specs.declared.Registers.{Registers}
 use Rattle.sheet.specs.Parts.{partOf}
 use Rattle.sheet.specs.Registers.{backplanes, bankRow}
 use Rattle.sheet.specs.Protocol.{addressOf}
 use Rattle.sheet.specs.Writer.{eachAfter80, settings, setTo, bytesFor, dataFrom, dataOf}
 use Rattle.laws.proofs.Ranges.{rows-fit}
+use Rattle.writer.proofs.Planes.{by-mode}
 use borrow.Author.Needs.{needs}
 use Rattle.writer.proofs.put_rows.Statement.{statement}
 use Rattle.writer.proofs.put_rows.Tie as tie
-
--- backplanes go by M alone
-same : (mode bank : ℕ) (r : Registers) → backplanes (setTo mode 0 r) ≡ backplanes (setTo mode bank r)
-unfolding backplanes
-same mode bank r = refl
 
 -- the head fits, and is as long as its place
 fits : (c : tie.After-head-size) → let s = c .before .before .before in c .head-size .result ≤ length (now (s .args .out))
@@ -63,11 +58,11 @@ returns c = let g = c .before .before in
     let d = g .before .before .before .before in
     let h = d .before .before .before in
     let a = h .before .before .before .args in
-    let m = d .before .before .backplanes-of .ensures ∙ same (a .mode) (a .bank) (a .registers) in
+    let m = d .before .before .backplanes-of .ensures ∙ by-mode (a .mode) (a .bank) (a .registers) in
     let wanted = now (a .wanted) in
     after-first (d .put-head .last .1 .1 .1 .1 .1 .0) (drop (h .head-size .result) (now (a .out))) (g .gather .last .1 .1 .1 .0) (h .head-size .result) (head-long d)
     ∙ ap₂ (λ (x y : List ℕ). x ++ y) (d .put-head .ensures)
-    (g .gather .ensures ∙ ap₂ (λ (n k : ℕ). dataFrom n k (bankRow k (a .bank)) wanted) (left-long d ∙ ap (λ (k : ℕ). bytesFor k (length wanted)) (same (a .mode) (a .bank) (a .registers))) m)
+    (g .gather .ensures ∙ ap₂ (λ (n k : ℕ). dataFrom n k (bankRow k (a .bank)) wanted) (left-long d ∙ ap (λ (k : ℕ). bytesFor k (length wanted)) (by-mode (a .mode) (a .bank) (a .registers))) m)
     ∙ append-assoc (addressOf (a .group) ∷ eachAfter80 (settings (partOf (a .part)) (a .registers) (a .mode) (a .bank))) (0x40 ∷ []) (dataOf (setTo (a .mode) (a .bank) (a .registers)) wanted)
 
 pub put-rows-spec : {M : Type 1} → statement M

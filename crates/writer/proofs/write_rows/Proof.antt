@@ -1,14 +1,13 @@
 -- `writer::write_rows` meets its contract: refused, nothing for no chip, or the transfer at the start of the output.
 -- Assumes nothing.
 use mathlib.Core.Path.{_≡_, refl, sym, ap, ap₂, _∙_}
-use mathlib.Core.Bool.{cond}
 use mathlib.Core.List.{List, [], _∷_, _++_}
-use Prim.Native.Nat.{ℕ, _+_, _*_, _^_, _≤_, _<_}
+use Prim.Native.Nat.{ℕ, _+_, _*_, _≤_, _<_}
 use native.Mathlib.Omega.{arith}
-use lib.Dec.{eqb, leb}
+use lib.Dec.{leb}
 use lib.ListN.{length, drop}
 use lib.Seq.{length-take-le}
-use borrow.Author.Tests.{eq-eqb, ne-eqb, le-leb, lt-leb}
+use borrow.Author.Tests.{eq-eqb, le-leb, lt-leb}
 use denote.Ref.{now}
 use Rattle.sheet.specs.declared.Registers.{Registers}
 use Rattle.sheet.specs.declared.Both.{Both}
@@ -30,6 +29,7 @@ use Rattle.laws.proofs.Named.{ram-small}
 use Rattle.laws.proofs.Ranges.{planes-pos}
 use Rattle.laws.proofs.Asked.{Asked, asked-of}
 use Rattle.laws.proofs.Puts.{length-rows, is-rows}
+use Rattle.writer.proofs.Planes.{by-mode}
 use borrow.Author.Needs.{needs}
 use Rattle.writer.proofs.write_rows.Statement.{statement}
 use Rattle.writer.proofs.write_rows.Tie as tie
@@ -87,10 +87,6 @@ own-is c = let s = c .before .before in
     let a = s .before .before .before .before .before .before .before .before .args in
     c .before .backplanes-of .ensures ∙ ap (λ (r : Registers). backplanes (setTo (a .mode) 0 r)) (s .registers-of .ensures)
 
-same : (mode bank : ℕ) (r : Registers) → backplanes (setTo mode 0 r) ≡ backplanes (setTo mode bank r)
-unfolding backplanes
-same mode bank r = refl
-
 size-is : (c : tie.After-rows-size) → let s = c .before .before in
     let a = s .before .before .before .before .before .before .before .before .args in
     c .rows-size .result ≡ length (rowsTransfer (partOf (a .part)) (a .chips) (a .registers) (a .group) (a .mode) (a .bank) (now (a .wanted)))
@@ -98,7 +94,7 @@ size-is c = let s = c .before .before in
     let a = s .before .before .before .before .before .before .before .before .args in
     let wanted = now (a .wanted) in
     c .rows-size .ensures
-    ∙ ap (λ (m : ℕ). 8 + 2 * length (partOf (a .part) .pointer 0) + bytesFor m (length wanted)) (own-is c ∙ same (a .mode) (a .bank) (registersOf (a .group) (a .registers)))
+    ∙ ap (λ (m : ℕ). 8 + 2 * length (partOf (a .part) .pointer 0) + bytesFor m (length wanted)) (own-is c ∙ by-mode (a .mode) (a .bank) (registersOf (a .group) (a .registers)))
     ∙ sym (length-rows (partOf (a .part)) (a .chips) (a .registers) (a .group) (a .mode) (a .bank) wanted (some s))
 
 returns : tie.Need-returns
@@ -130,8 +126,7 @@ put-rows-requires c κs = let z = c .before .before in
     let a = t .before .before .before .before .before .args in
     let asked = asks t in
     let own = asked .own-in in
-    let e = o .registers-of .ensures in
-    (
+    let e = o .registers-of .ensures in (
       record { group-in = asked .group-in; e-in = rw e (own .e-in); b-in = rw e (own .b-in); o-in = rw e (own .o-in); mode-in = asked .mode-in; bank-in = asked .bank-in },
       record {
         size =
