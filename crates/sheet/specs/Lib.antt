@@ -31,3 +31,4 @@ pub mod Orders
 pub mod Worked
 pub mod Rescuing
 pub mod Merging
+pub mod Writings
