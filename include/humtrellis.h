@@ -14,6 +14,7 @@
  *             Of a PCA85133 bytes 80 to 159 are neither checked nor read nor changed.
  * Transfer    its bytes, and the bits of the last one that came: HUMTRELLIS_WHOLE, or 1 to 7 where the cable was pulled. A byte so cut is not
  *             acknowledged, counted or checked for 7 and 17, and does nothing; but a cut data byte that chips hear makes their pointer and counter unknown.
+ * Wanted rows the part's columns for each chip of one group, a byte a column as in the RAM.
  * Picture     the part's columns for each chip of the group shown. A byte is a column; bit r is the element on backplane r.
  * Answer      six numbers, in the order of enum humtrellis_answer.
  *
@@ -31,7 +32,7 @@
 #include <stddef.h>
 #include <stdint.h>
 
-#define HUMTRELLIS_VERSION 4 /* of these sizes and calls; docs/C.md says what changed */
+#define HUMTRELLIS_VERSION 5 /* of these sizes and calls; docs/C.md says what changed */
 #define HUMTRELLIS_PCF8532 0 /* the parts */
 #define HUMTRELLIS_PCA85133 1
 #define HUMTRELLIS_COLUMNS 160         /* of a chip: its bytes in the RAM and in a picture */
@@ -43,6 +44,7 @@
 #define HUMTRELLIS_NONE 4          /* what HUMTRELLIS_ACKNOWLEDGED_BY holds where no chip did; with refusal 16 too */
 #define HUMTRELLIS_PCA85133_NONE 8 /* of a PCA85133 */
 #define HUMTRELLIS_SIZE 255
+#define HUMTRELLIS_ROWS 332    /* bytes that hold any transfer of humtrellis_write_rows */
 #define HUMTRELLIS_TEXT 700000 /* bytes that hold the text of any log */
 
 #define HUMTRELLIS_CHIP 174
@@ -74,6 +76,7 @@ enum humtrellis_answer {
     HUMTRELLIS_PLACE = 1,        /* of a refusal; 0 unless said */
     HUMTRELLIS_ACKNOWLEDGED = 2, /* bytes; a transfer and a plain transfer */
     HUMTRELLIS_LIT = 2,          /* elements; a picture */
+    HUMTRELLIS_WRITTEN = 2,      /* bytes; a writer */
     HUMTRELLIS_STORED = 3,       /* bits; a transfer */
     HUMTRELLIS_DISCARDED = 4,    /* bits past the group's last chip; a transfer */
     HUMTRELLIS_RECORDS_KEPT = 2,   /* a rescue */
@@ -89,12 +92,12 @@ enum humtrellis_refusal {
     HUMTRELLIS_REFUSED_EMPTY_TRANSFER = 1,
     HUMTRELLIS_REFUSED_LONG_TRANSFER = 2, /* over 4,096 bytes */
     HUMTRELLIS_REFUSED_CHIP_COUNT = 3,    /* over 4 in a group; PCA85133: over 8 */
-    HUMTRELLIS_REFUSED_RAM_LENGTH = 4,    /* not the part's columns for each chip of both groups */
-    HUMTRELLIS_REFUSED_COLUMN = 5,        /* a RAM byte over 15; place: the first */
-    HUMTRELLIS_REFUSED_REGISTER = 6,      /* out of range, in either group */
+    HUMTRELLIS_REFUSED_RAM_LENGTH = 4,    /* not the part's columns for each chip of both groups; of wanted rows, of the group */
+    HUMTRELLIS_REFUSED_COLUMN = 5,        /* a byte of the RAM or of wanted rows over 15; place: the first */
+    HUMTRELLIS_REFUSED_REGISTER = 6,      /* out of range, in either group; also a wanted mode over 3 or bank over 1 */
     HUMTRELLIS_REFUSED_COMMAND = 7,       /* undefined, in a transfer that a chip hears; place: the first, the address is byte 0 */
     HUMTRELLIS_REFUSED_VIEW = 8,          /* group or phase over 1 */
-    HUMTRELLIS_REFUSED_OUT_LENGTH = 9,    /* not the part's columns for each chip shown; of a rescue, shorter than the log */
+    HUMTRELLIS_REFUSED_OUT_LENGTH = 9,    /* not the part's columns for each chip shown; of a rescue, shorter than the log; of a writer, than its transfer */
     HUMTRELLIS_REFUSED_CHIP_LIST = 10,    /* more than 8 plain chips; PCA85133: more than 16 */
     HUMTRELLIS_REFUSED_CHIP = 11,         /* a field or column of a plain chip out of range; place: the first such chip */
     HUMTRELLIS_REFUSED_LOG = 12,          /* under 3 bytes or version not 1 or 2; this, the next two and 20 stand in a log's text */
@@ -139,6 +142,14 @@ uint8_t humtrellis_chip_power_on(uint8_t part, uint8_t *chip, size_t chip_length
 /* The lit elements of one plain chip at a blink phase into as many bytes as the part has columns. Answer: number, place, lit, 0, 0, 0. Refusals: 16, 11 with place 0, 8, 9. */
 uint8_t humtrellis_chip_picture(uint8_t part, const uint8_t *chip, size_t chip_length, uint8_t phase,
                                 uint8_t *out, size_t out_length, size_t *answer, size_t answer_length);
+
+/* From picture to bus bytes: one whole transfer that puts a group's wanted rows into its RAM from any valid registers, unknown marks too, at the front of `out`;
+ * the bytes behind it stay. `mode` (M as in the registers) and `bank` (I) are what the transfer sets; E, B, O and blinking stay as `registers` has them.
+ * Rows that the mode and bank do not reach are ignored; in 1:3 also row 2 of each data byte's third column. All its bytes are acknowledged but a last data byte that
+ * reaches past the last column. A group with no chip gets 0 bytes. Answer: number, place, written, 0, 0, 0. Refusals: 16, 3, 6, 8, 4, 5, then 9 for `out` shorter than the transfer. */
+uint8_t humtrellis_write_rows(uint8_t part, uint8_t chips0, uint8_t chips1, const uint8_t *registers, size_t registers_length,
+                              uint8_t group, uint8_t mode, uint8_t bank, const uint8_t *wanted, size_t wanted_length,
+                              uint8_t *out, size_t out_length, size_t *answer, size_t answer_length);
 
 /* What is whole of a torn bus log, its head and the records before the first tear, at the front of `out`; the bytes behind it stay.
  * Answer: number, place, records kept, bytes kept, bytes dropped, offset of the tear. Refusals: 14, 12, 3, then 9 for `out` shorter than `log`. */

@@ -11,7 +11,7 @@ static int failures = 0;
 /* A bus of one PCF8532 in each group, or of four PCA85133 in group 0. */
 enum { RAM = 2 * HUMTRELLIS_COLUMNS };
 static uint8_t registers[HUMTRELLIS_REGISTERS], ram[RAM], picture[HUMTRELLIS_COLUMNS], chips[17 * HUMTRELLIS_CHIP], text[HUMTRELLIS_TEXT];
-static uint8_t many[65537];
+static uint8_t many[65537], wanted[RAM], written[HUMTRELLIS_ROWS];
 static size_t answer[HUMTRELLIS_ANSWER];
 
 static uint8_t power_on(void) {
@@ -96,7 +96,7 @@ static void answers(void) {
     EXPECT(power_on() == HUMTRELLIS_TAKEN);
     EXPECT(send(past_the_end, sizeof past_the_end) == HUMTRELLIS_TAKEN);
     EXPECT(answer[HUMTRELLIS_ACKNOWLEDGED] == 8 && answer[HUMTRELLIS_STORED] == 3 && answer[HUMTRELLIS_DISCARDED] == 5);
-    EXPECT(answer[HUMTRELLIS_ACKNOWLEDGED_BY] == HUMTRELLIS_NONE && HUMTRELLIS_NONE == 4 && HUMTRELLIS_VERSION == 4);
+    EXPECT(answer[HUMTRELLIS_ACKNOWLEDGED_BY] == HUMTRELLIS_NONE && HUMTRELLIS_NONE == 4 && HUMTRELLIS_VERSION == 5);
     EXPECT(ram[HUMTRELLIS_COLUMNS - 1] == 7 && ram[HUMTRELLIS_COLUMNS] == 0);
     EXPECT(send(group1, sizeof group1) == HUMTRELLIS_TAKEN && answer[HUMTRELLIS_ACKNOWLEDGED_BY] == 0);
     EXPECT(ram[HUMTRELLIS_COLUMNS] == 5 && ram[HUMTRELLIS_COLUMNS + 1] == 10);
@@ -248,6 +248,31 @@ static void cut_chips(void) {
     EXPECT(send_plain(part, 2, data, sizeof data) == HUMTRELLIS_REFUSED_CHIP);
 }
 
+static uint8_t write_rows(uint8_t part, uint8_t group, uint8_t mode, uint8_t bank, size_t length, size_t room) {
+    return humtrellis_write_rows(part, 1, 1, registers, sizeof registers, group, mode, bank, wanted, length, written, room, answer, HUMTRELLIS_ANSWER);
+}
+
+/* 1:3 to group 1 from a register set with E, O and every mark: row 2 of column 1 is bit 5 of the first data byte; of column 2 it is not sent. */
+static void wanted_rows(void) {
+    const uint8_t head[] = {0x72, 0x80, 0xCB, 0x80, 0xF9, 0x80, 0xE0, 0x80, 0x00, 0x80, 0x40, 0x40, 0x04};
+    power_on();
+    memset(registers + HUMTRELLIS_SET + HUMTRELLIS_UNKNOWN_HIGH, 1, 3);
+    registers[HUMTRELLIS_SET + HUMTRELLIS_E] = registers[HUMTRELLIS_SET + HUMTRELLIS_O] = 1;
+    wanted[1] = wanted[2] = 4;
+    memset(written, 0xEE, sizeof written);
+    EXPECT(write_rows(HUMTRELLIS_PCF8532, 1, 3, 0, HUMTRELLIS_COLUMNS, 66) == HUMTRELLIS_TAKEN && answer[HUMTRELLIS_WRITTEN] == 66);
+    EXPECT(memcmp(written, head, sizeof head) == 0 && written[65] == 0 && written[66] == 0xEE);
+    EXPECT(send(written, 66) == HUMTRELLIS_TAKEN && answer[HUMTRELLIS_ACKNOWLEDGED] == 65 && ram[HUMTRELLIS_COLUMNS + 1] == 4 && ram[HUMTRELLIS_COLUMNS + 2] == 0);
+    EXPECT(registers[HUMTRELLIS_SET + HUMTRELLIS_M] == 3 && registers[HUMTRELLIS_SET + HUMTRELLIS_O] == 1 && registers[HUMTRELLIS_SET + HUMTRELLIS_UNKNOWN_LOW] == 0);
+    EXPECT(write_rows(HUMTRELLIS_PCF8532, 0, 0, 0, HUMTRELLIS_COLUMNS, HUMTRELLIS_ROWS) == HUMTRELLIS_TAKEN && answer[HUMTRELLIS_WRITTEN] == 92);
+    EXPECT(write_rows(HUMTRELLIS_PCA85133, 0, 1, 0, HUMTRELLIS_PCA85133_COLUMNS, 20) == HUMTRELLIS_TAKEN && answer[HUMTRELLIS_WRITTEN] == 20);
+    EXPECT(write_rows(HUMTRELLIS_PCF8532, 1, 3, 0, HUMTRELLIS_COLUMNS, 65) == HUMTRELLIS_REFUSED_OUT_LENGTH);
+    EXPECT(write_rows(HUMTRELLIS_PCF8532, 1, 4, 0, HUMTRELLIS_COLUMNS, 66) == HUMTRELLIS_REFUSED_REGISTER && write_rows(HUMTRELLIS_PCF8532, 1, 3, 2, HUMTRELLIS_COLUMNS, 66) == HUMTRELLIS_REFUSED_REGISTER);
+    EXPECT(write_rows(HUMTRELLIS_PCF8532, 2, 3, 0, HUMTRELLIS_COLUMNS, 66) == HUMTRELLIS_REFUSED_VIEW && write_rows(HUMTRELLIS_PCF8532, 1, 3, 0, RAM, 66) == HUMTRELLIS_REFUSED_RAM_LENGTH);
+    wanted[7] = 16;
+    EXPECT(write_rows(HUMTRELLIS_PCF8532, 1, 3, 0, HUMTRELLIS_COLUMNS, 66) == HUMTRELLIS_REFUSED_COLUMN && answer[HUMTRELLIS_PLACE] == 7);
+}
+
 /* An unknown part comes before every refusal, but not before a wrong size; both power-ons still give power-on registers. */
 static void unknown_part(void) {
     registers[HUMTRELLIS_E] = 9;
@@ -304,6 +329,7 @@ int main(void) {
     smaller_chips();
     cut_bytes();
     cut_chips();
+    wanted_rows();
     unknown_part();
     logs();
     rescues();

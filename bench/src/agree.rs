@@ -1,16 +1,18 @@
-//! Before anything is timed: all ways must give the same answers, registers, columns and pictures.
+//! Before anything is timed: all ways must give the same answers, registers, columns, pictures and transfers for wanted rows.
 
 use crate::library::Numbers;
-use crate::samples::{self, Bus, Setup};
-use crate::ways::{Picture, Transfer, PICTURES, TRANSFERS};
+use crate::samples::{self, Bus, Setup, Writing};
+use crate::ways::{Picture, Transfer, Writer, PICTURES, TRANSFERS, WRITERS};
 use humtrellis_tests::generate::{self, shape};
 use humtrellis_tests::model::{REGISTERS, SET, WHOLE};
 use humtrellis_tests::random::Random;
 
 /// Buses of any kind, each with transfers of any kind.
 const GENERATED: u64 = 40_000;
+/// More bytes than any transfer for wanted rows has.
+const ROOM: usize = 360;
 
-/// What a transfer leaves, or what a picture gives.
+/// What a transfer leaves, or what a picture or the writer gives.
 type Outcome = (Numbers, Bus, Vec<u8>);
 
 fn transferred(transfer: Transfer, before: &Bus, bytes: &[u8], bits: u8) -> Outcome {
@@ -23,6 +25,12 @@ fn pictured(picture: Picture, bus: &Bus, [group, phase]: [u8; 2], length: usize)
     let mut out = vec![0xEE; length];
     let answer = picture(bus.view(group, phase), &mut out);
     (answer, bus.clone(), out)
+}
+
+fn written(writer: Writer, writing: &Writing, length: usize) -> Outcome {
+    let mut out = vec![0xEE; length];
+    let answer = writer(writing.wanted(), &mut out);
+    (answer, writing.bus.clone(), out)
 }
 
 /// The outcome that all ways share.
@@ -77,6 +85,17 @@ fn timed_pictures(setup: Setup) -> Result<(), String> {
     Ok(())
 }
 
+fn timed_writings(setup: Setup) -> Result<(), String> {
+    let what = format!("wanted rows, {}", setup.name());
+    for writing in setup.writings() {
+        let outcome = agreed(&what, &WRITERS, |way| {
+            written(way, &writing, setup.written_bytes())
+        })?;
+        taken(&what, outcome)?;
+    }
+    Ok(())
+}
+
 /// Now and then a chip too many, a register at its greatest or of any value, marks, a column of any value, columns too few, or another part.
 fn damage(random: &mut Random, bus: &mut Bus) {
     let part = shape(bus.part);
@@ -122,6 +141,44 @@ fn generated(seed: u64) -> Result<(), String> {
     };
     let what = format!("generated picture {seed}");
     agreed(&what, &PICTURES, |way| pictured(way, &bus, view, length))?;
+    generated_rows(seed, random, bus)
+}
+
+/// Rows of any value for a group of a bus.
+fn any_writing(random: &mut Random, bus: Bus) -> Writing {
+    let group = random.below(2);
+    Writing {
+        rows: samples::any_columns(random, bus.columns(group)),
+        bus,
+        group: group as u8,
+        mode: random.below(4) as u8,
+        bank: random.below(2) as u8,
+    }
+}
+
+/// Now and then the other group or none, a mode or bank too great, rows too few or one too many, or a row of any value.
+fn damage_writing(random: &mut Random, writing: &mut Writing) {
+    let length = writing.rows.len();
+    match random.below(24) {
+        0 => writing.group = random.pick(&[0, 1, 2, 3, 255]),
+        1 => writing.mode = random.pick(&[4, 5, 255]),
+        2 => writing.bank = random.pick(&[2, 3, 255]),
+        3 => writing.rows.resize(random.below(length + 2), 0),
+        4 | 5 if length > 0 => writing.rows[random.below(length)] = random.byte(),
+        _ => {}
+    }
+}
+
+/// With more room than any transfer needs, then with room for just the transfer or a byte less.
+fn generated_rows(seed: u64, random: &mut Random, bus: Bus) -> Result<(), String> {
+    let mut writing = any_writing(random, bus);
+    for _ in 0..2 {
+        damage_writing(random, &mut writing);
+    }
+    let what = format!("generated rows {seed}");
+    let (answer, ..) = agreed(&what, &WRITERS, |way| written(way, &writing, ROOM))?;
+    let room = answer[2].saturating_sub(random.below(2));
+    agreed(&what, &WRITERS, |way| written(way, &writing, room))?;
     Ok(())
 }
 
@@ -131,6 +188,9 @@ pub fn check() -> Result<(), String> {
     }
     for setup in samples::shown() {
         timed_pictures(setup)?;
+    }
+    for setup in samples::filled() {
+        timed_writings(setup)?;
     }
     for seed in 0..GENERATED {
         generated(seed)?;

@@ -1,6 +1,7 @@
 //! (a): the proved library, through the calls of include/humtrellis.h.
 
 use humtrellis_tests::model::{View, ANSWER, REGISTERS};
+use humtrellis_tests::writer::Wanted;
 
 /// Both groups' registers as bytes.
 pub type RegisterBytes = [u8; REGISTERS];
@@ -18,6 +19,12 @@ extern "C" {
     fn humtrellis_picture(
         part: u8, chips0: u8, chips1: u8, registers: *const u8, registers_length: usize,
         ram: *const u8, ram_length: usize, group: u8, phase: u8,
+        out: *mut u8, out_length: usize, answer: *mut usize, answer_length: usize,
+    ) -> u8;
+
+    fn humtrellis_write_rows(
+        part: u8, chips0: u8, chips1: u8, registers: *const u8, registers_length: usize,
+        group: u8, mode: u8, bank: u8, wanted: *const u8, wanted_length: usize,
         out: *mut u8, out_length: usize, answer: *mut usize, answer_length: usize,
     ) -> u8;
 
@@ -67,6 +74,30 @@ pub fn picture(view: View, out: &mut [u8]) -> Numbers {
             view.ram.len(),
             view.group,
             view.phase,
+            out.as_mut_ptr(),
+            out.len(),
+            answer.as_mut_ptr(),
+            answer.len(),
+        )
+    };
+    answer
+}
+
+pub fn write_rows(wanted: Wanted, out: &mut [u8]) -> Numbers {
+    let mut answer = [0; ANSWER];
+    // Safety: each pointer goes with the length of the buffer that it points to.
+    unsafe {
+        humtrellis_write_rows(
+            wanted.part,
+            wanted.chips0,
+            wanted.chips1,
+            wanted.registers.as_ptr(),
+            wanted.registers.len(),
+            wanted.group,
+            wanted.mode,
+            wanted.bank,
+            wanted.rows.as_ptr(),
+            wanted.rows.len(),
             out.as_mut_ptr(),
             out.len(),
             answer.as_mut_ptr(),

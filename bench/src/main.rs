@@ -18,8 +18,10 @@ fn run() -> Result<(), String> {
     report::transfers(&transfers);
     let pictures = measure::all(&samples::shown(), measure::pictures);
     report::pictures(&pictures);
+    let writings = measure::all(&samples::filled(), measure::writings);
+    report::writings(&writings);
     replay::run()?;
-    report::targets(&transfers, &pictures);
+    report::targets(&transfers, &pictures, &writings);
     Ok(())
 }
 

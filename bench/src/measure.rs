@@ -1,8 +1,8 @@
-//! What is timed: a transfer that fills a setup's chips, and their pictures, in each way.
+//! What is timed: a transfer that fills a setup's chips, their pictures, and the transfer for wanted rows, in each way.
 
-use crate::samples::{Bus, Setup, TURNS};
+use crate::samples::{Bus, Setup, Writing, TURNS};
 use crate::timing::{figures, Call, Figure};
-use crate::ways::{Picture, Transfer, PICTURES, TRANSFERS};
+use crate::ways::{Picture, Transfer, Writer, PICTURES, TRANSFERS, WRITERS};
 use humtrellis_tests::model::WHOLE;
 use humtrellis_tests::random::Random;
 use std::hint::black_box;
@@ -50,4 +50,20 @@ pub fn pictures(setup: Setup) -> [Figure; 4] {
     let buses = setup.shown_buses();
     let calls = PICTURES.map(|(_, way)| picture_call(way, &buses));
     figures(calls).map(|figure| figure.per(setup.columns()))
+}
+
+/// With room for just the transfer.
+fn writer_call<'a>(writer: Writer, writings: &'a [Writing], room: usize) -> Call<'a> {
+    let mut out = vec![0; room];
+    Box::new(move |turn| {
+        let writing = black_box(&writings[turn % TURNS]);
+        black_box(writer(writing.wanted(), &mut out));
+    })
+}
+
+/// Nanoseconds a data byte.
+pub fn writings(setup: Setup) -> [Figure; 3] {
+    let (writings, room) = (setup.writings(), setup.written_bytes());
+    let calls = WRITERS.map(|(_, way)| writer_call(way, &writings, room));
+    figures(calls).map(|figure| figure.per(setup.data_bytes()))
 }

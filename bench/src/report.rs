@@ -1,8 +1,12 @@
 //! The printed tables and targets.
 
 use crate::measure::Row;
-use crate::samples::{around_data, Setup};
+use crate::samples::{around_data, around_written_data, Setup};
 use crate::timing::{Figure, SAMPLES};
+use humtrellis_tests::model::Part;
+
+/// The most that the writer is to take, in nanoseconds a data byte.
+const WRITER_LIMIT: f64 = 3.0;
 
 fn ratio(library: Figure, other: Figure) -> f64 {
     library.median / other.median
@@ -17,18 +21,19 @@ fn row_name(setup: &Setup) -> String {
     format!("{:8} | {:6}", setup.part_name(), setup.mode.name)
 }
 
-fn data_and_all_bytes(setup: &Setup) -> String {
+/// `around` says how many bytes of a part's transfer are not data.
+fn data_and_all_bytes(setup: &Setup, around: fn(Part) -> usize) -> String {
     let data = setup.data_bytes();
-    format!("{data}/{}", data + around_data(setup.part))
+    format!("{data}/{}", data + around(setup.part))
 }
 
-fn print_medians(rows: &[Row<3>]) {
+fn print_medians(rows: &[Row<3>], around: fn(Part) -> usize) {
     println!("part     | mode   | data/all bytes | library |   model |    loop | library/model | library/loop");
     for (setup, [a, b, c]) in rows {
         println!(
             "{} | {:>14} | {:7.3} | {:7.3} | {:7.3} | {:13.2} | {:12.2}",
             row_name(setup),
-            data_and_all_bytes(setup),
+            data_and_all_bytes(setup, around),
             a.median,
             b.median,
             c.median,
@@ -51,12 +56,21 @@ fn print_spread(rows: &[Row<3>]) {
     println!();
 }
 
-/// The figures of library, model and loop.
-pub fn transfers(rows: &[Row<3>]) {
-    println!("A transfer that fills four PCF8532 or eight PCA85133: ns a data byte, median of {SAMPLES} samples");
-    print_medians(rows);
+/// The figures of library, model and loop, of transfers with so many bytes around their data.
+fn print_data_bytes(rows: &[Row<3>], around: fn(Part) -> usize) {
+    print_medians(rows, around);
     println!("The same: lowest and highest sample");
     print_spread(rows);
+}
+
+pub fn transfers(rows: &[Row<3>]) {
+    println!("A transfer that fills four PCF8532 or eight PCA85133: ns a data byte, median of {SAMPLES} samples");
+    print_data_bytes(rows, around_data);
+}
+
+pub fn writings(rows: &[Row<3>]) {
+    println!("The transfer for wanted rows of four PCF8532 or eight PCA85133: ns a data byte, median of {SAMPLES} samples");
+    print_data_bytes(rows, around_written_data);
 }
 
 /// The figures of library, model, loop by columns and loop by words.
@@ -97,7 +111,7 @@ fn print_target(target: &str, value: f64, limit: f64) {
     println!("{verdict:6} | {value:6.2} | {limit:5} | {target}");
 }
 
-pub fn targets(transfers: &[Row<3>], pictures: &[Row<4>]) {
+pub fn targets(transfers: &[Row<3>], pictures: &[Row<4>], writings: &[Row<3>]) {
     println!("Targets: verdict, measured, at most");
     for (setup, [a, b, c]) in transfers {
         let (name, model, table) = (setup.name(), ratio(*a, *b), ratio(*a, *c));
@@ -108,5 +122,9 @@ pub fn targets(transfers: &[Row<3>], pictures: &[Row<4>]) {
         let (name, columns) = (setup.name(), setup.columns());
         let target = format!("picture, {columns} columns, {name}: library/by columns");
         print_target(&target, ratio(*a, *c), 1.1);
+    }
+    for (setup, [a, ..]) in writings {
+        let target = format!("wanted rows, {}: library, ns a data byte", setup.name());
+        print_target(&target, a.median, WRITER_LIMIT);
     }
 }

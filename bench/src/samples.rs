@@ -1,10 +1,11 @@
-//! The inputs: setups, transfers that fill their chips, buses to show, and logs; the same in every run.
+//! The inputs: setups, transfers that fill their chips, buses to show, wanted rows, and logs; the same in every run.
 
 use crate::library::{Numbers, RegisterBytes};
 use crate::ways::Transfer;
 use humtrellis_tests::generate::{commands_then_data, position_commands, shape};
 use humtrellis_tests::model::{Part, Registers, View, LOG_PART, REGISTERS, SET};
 use humtrellis_tests::random::Random;
+use humtrellis_tests::writer::Wanted;
 
 /// Inputs of one kind that take turns, so that no call repeats the one before.
 pub const TURNS: usize = 8;
@@ -36,6 +37,11 @@ fn columns_of(part: u8, chips: u8) -> usize {
     shape(part).columns() * chips as usize
 }
 
+/// So many columns of any value.
+pub fn any_columns(random: &mut Random, count: usize) -> Vec<u8> {
+    (0..count).map(|_| random.byte() & 15).collect()
+}
+
 /// A bus as a caller holds it.
 #[derive(Clone, PartialEq, Eq)]
 pub struct Bus {
@@ -53,7 +59,7 @@ impl Bus {
             part,
             chips,
             registers: [0; REGISTERS],
-            ram: (0..columns).map(|_| random.byte() & 15).collect(),
+            ram: any_columns(random, columns),
         }
     }
 
@@ -76,6 +82,30 @@ impl Bus {
             ram: &self.ram,
             group,
             phase,
+        }
+    }
+}
+
+/// What is wanted of a group of a bus.
+pub struct Writing {
+    pub bus: Bus,
+    pub group: u8,
+    pub mode: u8,
+    pub bank: u8,
+    pub rows: Vec<u8>,
+}
+
+impl Writing {
+    pub fn wanted(&self) -> Wanted<'_> {
+        Wanted {
+            part: self.bus.part,
+            chips0: self.bus.chips[0],
+            chips1: self.bus.chips[1],
+            registers: &self.bus.registers,
+            group: self.group,
+            mode: self.mode,
+            bank: self.bank,
+            rows: &self.rows,
         }
     }
 }
@@ -160,6 +190,24 @@ impl Setup {
         };
         (0..TURNS).map(&mut shown).collect()
     }
+
+    /// Rows of any value for the first group, which has all chips, in both input banks in turn.
+    pub fn writings(self) -> Vec<Writing> {
+        let writing = |(turn, bus): (usize, Bus)| Writing {
+            rows: bus.ram.clone(),
+            bus,
+            group: 0,
+            mode: self.mode.bits,
+            bank: (turn % 2) as u8,
+        };
+        let buses = self.shown_buses().into_iter();
+        buses.enumerate().map(writing).collect()
+    }
+
+    /// Bytes of the transfer for such rows.
+    pub fn written_bytes(self) -> usize {
+        around_written_data(self.part) + self.data_bytes()
+    }
 }
 
 /// Sets mode, device and pointer (each with its control byte), then a data run from column 0 on.
@@ -171,6 +219,11 @@ fn transfer(part: Part, mode: Mode, data: &[u8]) -> Vec<u8> {
 /// Bytes of such a transfer that are not data.
 pub fn around_data(part: Part) -> usize {
     transfer(part, MODES[0], &[]).len()
+}
+
+/// The same of a transfer for wanted rows, which has a bank-select too.
+pub fn around_written_data(part: Part) -> usize {
+    around_data(part) + 2
 }
 
 /// Logs of just the greatest length: runs of 1 to 320 bytes in all modes over four chips.

@@ -3,6 +3,7 @@
 //! A branch on the part leads to a path of its own, compiled with its literals. A run then goes a byte at a time over a
 //! table of 256 entries a mode: bytes whose columns are all there without a test for the end, the one cut byte apart,
 //! the counts in closed form.
+//! Wanted rows become data bytes the other way round: whole words of columns by shifts or a product, in 1:3 by a table a column.
 
 mod checks;
 mod commands;
@@ -11,9 +12,11 @@ mod picture;
 mod run;
 mod tables;
 mod transfer;
+mod writer;
 
 pub use picture::{picture_by_columns, picture_by_words};
 pub use transfer::transfer;
+pub use writer::write_rows;
 
 use part::Part;
 

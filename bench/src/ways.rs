@@ -3,9 +3,11 @@
 use crate::library::{self, Numbers, RegisterBytes};
 use crate::table_loop;
 use humtrellis_tests::model::{self, View};
+use humtrellis_tests::writer::{self, Wanted};
 
 pub type Transfer = fn(u8, [u8; 2], &mut RegisterBytes, &mut [u8], &[u8], u8) -> Numbers;
 pub type Picture = fn(View, &mut [u8]) -> Numbers;
+pub type Writer = fn(Wanted, &mut [u8]) -> Numbers;
 
 /// (a), (b) and (c), in the order of the printed columns.
 pub const TRANSFERS: [(&str, Transfer); 3] = [
@@ -22,6 +24,13 @@ pub const PICTURES: [(&str, Picture); 4] = [
     ("words", table_loop::picture_by_words),
 ];
 
+/// The same of the transfer for wanted rows.
+pub const WRITERS: [(&str, Writer); 3] = [
+    ("library", library::write_rows),
+    ("model", model_writer),
+    ("loop", table_loop::write_rows),
+];
+
 fn model_transfer(
     part: u8,
     [chips0, chips1]: [u8; 2],
@@ -35,4 +44,8 @@ fn model_transfer(
 
 fn model_picture(view: View, out: &mut [u8]) -> Numbers {
     model::picture(view, out).numbers()
+}
+
+fn model_writer(wanted: Wanted, out: &mut [u8]) -> Numbers {
+    writer::write_rows(wanted, out).numbers()
 }

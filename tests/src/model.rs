@@ -40,14 +40,14 @@ impl Answer {
 }
 
 /// A refusal: its number and place.
-type Refusal = (usize, usize);
-type Check = Result<(), Refusal>;
+pub(crate) type Refusal = (usize, usize);
+pub(crate) type Check = Result<(), Refusal>;
 
-fn refuse_if(wrong: bool, number: usize) -> Check {
+pub(crate) fn refuse_if(wrong: bool, number: usize) -> Check {
     refuse_at(if wrong { Some(0) } else { None }, number)
 }
 
-fn refuse_at(place: Option<usize>, number: usize) -> Check {
+pub(crate) fn refuse_at(place: Option<usize>, number: usize) -> Check {
     match place {
         Some(place) => Err((number, place)),
         None => Ok(()),
@@ -63,7 +63,7 @@ fn refused((number, place): Refusal) -> Answer {
 }
 
 /// The answer of a call that is no transfer.
-fn answer(outcome: Result<[usize; 3], Refusal>) -> Answer {
+pub(crate) fn answer(outcome: Result<[usize; 3], Refusal>) -> Answer {
     match outcome {
         Ok(counts) => Answer::taken(counts),
         Err(refusal) => refused(refusal),
@@ -245,7 +245,7 @@ impl Registers {
     }
 
     /// Backplanes m.
-    fn backplanes(self) -> usize {
+    pub(crate) fn backplanes(self) -> usize {
         match self.m {
             1 => 1,
             2 => 2,
@@ -255,7 +255,7 @@ impl Registers {
     }
 
     /// Columns that a data byte covers.
-    fn width(self) -> usize {
+    pub(crate) fn width(self) -> usize {
         match self.backplanes() {
             1 => 8,
             2 => 4,
@@ -265,7 +265,7 @@ impl Registers {
     }
 
     /// Row of bit 0 of a data byte.
-    fn first_row(self) -> usize {
+    pub(crate) fn first_row(self) -> usize {
         if self.backplanes() <= 2 {
             2 * self.i as usize
         } else {
@@ -477,31 +477,31 @@ fn check_roles(part: Part, mut listeners: Vec<Registers>, sent: Sent) -> Check {
 
 // ---- The long account ------------------------------------------------------
 
-fn first_over_15(columns: &[u8]) -> Option<usize> {
+pub(crate) fn first_over_15(columns: &[u8]) -> Option<usize> {
     columns.iter().position(|column| *column > 15)
 }
 
 /// A bench of the long account: its part, and the chips in each group.
 #[derive(Clone, Copy, Debug)]
-struct Bench {
-    part: Part,
-    chips: [u8; 2],
+pub(crate) struct Bench {
+    pub(crate) part: Part,
+    pub(crate) chips: [u8; 2],
 }
 
 impl Bench {
-    fn new(part: u8, chips0: u8, chips1: u8) -> Result<Self, Refusal> {
+    pub(crate) fn new(part: u8, chips0: u8, chips1: u8) -> Result<Self, Refusal> {
         Ok(Bench {
             part: known(part)?,
             chips: [chips0, chips1],
         })
     }
 
-    fn check_counts(self) -> Check {
+    pub(crate) fn check_counts(self) -> Check {
         let most = self.part.subaddresses();
         refuse_if(self.chips.iter().any(|chips| *chips > most), 3)
     }
 
-    fn check_registers(self, registers: &[u8; REGISTERS]) -> Check {
+    pub(crate) fn check_registers(self, registers: &[u8; REGISTERS]) -> Check {
         let good = registers
             .chunks(SET)
             .all(|set| Registers::from_bytes(set).in_range(self.part));
@@ -520,7 +520,7 @@ impl Bench {
     }
 
     /// Columns of a group.
-    fn columns(self, group: usize) -> usize {
+    pub(crate) fn columns(self, group: usize) -> usize {
         self.part.columns() * self.chips[group] as usize
     }
 

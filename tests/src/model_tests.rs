@@ -12,6 +12,8 @@ mod part;
 mod rescue;
 #[path = "seen_tests.rs"]
 mod seen;
+#[path = "writer_tests.rs"]
+mod writer;
 
 use super::*;
 use crate::{generate, random::Random};

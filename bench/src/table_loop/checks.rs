@@ -1,4 +1,4 @@
-//! The checks that transfer and picture share, in the order 3, 6, 4, 5.
+//! The checks that the calls share, in the order 3, 6, 4, 5.
 
 use super::part::Part;
 use super::{Refusal, SET};
@@ -11,11 +11,18 @@ const fn limits<Chosen: Part>() -> [u8; 2 * SET] {
     ]
 }
 
+/// The whole state of a bus.
 pub fn check_state<Chosen: Part>(
     chips: [u8; 2],
     registers: &[u8; 2 * SET],
     ram: &[u8],
 ) -> Result<(), Refusal> {
+    check_bus::<Chosen>(chips, registers)?;
+    check_columns::<Chosen>(chips[0] as usize + chips[1] as usize, ram)
+}
+
+/// 3 and 6: the chips and the registers.
+pub fn check_bus<Chosen: Part>(chips: [u8; 2], registers: &[u8; 2 * SET]) -> Result<(), Refusal> {
     if chips[0] as usize > Chosen::MOST || chips[1] as usize > Chosen::MOST {
         return Err((3, 0));
     }
@@ -24,18 +31,19 @@ pub fn check_state<Chosen: Part>(
     if pairs.fold(false, |outside, (x, limit)| outside | (x > limit)) {
         return Err((6, 0));
     }
-    if ram.len() != Chosen::COLUMNS * (chips[0] as usize + chips[1] as usize) {
-        return Err((4, 0));
-    }
-    check_columns(ram)
+    Ok(())
 }
 
-fn check_columns(ram: &[u8]) -> Result<(), Refusal> {
+/// 4 and 5: the columns of so many chips.
+pub fn check_columns<Chosen: Part>(chips: usize, columns: &[u8]) -> Result<(), Refusal> {
+    if columns.len() != Chosen::COLUMNS * chips {
+        return Err((4, 0));
+    }
     // A high bit in the union of all columns is in one of them; the union is taken many columns at once.
-    if ram.iter().fold(0, |union, column| union | column) <= 15 {
+    if columns.iter().fold(0, |union, column| union | column) <= 15 {
         return Ok(());
     }
-    match ram.iter().position(|column| *column > 15) {
+    match columns.iter().position(|column| *column > 15) {
         Some(place) => Err((5, place)),
         None => Ok(()),
     }

@@ -9,6 +9,8 @@ pub trait Part {
     /// Most chips of a group; the counter rests there, and it is an answer's last number where no chip acknowledged the last data byte.
     const MOST: usize;
     const DEFINED: &'static Defined;
+    /// Pointer 0, each command after its control byte, then the control byte of a data run.
+    const POINTER_AND_RUN: &'static [u8];
 
     fn obey(set: &mut [u8; SET], byte: u8);
 }
@@ -29,6 +31,7 @@ impl Part for Pcf8532 {
         [0xE0, 0xE3],
         [0xE8, 0xFB],
     ]);
+    const POINTER_AND_RUN: &'static [u8] = &[0x80, 0x00, 0x80, 0x40, 0x40];
 
     fn obey(set: &mut [u8; SET], byte: u8) {
         match byte {
@@ -54,6 +57,7 @@ impl Part for Pca85133 {
     const MOST: usize = 8;
     const DEFINED: &'static Defined =
         &defined(&[[0x00, 0x4F], [0xC0, 0xCF], [0xE0, 0xE7], [0xF0, 0xFB]]);
+    const POINTER_AND_RUN: &'static [u8] = &[0x80, 0x00, 0x40];
 
     fn obey(set: &mut [u8; SET], byte: u8) {
         match byte {

@@ -1,4 +1,4 @@
-//! For each mode and data byte the columns that the byte fills, built at compile time.
+//! For each mode and data byte the columns that the byte fills, and in 1:3 the bits that a column fills; built at compile time.
 
 pub type Table<const WIDTH: usize> = [[u8; WIDTH]; 256];
 
@@ -22,4 +22,22 @@ const fn columns<const WIDTH: usize>(backplanes: usize) -> Table<WIDTH> {
         byte += 1;
     }
     table
+}
+
+/// In 1:3 a data byte's bits for each value of its first, second and third column; for every u8, so that no index is tested.
+pub static BITS_OF_THREE: [[u8; 256]; 3] = bits_of_three();
+
+/// Row r of column j is bit 3 j + r, counted from the most significant; the last column's row 2 has none.
+const fn bits_of_three() -> [[u8; 256]; 3] {
+    let mut bits = [[0; 256]; 3];
+    let mut k = 0;
+    while k < 8 {
+        let mut column = 0;
+        while column < 256 {
+            bits[k / 3][column] |= ((column >> (k % 3) & 1) as u8) << (7 - k);
+            column += 1;
+        }
+        k += 1;
+    }
+    bits
 }

@@ -9,11 +9,12 @@ use Rattle.sheet.specs.declared.Answer.{Answer}
 use Rattle.sheet.specs.declared.PlainAnswer.{PlainAnswer}
 use Rattle.sheet.specs.declared.Pictured.{Pictured}
 use Rattle.sheet.specs.declared.Rescued.{Rescued}
+use Rattle.sheet.specs.declared.Written.{Written}
 use Rattle.sheet.specs.declared.Check.{Check}
 use Rattle.sheet.specs.declared.Refusal.{Refusal}
 use Rattle.sheet.specs.declared.Refusal.the-variants.{EmptyTransfer, LongTransfer, ChipCount, RamLength, RamByte, Register, UndefinedCommand, GroupOrPhase, OutputLength, ManyChips, ChipField, LogHead, CutRecord, LongLog, UnknownPart, StrayBits, UnknownPlace, BitCount, ShortBody}
 use Rattle.sheet.specs.Parts.{Part}
-use Rattle.sheet.specs.Refusals.{numberOf, numbers, plainNumbers, pictureNumbers, rescuedNumbers, checkNumbers}
+use Rattle.sheet.specs.Refusals.{numberOf, numbers, plainNumbers, pictureNumbers, rescuedNumbers, checkNumbers, writtenNumbers}
 
 small : (r : Refusal) → numberOf r < 256
 small EmptyTransfer = omega arith
@@ -56,3 +57,7 @@ module _ {l : List ℕ} where
   pub rescued-small : (p : Rescued) → l ≡ rescuedNumbers p → getD l 0 0 < 256
   rescued-small (Rescued.Kept records bytes dropped tear) e = rw e (omega arith)
   rescued-small (Rescued.Refused r) e = rw e (small r)
+
+  pub written-small : (p : Written) → l ≡ writtenNumbers p → getD l 0 0 < 256
+  written-small (Written.Bytes n) e = rw e (omega arith)
+  written-small (Written.Refused r) e = rw e (small r)

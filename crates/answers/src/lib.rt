@@ -6,10 +6,11 @@ use sheet::Pictured;
 use sheet::PlainAnswer;
 use sheet::Refusal;
 use sheet::Rescued;
+use sheet::Written;
 ghost use mathlib.Core.Path.{_≡_};
 ghost use Rattle.sheet.specs.Parts.{partOf};
 ghost use Rattle.sheet.specs.Logs.{modelled};
-ghost use Rattle.sheet.specs.Refusals.{numberOf, placeOf, lastNumber, refusalNumbers, numbers, plainNumbers, pictureNumbers, rescuedNumbers, checkNumbers};
+ghost use Rattle.sheet.specs.Refusals.{numberOf, placeOf, lastNumber, refusalNumbers, numbers, plainNumbers, pictureNumbers, rescuedNumbers, checkNumbers, writtenNumbers};
 
 // The paper's number of a refusal.
 pub fn number_of(refusal: Refusal) -> usize
@@ -154,5 +155,15 @@ pub fn check_numbers(check: Check) -> [usize; 6]
     match check {
         Check::Passed => [0; 6],
         Check::Refused(refusal) => refusal_numbers(refusal, 0),
+    }
+}
+
+// Of a writer: the bytes written.
+pub fn written_numbers(written: Written) -> [usize; 6]
+    ensures { λ r. ⌜ r ≡ writtenNumbers written ⌝ }
+{
+    match written {
+        Written::Bytes(bytes) => [0, 0, bytes, 0, 0, 0],
+        Written::Refused(refusal) => refusal_numbers(refusal, 0),
     }
 }

@@ -1,3 +1,3 @@
 pub mod Sizes
-pub mod Seen
+pub mod Said
 pub mod Given

@@ -5,13 +5,13 @@ use mathlib.Core.List.{List}
 use lib.Dec.{eqb}
 use lib.ListN.{length, getD}
 use Rattle.sheet.specs.declared.Chips.{Chips}
-use Rattle.sheet.specs.Refusals.{numbers, plainNumbers, pictureNumbers, rescuedNumbers, checkNumbers}
+use Rattle.sheet.specs.Refusals.{numbers, plainNumbers, pictureNumbers, rescuedNumbers, checkNumbers, writtenNumbers}
 use Rattle.sheet.specs.Parts.{partOf}
 use Rattle.sheet.specs.Protocol.{Sent}
-use Rattle.sheet.specs.Pictures.{Seen}
 use Rattle.sheet.specs.Long.{powerOnPart, transferPart, picturePart}
 use Rattle.sheet.specs.Plain.{chipPowerOnPart, chipPicturePart}
 use Rattle.sheet.specs.Rescue.{rescueCall}
+use Rattle.sheet.specs.Writer.{writeRowsPart}
 use Rattle.buslog.specs.declared.Replayed.{Replayed}
 use Rattle.lent.specs.Lent.{lentCall}
 use Rattle.wire.specs.Bytes.{bothOf, bothBytes, chipIn, chipBytes}
@@ -44,7 +44,7 @@ transferC part z o registers ram transfer answer =
     let k = numbers (partOf part) (t .result .answer) in
     sized registers ram answer (record { number = getD k 0 0; registers = bothBytes (t .result .registers); buffer = t .ram; answer = k })
 
--- ---- calls that lend one buffer to write, a picture or chips
+-- ---- calls that lend one buffer to write: a picture, chips, a transfer or a log
 
 pub record Filled : Type 0 where
   pub number : ℕ
@@ -55,40 +55,44 @@ pub record Filled : Type 0 where
 abbrev pub filled : Bool → List ℕ → List ℕ → Filled → Filled
 filled whole buffer answer c = cond (whole && eqb (length answer) 6) c (record { number = 255; buffer = buffer; answer = answer })
 
--- a picture
-abbrev pub seenC : Bool → Seen → List ℕ → List ℕ → Filled
-seenC whole s out answer =
-    let k = pictureNumbers (s .result) in
-    filled whole out answer (record { number = getD k 0 0; buffer = s .out; answer = k })
+-- its numbers, and the buffer after it
+abbrev pub saidC : Bool → List ℕ → List ℕ → List ℕ → List ℕ → Filled
+saidC whole numbers after buffer answer = filled whole buffer answer (record { number = getD numbers 0 0; buffer = after; answer = numbers })
 
--- of a group, and of one chip
+-- a picture of a group, and of one chip
 unfoldable pub pictureC : ℕ → ℕ → ℕ → List ℕ → List ℕ → ℕ → ℕ → List ℕ → List ℕ → Filled
 pictureC part z o registers ram group phase out answer =
-    seenC (eqb (length registers) 24) (picturePart part (chipsOf z o) (bothOf registers) ram group phase out) out answer
+    let s = picturePart part (chipsOf z o) (bothOf registers) ram group phase out in
+    saidC (eqb (length registers) 24) (pictureNumbers (s .result)) (s .out) out answer
 
 unfoldable pub chipPictureC : ℕ → List ℕ → ℕ → List ℕ → List ℕ → Filled
-chipPictureC part chip phase out answer = seenC (eqb (length chip) 174) (chipPicturePart part (chipIn chip) phase out) out answer
+chipPictureC part chip phase out answer =
+    let s = chipPicturePart part (chipIn chip) phase out in
+    saidC (eqb (length chip) 174) (pictureNumbers (s .result)) (s .out) out answer
 
 -- one chip, 174 bytes: taken or refused, only the registers are new
 unfoldable pub chipPowerOnC : ℕ → List ℕ → List ℕ → Filled
 chipPowerOnC part chip answer =
     let p = chipPowerOnPart part (chipIn chip) in
-    let k = checkNumbers (p .check) in
-    filled (eqb (length chip) 174) chip answer (record { number = getD k 0 0; buffer = chipBytes (p .chip); answer = k })
+    saidC (eqb (length chip) 174) (checkNumbers (p .check)) (chipBytes (p .chip)) chip answer
 
 -- a list of chips, 174 bytes each
 unfoldable pub plainC : ℕ → List ℕ → Sent → List ℕ → Filled
 plainC part chips transfer answer =
     let s = lentCall part chips transfer in
-    let k = plainNumbers (partOf part) (s .answer) in
-    filled (eqb (length chips % 174) 0) chips answer (record { number = getD k 0 0; buffer = s .chips; answer = k })
+    saidC (eqb (length chips % 174) 0) (plainNumbers (partOf part) (s .answer)) (s .chips) chips answer
+
+-- a transfer for wanted rows
+unfoldable pub writeRowsC : ℕ → ℕ → ℕ → List ℕ → ℕ → ℕ → ℕ → List ℕ → List ℕ → List ℕ → Filled
+writeRowsC part z o registers group mode bank wanted out answer =
+    let s = writeRowsPart part (chipsOf z o) (bothOf registers) group mode bank wanted out in
+    saidC (eqb (length registers) 24) (writtenNumbers (s .result)) (s .out) out answer
 
 -- what is whole of a torn log
 unfoldable pub rescueC : List ℕ → List ℕ → List ℕ → Filled
 rescueC log out answer =
     let s = rescueCall log out in
-    let k = rescuedNumbers (s .result) in
-    filled true out answer (record { number = getD k 0 0; buffer = s .out; answer = k })
+    saidC true (rescuedNumbers (s .result)) (s .out) out answer
 
 -- ---- replay
 

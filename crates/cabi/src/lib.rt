@@ -1,11 +1,11 @@
 // The model for C and Rust: numbers and lent buffers only. A part is its number, 0 the PCF8532 and 1 the PCA85133. Registers are 24 bytes, group 0's twelve and then group 1's, in the order E B M P A I O AB BF and the marks of pointer high, pointer low and device-select;
-// a chip is 174 bytes (`wire`); an answer is six numbers: answer, place, acknowledged, stored, discarded, and who acknowledged the last data byte. A buffer of another size is answered 255 and nothing is written.
+// a chip is 174 bytes (`wire`); an answer is six numbers: answer, place, acknowledged, stored, discarded, and who acknowledged the last data byte, or what the call counts. A buffer of another size is answered 255 and nothing is written.
 use buslog::Replayed;
 use sheet::Chips;
 ghost use mathlib.Core.Path.{_≡_};
 ghost use Rattle.sheet.specs.Protocol.{sent};
 ghost use Rattle.buslog.specs.Replays.{replayCall};
-ghost use Rattle.cabi.specs.Calls.{powerOnC, transferC, pictureC, chipPowerOnC, chipPictureC, plainC, rescueC, replayNumber};
+ghost use Rattle.cabi.specs.Calls.{powerOnC, transferC, pictureC, chipPowerOnC, chipPictureC, plainC, writeRowsC, rescueC, replayNumber};
 
 // Power-on of the long account, taken or refused by 16, 3, 4, 5.
 #[no_mangle]
@@ -143,6 +143,35 @@ pub extern "C" fn humtrellis_plain_transfer(
     if (chips.len() % 174 == 0) & (answer.len() == 6) {
         let said = lent::transfer(part, chips, bytes, bits);
         wire::put_numbers(answers::plain_numbers(part, said), answer)
+    } else {
+        255
+    }
+}
+
+// One transfer that puts a group's wanted rows into its RAM, to the start of `out`, or a refusal by 16, 3, 6, 8, 4, 5, 9.
+#[no_mangle]
+pub extern "C" fn humtrellis_write_rows(
+    part: u8,
+    chips0: u8,
+    chips1: u8,
+    registers: &[u8],
+    group: u8,
+    mode: u8,
+    bank: u8,
+    wanted: &[u8],
+    out: &mut [u8],
+    answer: &mut [usize],
+) -> u8
+    ensures { λ r. ⌜ writeRowsC part chips0 chips1 (now (registers .entry)) group mode bank (now (wanted .entry)) (now (out .entry)) (now (answer .entry)) ≡ record { number = r; buffer = now (out .exit); answer = now (answer .exit) } ⌝ }
+{
+    if (registers.len() == 24) & (answer.len() == 6) {
+        let chips = Chips {
+            zero: chips0,
+            one: chips1,
+        };
+        let before = wire::both_of(registers);
+        let written = writer::write_rows(part, chips, before, group, mode, bank, wanted, out);
+        wire::put_numbers(answers::written_numbers(written), answer)
     } else {
         255
     }

@@ -58,7 +58,7 @@ after-byte w left p l =
     let h : r < w = mod-lt (left - w) p in
     (ap (λ (k : ℕ). k / w) e ∙ digits-div (suc q) h, ap (λ (k : ℕ). k % w) e ∙ digits-mod (suc q) h)
 
-counts-alike : (t u : Counts) → t .acknowledged ≡ u .acknowledged → t .stored ≡ u .stored → t .discarded ≡ u .discarded → t ≡ u
+pub counts-alike : (t u : Counts) → t .acknowledged ≡ u .acknowledged → t .stored ≡ u .stored → t .discarded ≡ u .discarded → t ≡ u
 counts-alike t u a s d i = record { acknowledged = a i; stored = s i; discarded = d i }
 
 pub counted-at-once : (n m v size : ℕ) (t : Counts) → 0 < m → countedRun n m v size t ≡ tallied n m (size - v) t

@@ -1,6 +1,6 @@
 -- A check that comes first: what a call answers to two checks, one after the other, is what it answers to both as one.
 -- Assumes nothing.
-use mathlib.Core.Path.{_≡_, refl, sym, subst}
+use mathlib.Core.Path.{_≡_, refl, sym, ap, subst, _∙_}
 use mathlib.Core.List.{List}
 use Prim.Native.Nat.{ℕ}
 use lib.Dec.{T}
@@ -26,6 +26,13 @@ then-refused (Refused x) b c r e = sym e
 pub then-passed : (a b c d : Check) → orElse a b ≡ Passed → d ≡ c → d ≡ orElse a (orElse b c)
 then-passed Passed b c d e f = rw e f
 then-passed (Refused x) b c d e f = absurd (subst (λ (k : Check). T (passed k)) (sym e) tt)
+
+-- the same of three
+pub three-refused : (a b c d : Check) (r : Refusal) → orElse a (orElse b c) ≡ Refused r → Refused r ≡ orElse a (orElse b (orElse c d))
+three-refused a b c d r e = then-refused a (orElse b c) d r e ∙ ap (orElse a) (sym (or-else b c d))
+
+pub three-passed : (a b c d e : Check) → orElse a (orElse b c) ≡ Passed → e ≡ d → e ≡ orElse a (orElse b (orElse c d))
+three-passed a b c d e p f = then-passed a (orElse b c) d e p f ∙ ap (orElse a) (sym (or-else b c d))
 
 pub answered-first : (a b : Check) (r : Both) (ram : List ℕ) (s : After) → answered a r ram (answered b r ram s) ≡ answered (orElse a b) r ram s
 answered-first Passed b r ram s = refl

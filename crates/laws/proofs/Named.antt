@@ -7,6 +7,7 @@ use mathlib.Core.List.{List}
 use native.Mathlib.Nat.{mul-le-mul-left}
 use native.Mathlib.Omega.{arith}
 use lib.Dec.{eqb}
+use lib.ListN.{length}
 use borrow.Author.Tests.{eq-eqb, ne-eqb}
 use Rattle.sheet.specs.declared.Both.{Both}
 use Rattle.sheet.specs.declared.Chips.{Chips}
@@ -51,6 +52,10 @@ has-columns part = of-both (λ K. 0 < K .columns) part (omega arith) (omega arit
 
 pub columns-small : (part : ℕ) → partOf part .columns ≤ 160
 columns-small part = of-both (λ K. K .columns ≤ 160) part (omega arith) (omega arith)
+
+-- one pointer command or two
+pub pointer-bytes : (part : ℕ) → (0 < length (partOf part .pointer 0)) × (length (partOf part .pointer 0) ≤ 2)
+pointer-bytes part = of-both (λ K. (0 < length (K .pointer 0)) × (length (K .pointer 0) ≤ 2)) part (omega arith, omega arith) (omega arith, omega arith)
 
 pub limit-small : (part : ℕ) → partOf part .limit ≤ 8
 limit-small part = of-both (λ K. K .limit ≤ 8) part (omega arith) (omega arith)

@@ -6,7 +6,7 @@ use mathlib.Core.List.{List, [], _∷_}
 use Prim.Native.Nat.{ℕ, zero, suc, _+_, _-_, _*_, _%_, _≤_, _<_}
 use native.Mathlib.Nat.{mul-le-mul-left}
 use native.Mathlib.Omega.{arith}
-use lib.Dec.{eqb, leb, ltb, ltb→lt, eqb·suc-zero}
+use lib.Dec.{eqb, leb, leb→le, ltb, ltb→lt, eqb·suc-zero}
 use borrow.Author.Tests.{leb-true, ltb-true, lt-ltb, le-leb}
 use Rattle.lemmas.proofs.Tests.{and-left, and-right, both-true, all, all-at}
 use Rattle.sheet.specs.declared.Marks.{Marks}
@@ -150,6 +150,12 @@ unfolding fits backplanes bankRow
 rows-fit r bank hm hb =
     let t = all-at 2 (λ k. fits (r .m) k) (all-at 4 (λ k. all 2 (λ j. fits k j)) tt (r .m) hm) bank hb in
     (ltb→lt 0 (backplanes r) (and-left (ltb 0 (backplanes r)) (ltb (bankRow (backplanes r) bank + backplanes r) 5) t), ltb→lt (bankRow (backplanes r) bank + backplanes r) 5 (and-right (ltb 0 (backplanes r)) (ltb (bankRow (backplanes r) bank + backplanes r) 5) t))
+
+-- the same of a number of backplanes
+pub bank-rows-fit : (m bank : ℕ) → m < 5 → bank < 2 → bankRow m bank + m ≤ 4
+unfolding bankRow
+bank-rows-fit m bank hm hb =
+    leb→le (bankRow m bank + m) 4 (all-at 2 (λ i. leb (bankRow m i + m) 4) (all-at 5 (λ n. all 2 (λ i. leb (bankRow n i + n) 4)) tt m hm) bank hb)
 
 pub planes-pos : (r : Registers) → 0 < backplanes r
 unfolding backplanes

@@ -34,7 +34,7 @@ row-above r t q d p =
     (sym (shr-shr (withRow r t q) (suc r) d) ∙ ap (λ (n : ℕ). n / 2 ^ d) (ap (λ (n : ℕ). n / 2 ^ suc r) e ∙ digits-div (q / 2 ^ suc r) l) ∙ shr-shr q (suc r) d)
 
 -- row s, from the rows below s + 1 + d alone
-row-of-low : (q s d : ℕ) → rowOf q s ≡ q % 2 ^ (d + 1 + s) / 2 ^ s % 2
+pub row-of-low : (q s d : ℕ) → rowOf q s ≡ q % 2 ^ (d + 1 + s) / 2 ^ s % 2
 row-of-low q s d = sym (ap (λ (k : ℕ). k % 2) (field q (d + 1) s) ∙ mod-mod-pow (q / 2 ^ s) d 1)
 
 -- the rows below it stay

@@ -7,7 +7,7 @@ use native.Mathlib.Nat.{zero-add, add-sub-cancel-left, le-refl}
 use native.Mathlib.Numerals.{add-one}
 use native.Mathlib.Omega.{arith}
 use lib.ListN.{length, getD, take, drop, length-drop, drop-of-length-le, replicate, length-replicate}
-use lib.Seq.{drop-cons, take-all, sets, sets-eq}
+use lib.Seq.{drop-cons, drop-drop, take-all, take-at, sets, sets-eq}
 
 -- those from i on are element i and those from i + 1 on
 pub next : (l : List ℕ) (i : ℕ) → i < length l → drop i l ≡ getD l i 0 ∷ drop (i + 1) l
@@ -42,3 +42,11 @@ drop-take zero n l h = let all : n - 0 ≡ n = omega arith in rw all
 drop-take (suc k) zero l h = absurd (omega arith)
 drop-take (suc k) (suc n) [] h = sym (take-none (suc n - suc k))
 drop-take (suc k) (suc n) (x ∷ l) h = let less : suc n - suc k ≡ n - k = omega arith in rw less (drop-take k n l (omega arith))
+
+-- those from n on are replaced by b
+pub end-replaced : (l b : List ℕ) (n : ℕ) → take n l ++ (b ++ drop (length l - n) (drop n l)) ≡ take n l ++ b
+end-replaced l b n = ap (λ (r : List ℕ). take n l ++ (b ++ r)) (drop-drop (length l - n) n l ∙ drop-of-length-le l {i = n + (length l - n)} (omega arith)) ∙ ap (λ (r : List ℕ). take n l ++ r) (append-nil b)
+
+-- after the first n, which are a, come those of b
+pub after-first : (a d b : List ℕ) (n : ℕ) → length a ≡ n → take n (a ++ d) ++ (b ++ drop (length (a ++ d) - n) (drop n (a ++ d))) ≡ a ++ b
+after-first a d b n e = end-replaced (a ++ d) b n ∙ ap (λ (r : List ℕ). r ++ b) (take-at a d n e)

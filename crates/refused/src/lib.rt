@@ -6,10 +6,14 @@ use sheet::Chips;
 use sheet::Refusal;
 ghost use mathlib.Core.Path.{_≡_};
 ghost use mathlib.Core.Bool.{_&&_};
+ghost use Prim.Native.Nat.{_*_};
+ghost use lib.Dec.{ltb};
+ghost use Rattle.sheet.specs.declared.Refusal.the-variants.{GroupOrPhase};
 ghost use Rattle.sheet.specs.Parts.{partOf};
 ghost use Rattle.sheet.specs.Registers.{inRange};
-ghost use Rattle.sheet.specs.Protocol.{heardBy, sent, addressByte};
-ghost use Rattle.sheet.specs.Checks.{orElse, checkPart, checkChips, checkRam, checkBytes, checkState, checkPowerOn, checkTransfer, checkPicture};
+ghost use Rattle.sheet.specs.Protocol.{heardBy, chipsIn, sent, addressByte};
+ghost use Rattle.sheet.specs.Checks.{unless, orElse, checkPart, checkChips, checkRegisters, checkColumns, checkRam, checkBytes, checkState, checkPowerOn, checkTransfer, checkPicture};
+ghost use Rattle.sheet.specs.Writer.{checkWanted};
 
 // Whether every register of both groups is in range.
 fn registers_fit(part: u8, registers: Both) -> bool
@@ -20,16 +24,25 @@ fn registers_fit(part: u8, registers: Both) -> bool
     command::in_range(part, zero) & command::in_range(part, one)
 }
 
+// So many columns: 4, 5.
+fn check_columns(size: usize, columns: &[u8]) -> Check
+    ensures { λ r. ⌜ r ≡ checkColumns size (now (columns .entry)) ⌝ }
+{
+    if columns.len() == size {
+        checks::first_over(columns)
+    } else {
+        Check::Refused(Refusal::RamLength)
+    }
+}
+
 // The RAM: 4, 5.
 fn check_ram(part: u8, chips: Chips, ram: &[u8]) -> Check
     ensures { λ r. ⌜ r ≡ checkRam (partOf part) chips (now (ram .entry)) ⌝ }
 {
-    let size = arithmetic::columns_in(part, chips.zero as u16 + chips.one as u16);
-    if ram.len() == size {
-        checks::first_over(ram)
-    } else {
-        Check::Refused(Refusal::RamLength)
-    }
+    check_columns(
+        arithmetic::columns_in(part, chips.zero as u16 + chips.one as u16),
+        ram,
+    )
 }
 
 // What every call begins with: 16, 3.
@@ -52,19 +65,23 @@ pub fn check_power_on(part: u8, chips: Chips, ram: &[u8]) -> Check
     }
 }
 
-// And every call but a power-on: 16, 3, 6, 4, 5.
-fn check_state(part: u8, chips: Chips, registers: Both, ram: &[u8]) -> Check
-    ensures { λ r. ⌜ r ≡ orElse (checkPart part) (checkState (partOf part) chips registers (now (ram .entry))) ⌝ }
+// And every call but a power-on: 16, 3, 6.
+fn check_registers(part: u8, chips: Chips, registers: Both) -> Check
+    ensures { λ r. ⌜ r ≡ orElse (checkPart part) (orElse (checkChips (partOf part) chips) (checkRegisters (partOf part) registers)) ⌝ }
 {
     match check_bus(part, chips) {
         Check::Refused(refusal) => Check::Refused(refusal),
-        Check::Passed => {
-            if registers_fit(part, registers) {
-                check_ram(part, chips, ram)
-            } else {
-                Check::Refused(Refusal::Register)
-            }
-        }
+        Check::Passed => checks::unless(registers_fit(part, registers), Refusal::Register),
+    }
+}
+
+// And every call with a RAM: 16, 3, 6, 4, 5.
+fn check_state(part: u8, chips: Chips, registers: Both, ram: &[u8]) -> Check
+    ensures { λ r. ⌜ r ≡ orElse (checkPart part) (checkState (partOf part) chips registers (now (ram .entry))) ⌝ }
+{
+    match check_registers(part, chips, registers) {
+        Check::Refused(refusal) => Check::Refused(refusal),
+        Check::Passed => check_ram(part, chips, ram),
     }
 }
 
@@ -121,6 +138,42 @@ pub fn check_picture(
                 checks::unless(size == wanted, Refusal::OutputLength)
             } else {
                 Check::Refused(Refusal::GroupOrPhase)
+            }
+        }
+    }
+}
+
+// A group's rows: 8, 4, 5.
+fn check_rows(part: u8, chips: Chips, group: u8, rows: &[u8]) -> Check
+    ensures { λ r. ⌜ r ≡ orElse (unless (ltb group 2) GroupOrPhase) (checkColumns (partOf part .columns * chipsIn group chips) (now (rows .entry))) ⌝ }
+{
+    if group < 2 {
+        let size = arithmetic::columns_in(part, groups::chips_in(group, chips) as u16);
+        check_columns(size, rows)
+    } else {
+        Check::Refused(Refusal::GroupOrPhase)
+    }
+}
+
+// A writer's wanted rows: 16, 3, 6 (also a wanted mode or bank out of range), 8, 4, 5.
+pub fn check_wanted(
+    part: u8,
+    chips: Chips,
+    registers: Both,
+    group: u8,
+    mode: u8,
+    bank: u8,
+    wanted: &[u8],
+) -> Check
+    ensures { λ r. ⌜ r ≡ orElse (checkPart part) (checkWanted (partOf part) chips registers group mode bank (now (wanted .entry))) ⌝ }
+{
+    match check_registers(part, chips, registers) {
+        Check::Refused(refusal) => Check::Refused(refusal),
+        Check::Passed => {
+            if (mode < 4) & (bank < 2) {
+                check_rows(part, chips, group, wanted)
+            } else {
+                Check::Refused(Refusal::Register)
             }
         }
     }

@@ -52,9 +52,13 @@ unfoldable pub overIn : ℕ → List ℕ → Check
 overIn i [] = Passed
 overIn i (q ∷ qs) = cond (ltb 15 q) (Refused (RamByte i)) (overIn (suc i) qs)
 
--- 4, 5
+-- 4, 5: so many columns, each at most 15
+abbrev pub checkColumns : ℕ → List ℕ → Check
+checkColumns size columns = orElse (unless (eqb (length columns) size) RamLength) (overIn 0 columns)
+
+-- of the RAM
 unfoldable pub checkRam : Part → Chips → List ℕ → Check
-checkRam K n ram = orElse (unless (eqb (length ram) (K .columns * (n .zero + n .one))) RamLength) (overIn 0 ram)
+checkRam K n ram = checkColumns (K .columns * (n .zero + n .one)) ram
 
 -- 1, 2
 unfoldable pub checkLength : ℕ → Check

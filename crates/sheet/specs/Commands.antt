@@ -1,10 +1,12 @@
 -- What the commands do to a group's registers (paper 01, "A transfer, byte by byte"; sheet 003, tables 5 to 12; sheet 002, tables 11 to 16).
-use Prim.Native.Nat.{_+_, _-_, _*_, _%_}
-use mathlib.Core.Bool.{Bool}
+use Prim.Native.Nat.{ℕ, _+_, _-_, _*_, _%_}
+use mathlib.Core.Bool.{Bool, true, _&&_}
+use mathlib.Core.List.{List, [], _∷_}
 use Rattle.sheet.specs.declared.Marks.{Marks}
 use Rattle.sheet.specs.declared.Registers.{Registers}
 use Rattle.sheet.specs.declared.Command.{Command}
 use Rattle.sheet.specs.declared.Command.the-variants.{PointerHigh, PointerLow, Pointer, ModeSet, DeviceSelect, FrequencyCtrl, BlinkSelect, BankSelect, Undefined}
+use Rattle.sheet.specs.Parts.{Part}
 use Rattle.sheet.specs.Registers.{atPlace, withMarks}
 
 abbrev pub defined : Command → Bool
@@ -45,3 +47,13 @@ restored Undefined u = u
 -- the registers after a command
 abbrev pub obeyed : Registers → Command → Registers
 obeyed r c = withMarks (sets r c) (restored c (r .unknown))
+
+-- ---- command bytes, one after the other
+
+abbrev pub obeyedAll : Part → List ℕ → Registers → Registers
+obeyedAll K [] r = r
+obeyedAll K (x ∷ xs) r = obeyedAll K xs (obeyed r (K .command x))
+
+abbrev pub allDefined : Part → List ℕ → Bool
+allDefined K [] = true
+allDefined K (x ∷ xs) = defined (K .command x) && allDefined K xs

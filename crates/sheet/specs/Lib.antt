@@ -17,6 +17,8 @@ pub mod Agree
 pub mod Lands
 pub mod Cuts
 pub mod Either
+pub mod Writer
+pub mod Puts
 pub mod Pointing
 pub mod Starred
 pub mod Smaller
@@ -29,3 +31,4 @@ pub mod Orders
 pub mod Worked
 pub mod Rescuing
 pub mod Merging
+pub mod Writings

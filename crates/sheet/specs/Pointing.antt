@@ -1,17 +1,10 @@
 -- Computed of both parts: the command bytes that a part has for a column make P that column, wherever P was, and leave A.
 use Prim.Native.Nat.{ℕ, zero, suc}
 use mathlib.Core.Bool.{Bool, true, _&&_}
-use mathlib.Core.List.{List, [], _∷_}
 use lib.Dec.{T, eqb}
-use Rattle.sheet.specs.declared.Registers.{Registers}
 use Rattle.sheet.specs.Parts.{Part, within, commandIn, pcf8532, pca85133}
 use Rattle.sheet.specs.Registers.{powerOn, atPlace}
-use Rattle.sheet.specs.Commands.{obeyed}
-
--- command bytes, one after the other
-abbrev pub obeyedAll : Part → List ℕ → Registers → Registers
-obeyedAll K [] r = r
-obeyedAll K (x ∷ xs) r = obeyedAll K xs (obeyed r (K .command x))
+use Rattle.sheet.specs.Commands.{obeyedAll}
 
 -- to column p, from column q of chip 2
 abbrev pub points : Part → ℕ → ℕ → Bool

@@ -154,6 +154,12 @@ pub enum Rescued {
     Refused(Refusal),
 }
 
+// A transfer that was written: its bytes.
+pub enum Written {
+    Bytes(usize),
+    Refused(Refusal),
+}
+
 // A chip of the plain account, with its own columns, identity and registers. A part with fewer columns has the first of them.
 pub struct Chip {
     pub columns: [u8; 160],

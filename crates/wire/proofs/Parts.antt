@@ -6,14 +6,7 @@ use Prim.Native.Nat.{ℕ, zero, suc, _+_, _-_, _≤_}
 use native.Mathlib.Omega.{arith}
 use lib.ListN.{length, getD, set, take, drop, length-append, drop-of-length-le}
 use lib.Seq.{length-take-le, take-all, take-append-le, take-at, take-suc, take-take, drop-at, drop-drop, sets-eq}
-
--- those from n on are replaced by b
-pub end-replaced : (l b : List ℕ) (n : ℕ) → take n l ++ (b ++ drop (length l - n) (drop n l)) ≡ take n l ++ b
-end-replaced l b n = ap (λ (r : List ℕ). take n l ++ (b ++ r)) (drop-drop (length l - n) n l ∙ drop-of-length-le l {i = n + (length l - n)} (omega arith)) ∙ ap (λ (r : List ℕ). take n l ++ r) (append-nil b)
-
--- after the first n, which are a, come those of b
-pub after-first : (a d b : List ℕ) (n : ℕ) → length a ≡ n → take n (a ++ d) ++ (b ++ drop (length (a ++ d) - n) (drop n (a ++ d))) ≡ a ++ b
-after-first a d b n e = end-replaced (a ++ d) b n ∙ ap (λ (r : List ℕ). r ++ b) (take-at a d n e)
+use Rattle.lemmas.proofs.Lists.{end-replaced}
 
 -- 160 columns, then two bytes, then b
 pub chip-put : (a d b : List ℕ) (x y : ℕ) → length a ≡ 160 → 2 ≤ length d

@@ -10,7 +10,7 @@ ghost use Rattle.words.specs.Fields.{field, joined, merged, Spread};
 // ---- column by column
 
 // A byte's bits in the other order, so that the bit for the lowest row comes lowest.
-fn reversed(x: u8) -> u8
+pub fn reversed(x: u8) -> u8
     ensures { λ r. ⌜ r ≡ field x 0 8 ⌝ }
 {
     let pairs = (x & 0x33) * 4 + (x / 4 & 0x33);
@@ -58,7 +58,7 @@ pub fn wide(q: u8) -> u32
 }
 
 // Four columns as a word, the first lowest: the compiler makes one load of it.
-fn four_columns(ram: &[u8], at: usize) -> u32
+pub fn four_columns(ram: &[u8], at: usize) -> u32
     requires { ⌜ at + 4 ≤ length (now ram) ⌝ }
     ensures { λ r. ⌜ r ≡ joined 4 (λ j. getD (now (ram .entry)) (at + j) 0) ⌝ }
 {

@@ -36,6 +36,12 @@ extern "C" {
         answer: *mut usize, answer_length: usize,
     ) -> u8;
 
+    pub fn humtrellis_write_rows(
+        part: u8, chips0: u8, chips1: u8, registers: *const u8, registers_length: usize,
+        group: u8, mode: u8, bank: u8, wanted: *const u8, wanted_length: usize,
+        out: *mut u8, out_length: usize, answer: *mut usize, answer_length: usize,
+    ) -> u8;
+
     pub fn humtrellis_rescue(
         log: *const u8, log_length: usize, out: *mut u8, out_length: usize,
         answer: *mut usize, answer_length: usize,
@@ -242,6 +248,43 @@ pub fn chip_picture(
         )
     };
     c.back(chip);
+    o.back(out);
+    a.back(answer);
+    number
+}
+
+pub fn write_rows(
+    part: u8,
+    [chips0, chips1]: [u8; 2],
+    registers: &mut [u8],
+    [group, mode, bank]: [u8; 3],
+    wanted: &mut [u8],
+    out: &mut [u8],
+    answer: &mut [usize],
+) -> u8 {
+    let (mut s, mut w) = (bytes(registers), bytes(wanted));
+    let (mut o, mut a) = (bytes(out), numbers(answer));
+    // Safety: each pointer goes with the length of the buffer that it points to.
+    let number = unsafe {
+        humtrellis_write_rows(
+            part,
+            chips0,
+            chips1,
+            s.pointer(),
+            s.length(),
+            group,
+            mode,
+            bank,
+            w.pointer(),
+            w.length(),
+            o.pointer(),
+            o.length(),
+            a.pointer(),
+            a.length(),
+        )
+    };
+    s.back(registers);
+    w.back(wanted);
     o.back(out);
     a.back(answer);
     number

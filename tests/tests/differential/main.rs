@@ -19,6 +19,7 @@ mod replay;
 mod rescue;
 mod seen;
 mod stops;
+mod writer;
 
 use case::{refusal_of, Call, Case, MARKS};
 use humtrellis_tests::generate::{self, shape};

@@ -105,6 +105,32 @@ impl Bus {
         self.refused(number, expected, 0);
         assert_eq!(out, [0xEE; COLUMNS]);
     }
+
+    /// The length told of the wanted rows is that of the RAM.
+    fn write_rows(&mut self, expected: u8) {
+        let (wanted, mut out) = ([0; COLUMNS], [0xEE; COLUMNS]);
+        let (r, a) = (&self.registers, &mut self.answer);
+        let number = unsafe {
+            humtrellis_write_rows(
+                self.part,
+                self.chips,
+                0,
+                r.as_ptr(),
+                REGISTERS,
+                0,
+                0,
+                0,
+                wanted.as_ptr(),
+                self.ram_length,
+                out.as_mut_ptr(),
+                COLUMNS,
+                a.as_mut_ptr(),
+                ANSWER,
+            )
+        };
+        self.refused(number, expected, 0);
+        assert_eq!(out, [0xEE; COLUMNS]);
+    }
 }
 
 #[test]
@@ -129,6 +155,19 @@ fn stops_before_ram_length() {
         bus.transfer(3);
         bus.picture(3);
         bus.power_on(3);
+    }
+}
+
+/// The wanted rows' length comes behind a register, and a chip count before both.
+#[test]
+fn stops_at_wanted_length() {
+    for mut bus in PARTS.map(Bus::new) {
+        bus.ram_length = FALSE;
+        bus.write_rows(4);
+        bus.registers[0] = 9;
+        bus.write_rows(6);
+        bus.chips = 9;
+        bus.write_rows(3);
     }
 }
 

@@ -5,9 +5,11 @@ use lib.Dec.{eqb}
 use lib.ListN.{length}
 use Rattle.sheet.specs.declared.Both.{Both}
 use Rattle.sheet.specs.Long.{picturePart}
+use Rattle.sheet.specs.Pictures.{Seen}
+use Rattle.sheet.specs.Refusals.{pictureNumbers}
 use Rattle.answers.proofs.Small.{picture-small}
 use Rattle.cabi.specs.Calls.{chipsOf, pictureC}
-use Rattle.cabi.proofs.Seen.{seen-said}
+use Rattle.cabi.proofs.Said.{said}
 use Rattle.cabi.proofs.Sizes.{first-sized, second-sized}
 use borrow.Author.Needs.{needs}
 use Rattle.cabi.proofs.humtrellis_picture.Statement.{statement}
@@ -16,13 +18,13 @@ use Rattle.cabi.proofs.humtrellis_picture.Tie as tie
 returns : tie.Need-returns
 unfolding pictureC
 returns c = let put = c .before .before in
-    let said = put .before .before in
-    let shown = said .before .before .before in
+    let numbered = put .before .before in
+    let shown = numbered .before .before .before in
     let read = shown .before .before in
     let a = read .before .before .before .before .before .before .args in
-    seen-said (eqb (length (a .registers .now)) 24) (a .out .now) (a .answer .now) (read .before .if1 .taken)
-    (shown .picture .ensures .0 ∙ ap (λ (r : Both). picturePart (a .part) (chipsOf (a .chips0) (a .chips1)) r (a .ram .now) (a .group) (a .phase) (a .out .now)) (read .both-of .ensures))
-    (said .picture-numbers .ensures) (put .put-numbers .ensures)
+    let same = shown .picture .ensures .0 ∙ ap (λ (r : Both). picturePart (a .part) (chipsOf (a .chips0) (a .chips1)) r (a .ram .now) (a .group) (a .phase) (a .out .now)) (read .both-of .ensures) in
+    said (eqb (length (a .registers .now)) 24) (a .out .now) (a .answer .now) (read .before .if1 .taken)
+    (numbered .picture-numbers .ensures ∙ ap (λ (s : Seen). pictureNumbers (s .result)) same) (ap (λ (s : Seen). s .out) same) (put .put-numbers .ensures)
 
 returns-2 : tie.Need-returns-2
 unfolding pictureC

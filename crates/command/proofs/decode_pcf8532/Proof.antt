@@ -3,7 +3,7 @@
 use mathlib.Core.Path.{refl, _∙_}
 use native.Mathlib.Omega.{arith}
 use Rattle.sheet.specs.Parts.{within, pcf8532Ranges}
-use Rattle.command.proofs.Stretches.{stretch}
+use Rattle.laws.proofs.Stretches.{stretch}
 use borrow.Author.Needs.{needs}
 use Rattle.command.proofs.decode_pcf8532.Statement.{statement}
 use Rattle.command.proofs.decode_pcf8532.Tie as tie

@@ -4,27 +4,21 @@ use mathlib.Core.Path.{sym, ap, _∙_}
 use mathlib.Core.List.{List}
 use Prim.Native.Nat.{ℕ, _+_, _≤_, _<_}
 use native.Mathlib.Omega.{arith}
-use lib.Dec.{leb, leb→le}
 use lib.ListN.{length, getD, drop, drop-of-length-le}
 use denote.Ref.{now}
 use Rattle.lemmas.proofs.Lists.{next}
-use Rattle.lemmas.proofs.Tests.{all, all-at}
 use Rattle.sheet.specs.Registers.{bankRow}
 use Rattle.sheet.specs.Data.{putBits}
 use Rattle.sheet.specs.Runs.{putRun}
+use Rattle.laws.proofs.Ranges.{bank-rows-fit}
 use Rattle.ram.proofs.Runs.{run-cut}
 use borrow.Author.Needs.{needs}
 use Rattle.ram.proofs.cut_byte.Statement.{statement}
 use Rattle.ram.proofs.cut_byte.Tie as tie
 
-rows-fit : (m bank : ℕ) → m < 5 → bank < 2 → bankRow m bank + m ≤ 4
-unfolding bankRow
-rows-fit m bank hm hb =
-    leb→le (bankRow m bank + m) 4 (all-at 2 (λ i. leb (bankRow m i + m) 4) (all-at 5 (λ n. all 2 (λ i. leb (bankRow n i + n) 4)) tt m hm) bank hb)
-
 put-bits-requires : tie.Need-put-bits-requires
 put-bits-requires c κs = let s = c .before .before .before .before .before .before in
-    (s .pre .some, rw (c .before .before .bank-row .ensures) (rows-fit (s .args .m) (s .args .bank) (s .pre .four) (s .pre .two)), s .pre .near)
+    (s .pre .some, rw (c .before .before .bank-row .ensures) (bank-rows-fit (s .args .m) (s .args .bank) (s .pre .four) (s .pre .two)), s .pre .near)
 
 returns : tie.Need-returns
 returns c = let s = c .before .before .before .before .before .before .before .before .before in

@@ -6,7 +6,7 @@ use Prim.Native.Nat.{ℕ}
 use native.Mathlib.Omega.{arith}
 use lib.ListN.{length, drop, length-take}
 use denote.Ref.{now}
-use Rattle.wire.proofs.Parts.{after-first}
+use Rattle.lemmas.proofs.Lists.{after-first}
 use borrow.Author.Needs.{needs}
 use Rattle.wire.proofs.put_both.Statement.{statement}
 use Rattle.wire.proofs.put_both.Tie as tie

@@ -1,0 +1,106 @@
+-- A data byte with its bits in the other order: in the right order it is the data byte, and a column of it is one field.
+-- Assumes nothing.
+use mathlib.Core.Path.{_≡_, refl, sym, ap, _∙_}
+use mathlib.Core.Logic.{⊎-elim, _≢_}
+use mathlib.Core.List.{List}
+use Prim.Native.Nat.{ℕ, zero, suc, _+_, _-_, _*_, _/_, _%_, _^_, _≤_, _<_}
+use native.Mathlib.Nat.{add-zero, add-assoc, add-suc, add-comm, mul-comm, mod-one, div-one, mul-zero, mul-suc, le-refl, le-of-lt, pow-suc, mul-le-mul-right, le-of-suc-le-suc}
+use native.Mathlib.Omega.{arith}
+use lib.Arith.{digits-div, digits-mod, mod-mul}
+use lib.ListN.{getD}
+use lib.Pow.{pow-pos, pow-add, shr-shr}
+use Rattle.lemmas.proofs.Order.{equal-or-not}
+use Rattle.sheet.specs.Data.{rowOf}
+use Rattle.sheet.specs.Writer.{bitFrom, bitsFrom}
+use Rattle.laws.proofs.Rows.{row-of-low}
+use Rattle.laws.proofs.Wanted.{bit-lt}
+use Rattle.words.specs.Fields.{field}
+use Rattle.gather.specs.Lows.{lowBits}
+
+-- ---- its bits
+
+pub low-lt : (n m b v : ℕ) (columns : List ℕ) → lowBits n m b v columns < 2 ^ n
+unfolding lowBits
+low-lt zero m b v columns = omega arith
+low-lt (suc n) m b v columns =
+    rw (pow-suc 2 n) (omega (arith, low-lt n m b v columns, mul-le-mul-right (2 ^ n) (le-of-suc-le-suc (bit-lt m b v columns n))))
+
+low-at : (n m b v : ℕ) (columns : List ℕ) (k : ℕ) → k < n → rowOf (lowBits n m b v columns) k ≡ bitFrom m b v columns k
+unfolding lowBits
+low-at zero m b v columns k h = absurd (omega arith)
+low-at (suc n) m b v columns k h =
+    let low : ℕ = lowBits n m b v columns in
+    let t : ℕ = bitFrom m b v columns n in
+    let split : low + t * 2 ^ n ≡ t * 2 ^ n + low = add-comm low (t * 2 ^ n) in
+    ⊎-elim
+    (λ (e : k ≡ n).
+    rw (e, split, digits-div t (low-lt n m b v columns)) (omega (arith, bit-lt m b v columns n)))
+    (λ (ne : k ≢ n).
+    let d : ℕ = n - suc k in
+    let all : d + 1 + k ≡ n = omega arith in
+    row-of-low (low + t * 2 ^ n) k d
+    ∙ ap (λ (x : ℕ). x / 2 ^ k % 2)
+    (ap (λ (i : ℕ). (low + t * 2 ^ n) % 2 ^ i) all ∙ ap (λ (x : ℕ). x % 2 ^ n) split ∙ digits-mod t (low-lt n m b v columns))
+    ∙ low-at n m b v columns k (omega arith))
+    (equal-or-not k n)
+
+-- ---- in the other order
+
+-- eight bits t from the lowest on, read from the highest on
+backward : (t : ℕ → ℕ) (y : ℕ) → ((k : ℕ) → k < 8 → rowOf y k ≡ t k) → field y 0 8 ≡ 2 * (2 * (2 * (2 * (2 * (2 * (2 * (2 * 0 + t 0) + t 1) + t 2) + t 3) + t 4) + t 5) + t 6) + t 7
+unfolding field
+backward t y at = omega (arith, at 0 (omega arith), at 1 (omega arith), at 2 (omega arith), at 3 (omega arith), at 4 (omega arith), at 5 (omega arith), at 6 (omega arith), at 7 (omega arith))
+
+pub turned : (m b v : ℕ) (columns : List ℕ) (y : ℕ) → y ≡ lowBits 8 m b v columns → field y 0 8 ≡ bitsFrom 8 m b v columns
+unfolding bitsFrom
+turned m b v columns y e = backward (bitFrom m b v columns) y (λ k h. ap (λ (x : ℕ). rowOf x k) e ∙ low-at 8 m b v columns k h)
+
+-- ---- column j of the byte: h ≤ m rows
+
+-- one row more
+field-more : (q b h : ℕ) → q / 2 ^ b % 2 ^ suc h ≡ q / 2 ^ b % 2 ^ h + q / 2 ^ (b + h) % 2 * 2 ^ h
+field-more q b h =
+    ap (λ (k : ℕ). q / 2 ^ b % k) (pow-suc 2 h ∙ mul-comm (2 ^ h) 2) ∙ mod-mul (q / 2 ^ b) {m = 2} (omega arith) (pow-pos h)
+    ∙ ap (λ (k : ℕ). k % 2 * 2 ^ h + q / 2 ^ b % 2 ^ h) (shr-shr q b h) ∙ add-comm (q / 2 ^ (b + h) % 2 * 2 ^ h) _
+
+pub low-column : (m b v : ℕ) (columns : List ℕ) (j h : ℕ) → h ≤ m
+    → lowBits (m * j + h) m b v columns ≡ lowBits (m * j) m b v columns + getD columns (v + j) 0 / 2 ^ b % 2 ^ h * 2 ^ (m * j)
+unfolding lowBits
+low-column m b v columns j zero l = rw (add-zero (m * j), mod-one (getD columns (v + j) 0 / 2 ^ b)) (omega arith)
+low-column m b v columns j (suc h) l =
+    let q : ℕ = getD columns (v + j) 0 in
+    let d : (m * j + h) / m ≡ j = rw (mul-comm m j) (digits-div j l) in
+    let e : (m * j + h) % m ≡ h = rw (mul-comm m j) (digits-mod j l) in
+    rw (add-suc (m * j) h, low-column m b v columns j h (le-of-lt l), d, e, field-more q b h)
+    (omega (arith, ap (λ (n : ℕ). q / 2 ^ (b + h) % 2 * n) (pow-add 2 (m * j) h)))
+
+-- four columns of h rows
+pub low-four : (h b v : ℕ) (columns : List ℕ) → let rows : ℕ → ℕ = λ j. getD columns (v + j) 0 / 2 ^ b % 2 ^ h in
+    lowBits (h * 4) h b v columns ≡ rows 0 + rows 1 * 2 ^ (h * 1) + rows 2 * 2 ^ (h * 2) + rows 3 * 2 ^ (h * 3)
+unfolding lowBits
+low-four h b v columns =
+    let rows : ℕ → ℕ = λ j. getD columns (v + j) 0 / 2 ^ b % 2 ^ h in
+    let one : (j : ℕ) → lowBits (h * suc j) h b v columns ≡ lowBits (h * j) h b v columns + rows j * 2 ^ (h * j) =
+    λ j. ap (λ (n : ℕ). lowBits n h b v columns) (mul-suc h j) ∙ low-column h b v columns j h (le-refl h) in
+    let none : lowBits (h * 0) h b v columns ≡ 0 = rw (mul-zero h) refl in
+    let first : rows 0 * 2 ^ (h * 0) ≡ rows 0 = rw (mul-zero h) (omega arith) in
+    omega (arith, one 0, one 1, one 2, one 3, none, first)
+
+-- a column of h rows more, by its number in the byte
+pub low-next : (m b v : ℕ) (columns : List ℕ) (j h : ℕ) → h ≤ m → (q : ℕ) → getD columns (v + j) 0 ≡ q
+    → lowBits (m * j + h) m b v columns ≡ lowBits (m * j) m b v columns + q / 2 ^ b % 2 ^ h * 2 ^ (m * j)
+low-next m b v columns j h l q e = low-column m b v columns j h l ∙ ap (λ (k : ℕ). lowBits (m * j) m b v columns + k / 2 ^ b % 2 ^ h * 2 ^ (m * j)) e
+
+-- from row 0 on
+pub low-whole : (m v : ℕ) (columns : List ℕ) (j h : ℕ) → h ≤ m → (q : ℕ) → getD columns (v + j) 0 ≡ q → lowBits (m * j + h) m 0 v columns ≡ lowBits (m * j) m 0 v columns + q % 2 ^ h * 2 ^ (m * j)
+low-whole m v columns j h l q e = low-next m 0 v columns j h l q e ∙ ap (λ (k : ℕ). lowBits (m * j) m 0 v columns + k % 2 ^ h * 2 ^ (m * j)) (div-one q)
+
+pub low-none : (m b v : ℕ) (columns : List ℕ) → lowBits 0 m b v columns ≡ 0
+unfolding lowBits
+low-none m b v columns = refl
+
+-- static: the second four columns
+pub low-eight : (b v : ℕ) (columns : List ℕ) → lowBits 4 1 b v columns + 16 * lowBits 4 1 b (v + 4) columns ≡ lowBits 8 1 b v columns
+low-eight b v columns =
+    let same : (j : ℕ) → getD columns (v + (4 + j)) 0 ≡ getD columns (v + 4 + j) 0 = λ j. ap (λ (i : ℕ). getD columns i 0) (sym (add-assoc v 4 j)) in
+    omega (arith, low-four 1 b (v + 4) columns, low-next 1 b v columns 4 1 (omega arith) _ (same 0), low-next 1 b v columns 5 1 (omega arith) _ (same 1), low-next 1 b v columns 6 1 (omega arith) _ (same 2), low-next 1 b v columns 7 1 (omega arith) _ (same 3))
