@@ -19,6 +19,7 @@ pub mod Cuts
 pub mod Either
 pub mod Writer
 pub mod Puts
+pub mod Three
 pub mod Pointing
 pub mod Starred
 pub mod Smaller
