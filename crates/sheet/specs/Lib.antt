@@ -33,3 +33,4 @@ pub mod Worked
 pub mod Rescuing
 pub mod Merging
 pub mod Writings
+pub mod Threes

@@ -91,8 +91,7 @@ put-three-requires c κs = let z = c .before .before in
     let a = t .before .before .before .before .before .args in
     let asked = asks t in
     let own = asked .own-in in
-    let e = o .registers-of .ensures in
-    (
+    let e = o .registers-of .ensures in (
       asked .group-in,
       rw e (own .e-in),
       rw e (own .b-in),
