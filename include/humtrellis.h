@@ -32,7 +32,7 @@
 #include <stddef.h>
 #include <stdint.h>
 
-#define HUMTRELLIS_VERSION 5 /* of these sizes and calls; docs/C.md says what changed */
+#define HUMTRELLIS_VERSION 6 /* of these sizes and calls; docs/C.md says what changed */
 #define HUMTRELLIS_PCF8532 0 /* the parts */
 #define HUMTRELLIS_PCA85133 1
 #define HUMTRELLIS_COLUMNS 160         /* of a chip: its bytes in the RAM and in a picture */
@@ -45,6 +45,7 @@
 #define HUMTRELLIS_PCA85133_NONE 8 /* of a PCA85133 */
 #define HUMTRELLIS_SIZE 255
 #define HUMTRELLIS_ROWS 332    /* bytes that hold any transfer of humtrellis_write_rows */
+#define HUMTRELLIS_THREE 2563  /* and of humtrellis_write_three */
 #define HUMTRELLIS_TEXT 700000 /* bytes that hold the text of any log */
 
 #define HUMTRELLIS_CHIP 174
@@ -150,6 +151,14 @@ uint8_t humtrellis_chip_picture(uint8_t part, const uint8_t *chip, size_t chip_l
 uint8_t humtrellis_write_rows(uint8_t part, uint8_t chips0, uint8_t chips1, const uint8_t *registers, size_t registers_length,
                               uint8_t group, uint8_t mode, uint8_t bank, const uint8_t *wanted, size_t wanted_length,
                               uint8_t *out, size_t out_length, size_t *answer, size_t answer_length);
+
+/* Every element of a three-backplane glass: one whole transfer that sets rows 0 to 2 of every column of a group in 1:3, also the row that plain filling skips, at the front
+ * of `out`; the bytes behind it stay. A data byte begins at each even column and overwrites the spare bits of the one before. E, B, I, O and blinking stay as `registers` has
+ * them, and row 3 of every column too; it works from unknown marks. All its bytes are acknowledged but the last, which loses two bits. A group with no chip gets 0 bytes.
+ * Answer: number, place, written, 0, 0, 0. Refusals: 16, 3, 6, 8, 4, 5, then 9 for `out` shorter than the transfer. */
+uint8_t humtrellis_write_three(uint8_t part, uint8_t chips0, uint8_t chips1, const uint8_t *registers, size_t registers_length,
+                               uint8_t group, const uint8_t *wanted, size_t wanted_length,
+                               uint8_t *out, size_t out_length, size_t *answer, size_t answer_length);
 
 /* What is whole of a torn bus log, its head and the records before the first tear, at the front of `out`; the bytes behind it stay.
  * Answer: number, place, records kept, bytes kept, bytes dropped, offset of the tear. Refusals: 14, 12, 3, then 9 for `out` shorter than `log`. */

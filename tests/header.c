@@ -11,7 +11,7 @@ static int failures = 0;
 /* A bus of one PCF8532 in each group, or of four PCA85133 in group 0. */
 enum { RAM = 2 * HUMTRELLIS_COLUMNS };
 static uint8_t registers[HUMTRELLIS_REGISTERS], ram[RAM], picture[HUMTRELLIS_COLUMNS], chips[17 * HUMTRELLIS_CHIP], text[HUMTRELLIS_TEXT];
-static uint8_t many[65537], wanted[RAM], written[HUMTRELLIS_ROWS];
+static uint8_t many[65537], wanted[RAM], written[HUMTRELLIS_THREE];
 static size_t answer[HUMTRELLIS_ANSWER];
 
 static uint8_t power_on(void) {
@@ -96,7 +96,7 @@ static void answers(void) {
     EXPECT(power_on() == HUMTRELLIS_TAKEN);
     EXPECT(send(past_the_end, sizeof past_the_end) == HUMTRELLIS_TAKEN);
     EXPECT(answer[HUMTRELLIS_ACKNOWLEDGED] == 8 && answer[HUMTRELLIS_STORED] == 3 && answer[HUMTRELLIS_DISCARDED] == 5);
-    EXPECT(answer[HUMTRELLIS_ACKNOWLEDGED_BY] == HUMTRELLIS_NONE && HUMTRELLIS_NONE == 4 && HUMTRELLIS_VERSION == 5);
+    EXPECT(answer[HUMTRELLIS_ACKNOWLEDGED_BY] == HUMTRELLIS_NONE && HUMTRELLIS_NONE == 4 && HUMTRELLIS_VERSION == 6);
     EXPECT(ram[HUMTRELLIS_COLUMNS - 1] == 7 && ram[HUMTRELLIS_COLUMNS] == 0);
     EXPECT(send(group1, sizeof group1) == HUMTRELLIS_TAKEN && answer[HUMTRELLIS_ACKNOWLEDGED_BY] == 0);
     EXPECT(ram[HUMTRELLIS_COLUMNS] == 5 && ram[HUMTRELLIS_COLUMNS + 1] == 10);
@@ -273,6 +273,28 @@ static void wanted_rows(void) {
     EXPECT(write_rows(HUMTRELLIS_PCF8532, 1, 3, 0, HUMTRELLIS_COLUMNS, 66) == HUMTRELLIS_REFUSED_COLUMN && answer[HUMTRELLIS_PLACE] == 7);
 }
 
+static uint8_t write_three(uint8_t part, uint8_t group, size_t length, size_t room) {
+    return humtrellis_write_three(part, 1, 1, registers, sizeof registers, group, wanted, length, written, room, answer, HUMTRELLIS_ANSWER);
+}
+
+/* Rows 0 to 2 of every column of group 1, also row 2 of column 2, which a plain run skips: a byte at column 0, one at column 2, and so on. */
+static void every_element(void) {
+    const uint8_t head[] = {0x72, 0x80, 0xC3, 0x80, 0xE0, 0x80, 0x00, 0x80, 0x40, 0xC0, 0x04, 0x80, 0xE0, 0x80, 0x00, 0x80, 0x42, 0xC0, 0x20};
+    power_on();
+    memset(registers + HUMTRELLIS_SET + HUMTRELLIS_UNKNOWN_HIGH, 1, 3);
+    memset(wanted, 0, sizeof wanted);
+    wanted[1] = wanted[2] = 4;
+    memset(ram, 15, sizeof ram);
+    memset(written, 0xEE, sizeof written);
+    EXPECT(write_three(HUMTRELLIS_PCF8532, 1, HUMTRELLIS_COLUMNS, 643) == HUMTRELLIS_TAKEN && answer[HUMTRELLIS_WRITTEN] == 643);
+    EXPECT(memcmp(written, head, sizeof head) == 0 && written[643] == 0xEE && HUMTRELLIS_THREE == 2563);
+    EXPECT(send(written, 643) == HUMTRELLIS_TAKEN && answer[HUMTRELLIS_ACKNOWLEDGED] == 642 && answer[HUMTRELLIS_DISCARDED] == 2);
+    EXPECT(ram[HUMTRELLIS_COLUMNS - 1] == 15 && ram[HUMTRELLIS_COLUMNS] == 8 && ram[HUMTRELLIS_COLUMNS + 1] == 12 && ram[HUMTRELLIS_COLUMNS + 2] == 12 && ram[RAM - 1] == 8);
+    EXPECT(registers[HUMTRELLIS_SET + HUMTRELLIS_M] == 3 && registers[HUMTRELLIS_SET + HUMTRELLIS_UNKNOWN_LOW] == 0);
+    EXPECT(write_three(HUMTRELLIS_PCA85133, 0, HUMTRELLIS_PCA85133_COLUMNS, 243) == HUMTRELLIS_TAKEN && answer[HUMTRELLIS_WRITTEN] == 243);
+    EXPECT(write_three(HUMTRELLIS_PCF8532, 1, HUMTRELLIS_COLUMNS, 642) == HUMTRELLIS_REFUSED_OUT_LENGTH && write_three(HUMTRELLIS_PCF8532, 2, HUMTRELLIS_COLUMNS, 643) == HUMTRELLIS_REFUSED_VIEW);
+}
+
 /* An unknown part comes before every refusal, but not before a wrong size; both power-ons still give power-on registers. */
 static void unknown_part(void) {
     registers[HUMTRELLIS_E] = 9;
@@ -330,6 +352,7 @@ int main(void) {
     cut_bytes();
     cut_chips();
     wanted_rows();
+    every_element();
     unknown_part();
     logs();
     rescues();

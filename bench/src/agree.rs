@@ -29,7 +29,7 @@ fn pictured(picture: Picture, bus: &Bus, [group, phase]: [u8; 2], length: usize)
 
 fn written(writer: Writer, writing: &Writing, length: usize) -> Outcome {
     let mut out = vec![0xEE; length];
-    let answer = writer(writing.wanted(), &mut out);
+    let answer = writer(writing.asked(), &mut out);
     (answer, writing.bus.clone(), out)
 }
 

@@ -1,7 +1,7 @@
 //! (a): the proved library, through the calls of include/humtrellis.h.
 
+use crate::ways::Asked;
 use humtrellis_tests::model::{View, ANSWER, REGISTERS};
-use humtrellis_tests::writer::Wanted;
 
 /// Both groups' registers as bytes.
 pub type RegisterBytes = [u8; REGISTERS];
@@ -83,21 +83,21 @@ pub fn picture(view: View, out: &mut [u8]) -> Numbers {
     answer
 }
 
-pub fn write_rows(wanted: Wanted, out: &mut [u8]) -> Numbers {
+pub fn write_rows(asked: Asked, out: &mut [u8]) -> Numbers {
     let mut answer = [0; ANSWER];
     // Safety: each pointer goes with the length of the buffer that it points to.
     unsafe {
         humtrellis_write_rows(
-            wanted.part,
-            wanted.chips0,
-            wanted.chips1,
-            wanted.registers.as_ptr(),
-            wanted.registers.len(),
-            wanted.group,
-            wanted.mode,
-            wanted.bank,
-            wanted.rows.as_ptr(),
-            wanted.rows.len(),
+            asked.part,
+            asked.chips[0],
+            asked.chips[1],
+            asked.registers.as_ptr(),
+            asked.registers.len(),
+            asked.group,
+            asked.mode,
+            asked.bank,
+            asked.rows.as_ptr(),
+            asked.rows.len(),
             out.as_mut_ptr(),
             out.len(),
             answer.as_mut_ptr(),

@@ -57,7 +57,7 @@ fn writer_call<'a>(writer: Writer, writings: &'a [Writing], room: usize) -> Call
     let mut out = vec![0; room];
     Box::new(move |turn| {
         let writing = black_box(&writings[turn % TURNS]);
-        black_box(writer(writing.wanted(), &mut out));
+        black_box(writer(writing.asked(), &mut out));
     })
 }
 

@@ -1,11 +1,10 @@
 //! The inputs: setups, transfers that fill their chips, buses to show, wanted rows, and logs; the same in every run.
 
 use crate::library::{Numbers, RegisterBytes};
-use crate::ways::Transfer;
-use humtrellis_tests::generate::{commands_then_data, position_commands, shape};
+use crate::ways::{Asked, Transfer};
+use humtrellis_tests::generate::{commands_then_data, shape};
 use humtrellis_tests::model::{Part, Registers, View, LOG_PART, REGISTERS, SET};
 use humtrellis_tests::random::Random;
-use humtrellis_tests::writer::Wanted;
 
 /// Inputs of one kind that take turns, so that no call repeats the one before.
 pub const TURNS: usize = 8;
@@ -96,11 +95,10 @@ pub struct Writing {
 }
 
 impl Writing {
-    pub fn wanted(&self) -> Wanted<'_> {
-        Wanted {
+    pub fn asked(&self) -> Asked<'_> {
+        Asked {
             part: self.bus.part,
-            chips0: self.bus.chips[0],
-            chips1: self.bus.chips[1],
+            chips: self.bus.chips,
             registers: &self.bus.registers,
             group: self.group,
             mode: self.mode,
@@ -212,7 +210,7 @@ impl Setup {
 
 /// Sets mode, device and pointer (each with its control byte), then a data run from column 0 on.
 fn transfer(part: Part, mode: Mode, data: &[u8]) -> Vec<u8> {
-    let commands = [&[0xC8 | mode.bits], &position_commands(part, 0, 0)[..]].concat();
+    let commands = [&[0xC8 | mode.bits], &part.position_commands(0, 0)[..]].concat();
     commands_then_data(0x70, &commands, data)
 }
 

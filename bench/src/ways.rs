@@ -7,7 +7,19 @@ use humtrellis_tests::writer::{self, Wanted};
 
 pub type Transfer = fn(u8, [u8; 2], &mut RegisterBytes, &mut [u8], &[u8], u8) -> Numbers;
 pub type Picture = fn(View, &mut [u8]) -> Numbers;
-pub type Writer = fn(Wanted, &mut [u8]) -> Numbers;
+/// What a writer is asked for: rows of a group, in a mode and an input bank.
+#[derive(Clone, Copy)]
+pub struct Asked<'a> {
+    pub part: u8,
+    pub chips: [u8; 2],
+    pub registers: &'a RegisterBytes,
+    pub group: u8,
+    pub mode: u8,
+    pub bank: u8,
+    pub rows: &'a [u8],
+}
+
+pub type Writer = fn(Asked, &mut [u8]) -> Numbers;
 
 /// (a), (b) and (c), in the order of the printed columns.
 pub const TRANSFERS: [(&str, Transfer); 3] = [
@@ -46,6 +58,14 @@ fn model_picture(view: View, out: &mut [u8]) -> Numbers {
     model::picture(view, out).numbers()
 }
 
-fn model_writer(wanted: Wanted, out: &mut [u8]) -> Numbers {
-    writer::write_rows(wanted, out).numbers()
+fn model_writer(asked: Asked, out: &mut [u8]) -> Numbers {
+    let wanted = Wanted {
+        part: asked.part,
+        chips0: asked.chips[0],
+        chips1: asked.chips[1],
+        registers: asked.registers,
+        group: asked.group,
+        rows: asked.rows,
+    };
+    writer::write_rows(wanted, [asked.mode, asked.bank], out).numbers()
 }

@@ -92,14 +92,6 @@ fn undefined_command(random: &mut Random, part: Part) -> u8 {
     }
 }
 
-/// The commands that set counter and pointer.
-pub fn position_commands(part: Part, a: u8, p: u8) -> Vec<u8> {
-    match part {
-        Part::Pcf8532 => vec![0xE0 | a, p / 16, 0x40 | (p % 16)],
-        Part::Pca85133 => vec![0xE0 | a, p],
-    }
-}
-
 /// Commands that set the pointer near a chip's edge.
 fn edge_pointer(random: &mut Random, part: Part) -> Vec<u8> {
     let pointer = match part {
@@ -107,7 +99,7 @@ fn edge_pointer(random: &mut Random, part: Part) -> Vec<u8> {
         Part::Pca85133 => random.pick(&[0, 1, 63, 70, 72, 73, 74, 75, 76, 77, 78, 79]),
     };
     let device = random.below(part.subaddresses().into());
-    position_commands(part, device as u8, pointer)
+    part.position_commands(device as u8, pointer)
 }
 
 /// A mode-set (mostly enabled), and perhaps banks and blinking.

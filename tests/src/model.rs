@@ -141,6 +141,14 @@ impl Part {
         Some(command)
     }
 
+    /// The commands that set counter and pointer: device-select, then pointer high and pointer low, or the PCA85133's single pointer command.
+    pub fn position_commands(self, a: u8, p: u8) -> Vec<u8> {
+        match self {
+            Part::Pcf8532 => vec![0xE0 | a, p / 16, 0x40 | (p % 16)],
+            Part::Pca85133 => vec![0xE0 | a, p],
+        }
+    }
+
     /// True for the bytes that the part's table of commands names.
     pub fn defines(self, byte: u8) -> bool {
         self.command(byte).is_some()

@@ -12,8 +12,12 @@ mod part;
 mod rescue;
 #[path = "seen_tests.rs"]
 mod seen;
+#[path = "three_tests.rs"]
+mod three;
 #[path = "writer_tests.rs"]
 mod writer;
+#[path = "writing_tests.rs"]
+mod writing;
 
 use super::*;
 use crate::{generate, random::Random};

@@ -1,115 +1,25 @@
 //! Request 2 of paper 02: a group's wanted rows become one transfer of either part, which in both accounts puts them there and changes nothing else.
 
+use super::writing::*;
 use super::*;
-use crate::writer::{write_rows, Wanted};
 
-/// Room for every transfer; the longest has 332 bytes.
-const ROOM: usize = 400;
 /// Every wanted M and I.
-const SETTINGS: [[u8; 2]; 8] = [
-    [1, 0],
-    [1, 1],
-    [2, 0],
-    [2, 1],
-    [3, 0],
-    [3, 1],
-    [0, 0],
-    [0, 1],
-];
-/// Bytes before the data, and the most chips of a group, by part.
-const HEADS: [usize; 2] = [12, 10];
-const MOST: [u8; 2] = [4, 8];
-/// The greatest registers of each part: E B M P A I O AB BF and three marks.
-const GREATEST: [[u8; SET]; 2] = [
-    [1, 1, 3, 159, 4, 1, 1, 1, 3, 1, 1, 1],
-    [1, 1, 3, 79, 8, 1, 1, 1, 3, 1, 1, 1],
+const SETTINGS: [Setting; 8] = [
+    Some([1, 0]),
+    Some([1, 1]),
+    Some([2, 0]),
+    Some([2, 1]),
+    Some([3, 0]),
+    Some([3, 1]),
+    Some([0, 0]),
+    Some([0, 1]),
 ];
 
-/// A call, but for its output.
-#[derive(Clone, Debug)]
-struct Writing {
-    part: u8,
-    chips: [u8; 2],
-    registers: [u8; REGISTERS],
-    group: u8,
-    mode: u8,
-    bank: u8,
-    rows: Vec<u8>,
-}
-
-impl Writing {
-    /// A bus from power-on, with chips in group 0 alone; every column is wanted to be `column`.
-    fn new(part: u8, chips: u8, setting: [u8; 2], column: u8) -> Self {
-        Writing::of_group(part, [chips, 0], 0, setting, column)
-    }
-
-    fn of_group(part: u8, chips: [u8; 2], group: u8, setting: [u8; 2], column: u8) -> Self {
-        let [mode, bank] = setting;
-        let length = columns_of(part) * chips[group as usize] as usize;
-        Writing {
-            part,
-            chips,
-            registers: [0; REGISTERS],
-            group,
-            mode,
-            bank,
-            rows: vec![column; length],
-        }
-    }
-
-    fn write(&self, out: &mut [u8]) -> [usize; ANSWER] {
-        let [chips0, chips1] = self.chips;
-        let wanted = Wanted {
-            part: self.part,
-            chips0,
-            chips1,
-            registers: &self.registers,
-            group: self.group,
-            mode: self.mode,
-            bank: self.bank,
-            rows: &self.rows,
-        };
-        write_rows(wanted, out).numbers()
-    }
-
-    /// The transfer, with room behind it, which stays.
-    fn bytes(&self) -> Vec<u8> {
-        let mut out = vec![0xEE; ROOM];
-        let answer = self.write(&mut out);
-        let length = answer[2];
-        assert_eq!(answer, [0, 0, length, 0, 0, 0], "{self:?}");
-        assert_eq!(out[length..], vec![0xEE; ROOM - length]);
-        out.truncate(length);
-        out
-    }
-
-    /// The transfer's bytes behind its head.
-    fn data(&self) -> Vec<u8> {
-        self.bytes().split_off(HEADS[self.part as usize])
-    }
-
-    /// The call is refused, and the output stays.
-    fn refused(&self, room: usize, number: usize, place: usize) {
-        let mut out = vec![0xEE; room];
-        let answer = self.write(&mut out);
-        assert_eq!(answer, [number, place, 0, 0, 0, 0], "{self:?}");
-        assert_eq!(out, vec![0xEE; room]);
-    }
-}
-
-/// Every part, chips of a group, group, M and I; the other group has another number of chips.
-fn every_writing() -> Vec<Writing> {
-    let mut writings = Vec::new();
-    for (part, most) in (0..).zip(MOST) {
-        for chips in 0..=most {
-            for setting in SETTINGS {
-                let other = (chips + 2) % (most + 1);
-                writings.push(Writing::of_group(part, [chips, other], 0, setting, 0));
-                writings.push(Writing::of_group(part, [other, chips], 1, setting, 0));
-            }
-        }
-    }
-    writings
+/// Every part, chips of a group, group, M and I.
+fn every_call() -> Vec<(Writing, [u8; 2])> {
+    let with_setting = |writing: Writing| writing.setting.map(|setting| (writing, setting));
+    let writings = every_writing(&SETTINGS);
+    writings.into_iter().filter_map(with_setting).collect()
 }
 
 // ---- The bytes -------------------------------------------------------------
@@ -168,29 +78,19 @@ fn two_heads() {
     assert_eq!(writing.bytes()[..10], head);
 }
 
-/// A group's registers are the greatest but for E, B and O; of the other group these are the opposite.
-fn with_flags(mut writing: Writing, flags: [u8; 3]) -> Writing {
-    let own = SET * writing.group as usize;
-    for (start, [e, b, o]) in [(own, flags), (SET - own, flags.map(|flag| 1 - flag))] {
-        let set = &mut writing.registers[start..start + SET];
-        set.copy_from_slice(&GREATEST[writing.part as usize]);
-        (set[0], set[1], set[6]) = (e, b, o);
-    }
-    writing
-}
-
 /// Every head: E, B and O are the group's own, M and I the wanted ones.
 #[test]
 fn heads() {
     for state in 0..2 * 2 * 2 {
         let flags @ [e, b, o] = [state & 1, state >> 1 & 1, state >> 2];
-        let with_chips = every_writing()
+        let with_chips = every_call()
             .into_iter()
-            .filter(|writing| !writing.rows.is_empty());
-        for writing in with_chips.map(|writing| with_flags(writing, flags)) {
+            .filter(|(writing, _)| !writing.rows.is_empty());
+        for (writing, [mode, bank]) in with_chips {
+            let writing = with_flags(writing, flags);
             let address = 0x70 + 2 * writing.group;
-            let mode_set = 0xC0 + 8 * e + 4 * b + writing.mode;
-            let bank_select = 0xF8 + 2 * writing.bank + o;
+            let mode_set = 0xC0 + 8 * e + 4 * b + mode;
+            let bank_select = 0xF8 + 2 * bank + o;
             let commands = match writing.part {
                 PCF8532 => vec![mode_set, bank_select, 0xE0, 0x00, 0x40],
                 _ => vec![mode_set, bank_select, 0xE0, 0x00],
@@ -219,26 +119,17 @@ const LENGTHS: [[&[usize]; 4]; 2] = [
 
 #[test]
 fn lengths() {
-    for writing in every_writing() {
+    for (writing, [mode, _]) in every_call() {
         let chips = writing.chips[writing.group as usize];
         let by_mode = LENGTHS[writing.part as usize];
-        let length = by_mode[writing.mode as usize][chips as usize];
+        let length = by_mode[mode as usize][chips as usize];
         assert_eq!(writing.bytes().len(), length, "{writing:?}");
     }
 }
 
-/// In outputs just as long as the transfer and longer, the bytes past it stay.
 #[test]
 fn output_past_it() {
-    for mut writing in every_writing() {
-        writing.rows.fill(15);
-        let bytes = writing.bytes();
-        for more in [0, 1, 2, 99] {
-            let mut out = vec![0xEE; bytes.len() + more];
-            assert_eq!(writing.write(&mut out), [0, 0, bytes.len(), 0, 0, 0]);
-            assert_eq!(out, [&bytes[..], &vec![0xEE; more]].concat());
-        }
-    }
+    hold_output_past_it(&SETTINGS);
 }
 
 /// A byte over the edge between two chips in 1:3: of columns 159 to 161, or 78 to 80, the last has no row 2.
@@ -294,124 +185,38 @@ fn rows_never_sent() {
     }
 }
 
-/// The data byte and the bit in it that a row of a column has, from the most significant; none where no run reaches.
-fn place_of([mode, bank]: [u8; 2], column: usize, row: usize) -> Option<(usize, usize)> {
-    let bank = bank as usize;
-    match mode {
-        1 if row == 2 * bank => Some((column / 8, column % 8)),
-        2 if row / 2 == bank => Some((column / 4, 2 * (column % 4) + row % 2)),
-        3 if row < 3 && (column % 3, row) != (2, 2) => Some((column / 3, 3 * (column % 3) + row)),
-        0 => Some((column / 2, 4 * (column % 2) + row)),
-        _ => None,
-    }
-}
-
-/// Each wanted bit alone is a bit of the data, or none.
 #[test]
 fn each_bit_alone() {
-    for mut writing in every_writing()
-        .into_iter()
-        .filter(|writing| writing.group == 0)
-    {
-        let setting = [writing.mode, writing.bank];
-        for (column, row) in
-            (0..writing.rows.len()).flat_map(|column| [0, 1, 2, 3].map(|row| (column, row)))
-        {
-            writing.rows[column] = 1 << row;
-            let data = writing.data();
-            let set = (0..8 * data.len()).filter(|bit| data[bit / 8] << (bit % 8) & 0x80 != 0);
-            let place = place_of(setting, column, row).map(|(byte, bit)| 8 * byte + bit);
-            assert_eq!(set.collect::<Vec<_>>(), Vec::from_iter(place));
-            writing.rows[column] = 0;
-        }
-    }
+    hold_each_bit_alone(&SETTINGS);
 }
 
-// ---- A group with no chip --------------------------------------------------
-
-/// No byte is written, in an output of no byte or more; the other group may have chips.
 #[test]
 fn no_chip() {
-    for part in [PCF8532, PCA85133] {
-        for (chips, group) in [([0, 0], 0), ([0, 0], 1), ([0, 3], 0), ([3, 0], 1)] {
-            for setting in SETTINGS {
-                let writing = Writing::of_group(part, chips, group, setting, 0);
-                assert_eq!(writing.bytes(), []);
-                assert_eq!(writing.write(&mut []), [0; ANSWER]);
-            }
-        }
-    }
+    hold_no_chip(&SETTINGS);
 }
 
-/// Everything is still refused but 5 and 9: no column is wanted, and no byte is too few.
 #[test]
 fn no_chip_refused() {
-    let good = Writing::of_group(PCF8532, [0, 1], 0, [0, 0], 0);
-    let refused = |change: fn(&mut Writing), number| {
-        let mut writing = good.clone();
-        change(&mut writing);
-        writing.refused(0, number, 0);
-        writing.refused(50, number, 0);
-    };
-    refused(|writing| writing.part = 2, 16);
-    refused(|writing| writing.chips[1] = 5, 3);
-    refused(|writing| writing.registers[0] = 2, 6);
-    refused(|writing| writing.registers[SET] = 2, 6);
-    refused(|writing| writing.mode = 4, 6);
-    refused(|writing| writing.bank = 2, 6);
-    refused(|writing| writing.group = 2, 8);
-    refused(|writing| writing.rows = vec![0; 1], 4);
-    refused(|writing| writing.rows = vec![0; 160], 4);
-    refused(|writing| writing.rows = vec![16; 1], 4);
+    hold_no_chip_refused(Some([0, 0]));
+    expect_no_chip_refused(Some([0, 0]), 6, |writing| writing.setting = Some([4, 0]));
+    expect_no_chip_refused(Some([0, 0]), 6, |writing| writing.setting = Some([0, 2]));
 }
 
 // ---- Refusals --------------------------------------------------------------
 
-/// The greatest part is 1, and 16 comes first though all else is wrong.
 #[test]
 fn unknown_parts() {
-    for part in 2..=255 {
-        let mut writing = Writing::new(PCA85133, 1, [1, 0], 0);
-        writing.part = part;
-        writing.refused(ROOM, 16, 0);
-        writing.chips = [9, 9];
-        writing.registers.fill(255);
-        (writing.group, writing.mode, writing.bank) = (2, 4, 2);
-        writing.rows = vec![255; 7];
-        writing.refused(3, 16, 0);
-    }
+    hold_unknown_parts(Some([1, 0]));
 }
 
-/// The most chips of a group, and one more in either, whichever is asked for.
 #[test]
 fn chip_counts() {
-    for (part, most) in (0..).zip(MOST) {
-        for group in [0, 1] {
-            let writing = |chips| Writing::of_group(part, chips, group, [0, 0], 0);
-            writing([most, most]).bytes();
-            for chips in [[most + 1, most], [most, most + 1], [255, 0], [0, 255]] {
-                writing(chips).refused(ROOM, 3, 0);
-            }
-        }
-    }
+    hold_chip_counts(Some([0, 0]));
 }
 
-/// The greatest value of each register of both groups, and one more.
 #[test]
 fn registers_in_range() {
-    let places = |part| (0..REGISTERS).map(move |place| (part, place));
-    for (part, place) in [PCF8532, PCA85133].into_iter().flat_map(places) {
-        for (chips, group) in [([1, 1], 0), ([1, 1], 1), ([1, 0], 0), ([0, 1], 0)] {
-            let mut writing = Writing::of_group(part, chips, group, [2, 1], 0);
-            let greatest = GREATEST[part as usize][place % SET];
-            writing.registers[place] = greatest;
-            writing.bytes();
-            for value in [greatest + 1, 255] {
-                writing.registers[place] = value;
-                writing.refused(ROOM, 6, 0);
-            }
-        }
-    }
+    hold_registers(Some([2, 1]));
 }
 
 /// M up to 3 and I up to 1 are taken, also in 1:3 and 1:4, where I changes the bank-select alone.
@@ -435,181 +240,30 @@ fn modes_and_banks() {
 
 #[test]
 fn groups() {
-    for part in [PCF8532, PCA85133] {
-        for group in 0..=255 {
-            let mut writing = Writing::of_group(part, [1, 1], 1, [0, 0], 0);
-            writing.group = group;
-            match group {
-                0..=1 => assert_eq!(writing.bytes()[0], [0x70, 0x72][group as usize]),
-                _ => writing.refused(ROOM, 8, 0),
-            }
-        }
-    }
+    hold_groups(Some([0, 0]));
 }
 
-/// The group's own columns, not both groups', and not a byte more or less.
 #[test]
 fn wanted_lengths() {
-    for part in [PCF8532, PCA85133] {
-        for (chips, group, right) in [([2, 1], 0, 2), ([2, 1], 1, 1), ([0, 3], 1, 3)] {
-            let mut writing = Writing::of_group(part, chips, group, [3, 0], 0);
-            let columns = columns_of(part);
-            assert_eq!(writing.rows.len(), columns * right);
-            writing.bytes();
-            let length = writing.rows.len();
-            for wrong in [0, length - 1, length + 1, length + columns, 2 * length] {
-                writing.rows = vec![0; wrong];
-                writing.refused(ROOM, 4, 0);
-            }
-        }
-    }
+    hold_wanted_lengths(Some([3, 0]));
 }
 
-/// 15 is taken in each column and 16 refused with the column's index, also where no row of it is sent.
 #[test]
 fn wanted_columns() {
-    for part in [PCF8532, PCA85133] {
-        for setting in SETTINGS {
-            let mut writing = Writing::of_group(part, [1, 2], 1, setting, 15);
-            writing.bytes();
-            let length = writing.rows.len();
-            for place in 0..length {
-                (writing.rows[length - 1], writing.rows[place]) = (255, 16);
-                writing.refused(ROOM, 5, place);
-                (writing.rows[length - 1], writing.rows[place]) = (15, 15);
-            }
-        }
-    }
+    hold_wanted_columns(&SETTINGS);
 }
 
-/// One byte less than the transfer is refused.
 #[test]
 fn rooms() {
-    for writing in every_writing() {
-        let length = writing.bytes().len();
-        assert_eq!(writing.write(&mut vec![0xEE; length])[0], 0);
-        for room in (0..length).rev().take(2).chain((0..length).take(1)) {
-            writing.refused(room, 9, 0);
-        }
-    }
+    hold_rooms(&SETTINGS);
 }
 
-/// The order is 16, 3, 6, 8, 4, 5, 9: one fault after another is mended.
 #[test]
 fn order_of_refusals() {
-    for (part, most, columns) in [(PCF8532, 4, 160), (PCA85133, 8, 80)] {
-        let mut writing = Writing::new(part, 0, [4, 2], 0);
-        writing.chips = [1, most + 1];
-        writing.registers[REGISTERS - 1] = 2;
-        (writing.part, writing.group) = (2, 2);
-        writing.rows = vec![16; columns + 1];
-        writing.refused(0, 16, 0);
-        writing.part = part;
-        writing.refused(0, 3, 0);
-        writing.chips[1] = most;
-        writing.refused(0, 6, 0);
-        writing.registers[REGISTERS - 1] = 1;
-        writing.refused(0, 6, 0);
-        writing.mode = 1;
-        writing.refused(0, 6, 0);
-        (writing.mode, writing.bank) = (4, 1);
-        writing.refused(0, 6, 0);
-        writing.mode = 1;
-        writing.refused(0, 8, 0);
-        writing.group = 0;
-        writing.refused(0, 4, 0);
-        writing.rows[..8].fill(15);
-        writing.rows.pop();
-        writing.refused(0, 5, 8);
-        writing.rows.fill(15);
-        let length = HEADS[part as usize] + columns / 8;
-        writing.refused(0, 9, 0);
-        writing.refused(length - 1, 9, 0);
-        assert_eq!(writing.bytes().len(), length);
-    }
+    hold_order_of_refusals(&[[4, 2], [1, 2], [4, 1], [1, 1]].map(Some));
 }
 
 // ---- Run in both accounts --------------------------------------------------
-
-/// A bus after a transfer that was taken: the answer, the registers and the RAM.
-type After = ([usize; ANSWER], [u8; REGISTERS], Vec<u8>);
-
-impl Writing {
-    /// Runs the transfer on its bus with this RAM; the same chips one by one give the same, and hold the same afterwards.
-    fn run(&self, ram: &[u8]) -> After {
-        let ([chips0, chips1], part, bytes) = (self.chips, self.part, self.bytes());
-        let (mut registers, mut after) = (self.registers, ram.to_vec());
-        let mut chips = plain_chips(part, self.chips, &registers, ram);
-        let (set, columns) = (&mut registers, &mut after);
-        let long = transfer(part, chips0, chips1, set, columns, &bytes, WHOLE);
-        let plain = plain_transfer(part, &mut chips, &bytes, WHOLE);
-        assert_eq!(common(long), common(plain), "{self:?}");
-        assert_eq!(chips, plain_chips(part, self.chips, &registers, &after));
-        (long.numbers(), registers, after)
-    }
-
-    /// Columns past the last one that the last byte covers.
-    fn overhang(&self) -> usize {
-        match self.mode {
-            3 => [0, 2, 1][self.rows.len() % 3],
-            _ => 0,
-        }
-    }
-
-    /// All bytes are acknowledged but a last one that overhangs, which loses two bits or five.
-    fn counted(&self) -> [usize; ANSWER] {
-        let (length, overhang) = (self.bytes().len(), self.overhang());
-        let bits = 8 * (length - HEADS[self.part as usize]);
-        let (lost, last) = ([0, 2, 5][overhang], self.chips[self.group as usize] - 1);
-        match overhang {
-            0 => [0, 0, length, bits, 0, last as usize],
-            _ => [0, 0, length - 1, bits - lost, lost, none(self.part)],
-        }
-    }
-
-    /// M and I are the wanted ones, A and P just past the last byte, and nothing is unknown; all else stays.
-    fn registers_after(&self) -> [u8; REGISTERS] {
-        let mut registers = self.registers;
-        let set = &mut registers[SET * self.group as usize..][..SET];
-        (set[2], set[5]) = (self.mode, self.bank);
-        (set[3], set[4]) = (self.overhang() as u8, self.chips[self.group as usize]);
-        set[9..].fill(0);
-        registers
-    }
-
-    /// The rows that a run reaches are as wanted, all else stays.
-    fn ram_after(&self, ram: &[u8]) -> Vec<u8> {
-        let mut after = ram.to_vec();
-        let first = match self.group {
-            0 => 0,
-            _ => columns_of(self.part) * self.chips[0] as usize,
-        };
-        for (column, wanted) in self.rows.iter().enumerate() {
-            let reached = reached([self.mode, self.bank], column);
-            let own = &mut after[first + column];
-            *own = *own & !reached | wanted & reached;
-        }
-        after
-    }
-
-    fn expect_run(&self, ram: &[u8]) {
-        let after = (self.counted(), self.registers_after(), self.ram_after(ram));
-        assert_eq!(self.run(ram), after, "{self:?}");
-    }
-}
-
-/// The rows of a column that a plain run reaches, as bits.
-fn reached(setting: [u8; 2], column: usize) -> u8 {
-    match setting {
-        [1, 0] => 0b0001,
-        [1, _] => 0b0100,
-        [2, 0] => 0b0011,
-        [2, _] => 0b1100,
-        [3, _] if column % 3 == 2 => 0b0011,
-        [3, _] => 0b0111,
-        _ => 0b1111,
-    }
-}
 
 /// M and I; what 15 everywhere makes of columns of 0, and 0 everywhere of columns of 15; bytes acknowledged, bits stored and discarded, and chip; A and P.
 type Run = ([u8; 2], [&'static [u8]; 2], [usize; 4], [u8; 2]);
@@ -661,69 +315,17 @@ fn small_runs_by_hand() {
     assert_eq!(ram, [9; 640]);
 }
 
-/// Any registers of a part, from which pointer and counter are known or not.
-fn any_registers(random: &mut Random, part: u8) -> [u8; REGISTERS] {
-    let greatest = GREATEST[part as usize];
-    let mut registers = [0; REGISTERS];
-    for (place, register) in registers.iter_mut().enumerate() {
-        *register = random.below(greatest[place % SET] as usize + 1) as u8;
-    }
-    registers
-}
-
-fn any_columns(random: &mut Random, length: usize) -> Vec<u8> {
-    (0..length).map(|_| random.byte() & 15).collect()
-}
-
-/// Every part, chip count, group, M and I, with any rows over any RAM from any registers.
 #[test]
 fn every_run() {
-    let mut random = Random::new(2);
-    for _ in 0..12 {
-        for mut writing in every_writing() {
-            let chips: u8 = writing.chips.iter().sum();
-            let ram = any_columns(&mut random, columns_of(writing.part) * chips as usize);
-            writing.registers = any_registers(&mut random, writing.part);
-            writing.rows = any_columns(&mut random, writing.rows.len());
-            if !writing.rows.is_empty() {
-                writing.expect_run(&ram);
-            }
-        }
-    }
+    hold_every_run(&SETTINGS, 12);
 }
 
-/// From every set of marks, in both groups.
 #[test]
 fn every_mark() {
-    let mut random = Random::new(22);
-    for marks in (0..8).map(|set| [set & 1, set >> 1 & 1, set >> 2]) {
-        for (part, group) in [(0, 0), (0, 1), (1, 0), (1, 1)] {
-            let mut writing = Writing::of_group(part, [2, 1], group, [3, 0], 9);
-            writing.registers = any_registers(&mut random, part);
-            let place = SET * group as usize + 9;
-            writing.registers[place..place + 3].copy_from_slice(&marks);
-            writing.expect_run(&any_columns(&mut random, 3 * columns_of(part)));
-        }
-    }
+    hold_every_mark(Some([3, 0]));
 }
 
-/// What a bus holds, written to it again, changes no column, nor does the same transfer once more.
 #[test]
 fn written_again() {
-    let mut random = Random::new(222);
-    for mut writing in every_writing()
-        .into_iter()
-        .filter(|writing| !writing.rows.is_empty())
-    {
-        let own = writing.rows.len();
-        let chips: u8 = writing.chips.iter().sum();
-        let length = columns_of(writing.part) * chips as usize;
-        let ram = any_columns(&mut random, length);
-        let first = if writing.group == 0 { 0 } else { length - own };
-        writing.rows = ram[first..first + own].to_vec();
-        let (_, registers, after) = writing.run(&ram);
-        assert_eq!(after, ram);
-        writing.registers = registers;
-        assert_eq!(writing.run(&ram), (writing.counted(), registers, ram));
-    }
+    hold_written_again(&SETTINGS);
 }

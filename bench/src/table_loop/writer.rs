@@ -3,16 +3,16 @@
 use super::part::{Part, Pca85133, Pcf8532};
 use super::tables::BITS_OF_THREE;
 use super::{checks, refused, Refusal, ANSWER, B, E, O, SET, UNKNOWN_PART};
-use humtrellis_tests::writer::Wanted;
+use crate::ways::Asked;
 
 /// Bytes before the pointer: the address, and mode-set, bank-select and device-select with a control byte each.
 const SETTINGS: usize = 7;
 
 #[inline(never)]
-pub fn write_rows(wanted: Wanted, out: &mut [u8]) -> [usize; ANSWER] {
-    let written = match wanted.part {
-        0 => write::<Pcf8532>(wanted, out),
-        1 => write::<Pca85133>(wanted, out),
+pub fn write_rows(asked: Asked, out: &mut [u8]) -> [usize; ANSWER] {
+    let written = match asked.part {
+        0 => write::<Pcf8532>(asked, out),
+        1 => write::<Pca85133>(asked, out),
         _ => Err(UNKNOWN_PART),
     };
     match written {
@@ -22,33 +22,33 @@ pub fn write_rows(wanted: Wanted, out: &mut [u8]) -> [usize; ANSWER] {
 }
 
 /// The length of the transfer, which is at the start of the output then.
-fn write<Chosen: Part>(wanted: Wanted, out: &mut [u8]) -> Result<usize, Refusal> {
-    check::<Chosen>(wanted)?;
-    if wanted.rows.is_empty() {
+fn write<Chosen: Part>(asked: Asked, out: &mut [u8]) -> Result<usize, Refusal> {
+    check::<Chosen>(asked)?;
+    if asked.rows.is_empty() {
         return Ok(0);
     }
     let head = const { SETTINGS + Chosen::POINTER_AND_RUN.len() };
-    let length = head + data_bytes(wanted.mode, wanted.rows.len());
+    let length = head + data_bytes(asked.mode, asked.rows.len());
     let Some(transfer) = out.get_mut(..length) else {
         return Err((9, 0));
     };
     let (before, data) = transfer.split_at_mut(head);
-    put_head::<Chosen>(wanted, before);
-    put_data(wanted, data);
+    put_head::<Chosen>(asked, before);
+    put_data(asked, data);
     Ok(length)
 }
 
 /// All that is refused before the output's length: 3, 6, 8, 4, 5.
-fn check<Chosen: Part>(wanted: Wanted) -> Result<(), Refusal> {
-    let chips = [wanted.chips0, wanted.chips1];
-    checks::check_bus::<Chosen>(chips, wanted.registers)?;
-    if wanted.mode > 3 || wanted.bank > 1 {
+fn check<Chosen: Part>(asked: Asked) -> Result<(), Refusal> {
+    let chips = asked.chips;
+    checks::check_bus::<Chosen>(chips, asked.registers)?;
+    if asked.mode > 3 || asked.bank > 1 {
         return Err((6, 0));
     }
-    if wanted.group > 1 {
+    if asked.group > 1 {
         return Err((8, 0));
     }
-    checks::check_columns::<Chosen>(chips[wanted.group as usize] as usize, wanted.rows)
+    checks::check_columns::<Chosen>(chips[asked.group as usize] as usize, asked.rows)
 }
 
 /// The columns of chips of either part are whole bytes but in 1:3.
@@ -61,23 +61,23 @@ fn data_bytes(mode: u8, columns: usize) -> usize {
     }
 }
 
-fn put_head<Chosen: Part>(wanted: Wanted, head: &mut [u8]) {
-    let set = &wanted.registers.as_chunks::<SET>().0[wanted.group as usize];
-    let address = 0x70 + 2 * wanted.group;
-    let mode_set = 0xC0 | set[E] << 3 | set[B] << 2 | wanted.mode;
-    let bank_select = 0xF8 | wanted.bank << 1 | set[O];
+fn put_head<Chosen: Part>(asked: Asked, head: &mut [u8]) {
+    let set = &asked.registers.as_chunks::<SET>().0[asked.group as usize];
+    let address = 0x70 + 2 * asked.group;
+    let mode_set = 0xC0 | set[E] << 3 | set[B] << 2 | asked.mode;
+    let bank_select = 0xF8 | asked.bank << 1 | set[O];
     let (settings, rest) = head.split_at_mut(SETTINGS);
     settings.copy_from_slice(&[address, 0x80, mode_set, 0x80, bank_select, 0x80, 0xE0]);
     rest.copy_from_slice(Chosen::POINTER_AND_RUN);
 }
 
-fn put_data(wanted: Wanted, data: &mut [u8]) {
-    let shift = 2 * wanted.bank;
-    match wanted.mode {
-        1 => put_static(wanted.rows, shift, data),
-        2 => put_two(wanted.rows, shift, data),
-        3 => put_three(wanted.rows, data),
-        _ => put_four(wanted.rows, data),
+fn put_data(asked: Asked, data: &mut [u8]) {
+    let shift = 2 * asked.bank;
+    match asked.mode {
+        1 => put_static(asked.rows, shift, data),
+        2 => put_two(asked.rows, shift, data),
+        3 => put_three(asked.rows, data),
+        _ => put_four(asked.rows, data),
     }
 }
 

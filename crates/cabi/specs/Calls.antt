@@ -12,6 +12,7 @@ use Rattle.sheet.specs.Long.{powerOnPart, transferPart, picturePart}
 use Rattle.sheet.specs.Plain.{chipPowerOnPart, chipPicturePart}
 use Rattle.sheet.specs.Rescue.{rescueCall}
 use Rattle.sheet.specs.Writer.{writeRowsPart}
+use Rattle.sheet.specs.Three.{writeThreePart}
 use Rattle.buslog.specs.declared.Replayed.{Replayed}
 use Rattle.lent.specs.Lent.{lentCall}
 use Rattle.wire.specs.Bytes.{bothOf, bothBytes, chipIn, chipBytes}
@@ -86,6 +87,12 @@ plainC part chips transfer answer =
 unfoldable pub writeRowsC : ℕ → ℕ → ℕ → List ℕ → ℕ → ℕ → ℕ → List ℕ → List ℕ → List ℕ → Filled
 writeRowsC part z o registers group mode bank wanted out answer =
     let s = writeRowsPart part (chipsOf z o) (bothOf registers) group mode bank wanted out in
+    saidC (eqb (length registers) 24) (writtenNumbers (s .result)) (s .out) out answer
+
+-- and for every element of a three-backplane glass
+unfoldable pub writeThreeC : ℕ → ℕ → ℕ → List ℕ → ℕ → List ℕ → List ℕ → List ℕ → Filled
+writeThreeC part z o registers group wanted out answer =
+    let s = writeThreePart part (chipsOf z o) (bothOf registers) group wanted out in
     saidC (eqb (length registers) 24) (writtenNumbers (s .result)) (s .out) out answer
 
 -- what is whole of a torn log

@@ -5,7 +5,7 @@ use sheet::Chips;
 ghost use mathlib.Core.Path.{_≡_};
 ghost use Rattle.sheet.specs.Protocol.{sent};
 ghost use Rattle.buslog.specs.Replays.{replayCall};
-ghost use Rattle.cabi.specs.Calls.{powerOnC, transferC, pictureC, chipPowerOnC, chipPictureC, plainC, writeRowsC, rescueC, replayNumber};
+ghost use Rattle.cabi.specs.Calls.{powerOnC, transferC, pictureC, chipPowerOnC, chipPictureC, plainC, writeRowsC, writeThreeC, rescueC, replayNumber};
 
 // Power-on of the long account, taken or refused by 16, 3, 4, 5.
 #[no_mangle]
@@ -171,6 +171,33 @@ pub extern "C" fn humtrellis_write_rows(
         };
         let before = wire::both_of(registers);
         let written = writer::write_rows(part, chips, before, group, mode, bank, wanted, out);
+        wire::put_numbers(answers::written_numbers(written), answer)
+    } else {
+        255
+    }
+}
+
+// One transfer that sets rows 0 to 2 of every column of a group, to the start of `out`, or a refusal by 16, 3, 6, 8, 4, 5, 9.
+#[no_mangle]
+pub extern "C" fn humtrellis_write_three(
+    part: u8,
+    chips0: u8,
+    chips1: u8,
+    registers: &[u8],
+    group: u8,
+    wanted: &[u8],
+    out: &mut [u8],
+    answer: &mut [usize],
+) -> u8
+    ensures { λ r. ⌜ writeThreeC part chips0 chips1 (now (registers .entry)) group (now (wanted .entry)) (now (out .entry)) (now (answer .entry)) ≡ record { number = r; buffer = now (out .exit); answer = now (answer .exit) } ⌝ }
+{
+    if (registers.len() == 24) & (answer.len() == 6) {
+        let chips = Chips {
+            zero: chips0,
+            one: chips1,
+        };
+        let before = wire::both_of(registers);
+        let written = three::write_three(part, chips, before, group, wanted, out);
         wire::put_numbers(answers::written_numbers(written), answer)
     } else {
         255

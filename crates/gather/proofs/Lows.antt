@@ -2,14 +2,17 @@
 -- Assumes nothing.
 use mathlib.Core.Path.{_≡_, refl, sym, ap, _∙_}
 use mathlib.Core.Logic.{⊎-elim, _≢_}
+use mathlib.Core.Bool.{cond}
 use mathlib.Core.List.{List}
 use Prim.Native.Nat.{ℕ, zero, suc, _+_, _-_, _*_, _/_, _%_, _^_, _≤_, _<_}
-use native.Mathlib.Nat.{add-zero, add-assoc, add-suc, add-comm, mul-comm, mod-one, div-one, mul-zero, mul-suc, le-refl, le-of-lt, pow-suc, mul-le-mul-right, le-of-suc-le-suc}
+use native.Mathlib.Nat.{add-zero, add-assoc, add-suc, add-comm, mul-comm, mod-one, div-one, div-eq-of-lt, lt-of-lt-of-le, mul-zero, mul-suc, le-refl, le-of-lt, pow-suc, mul-le-mul-right, le-of-suc-le-suc}
 use native.Mathlib.Omega.{arith}
 use lib.Arith.{digits-div, digits-mod, mod-mul}
+use lib.Dec.{ltb}
 use lib.ListN.{getD}
-use lib.Pow.{pow-pos, pow-add, shr-shr}
-use Rattle.lemmas.proofs.Order.{equal-or-not}
+use lib.Pow.{pow-pos, pow-mono, pow-add, shr-shr}
+use borrow.Author.Tests.{lt-ltb, le-ltb}
+use Rattle.lemmas.proofs.Order.{equal-or-not, lt-or-le}
 use Rattle.sheet.specs.Data.{rowOf}
 use Rattle.sheet.specs.Writer.{bitFrom, bitsFrom}
 use Rattle.laws.proofs.Rows.{row-of-low}
@@ -54,6 +57,26 @@ backward t y at = omega (arith, at 0 (omega arith), at 1 (omega arith), at 2 (om
 pub turned : (m b v : ℕ) (columns : List ℕ) (y : ℕ) → y ≡ lowBits 8 m b v columns → field y 0 8 ≡ bitsFrom 8 m b v columns
 unfolding bitsFrom
 turned m b v columns y e = backward (bitFrom m b v columns) y (λ k h. ap (λ (x : ℕ). rowOf x k) e ∙ low-at 8 m b v columns k h)
+
+-- six bits, and two that are 0
+pub turned-six : (m b v : ℕ) (columns : List ℕ) (y : ℕ) → y ≡ lowBits 6 m b v columns → field y 0 8 ≡ 4 * bitsFrom 6 m b v columns
+unfolding bitsFrom
+turned-six m b v columns y e =
+    let t : ℕ → ℕ = λ k. cond (ltb k 6) (bitFrom m b v columns k) 0 in
+    backward t y (bits t) ∙ omega arith
+  where
+    small : y < 64
+    small = rw e (low-lt 6 m b v columns)
+
+    past : (k : ℕ) → 6 ≤ k → rowOf y k ≡ 0
+    past k l = ap (λ (i : ℕ). i % 2) (div-eq-of-lt (lt-of-lt-of-le small (pow-mono l)))
+
+    bits : (t : ℕ → ℕ) (k : ℕ) → k < 8 → rowOf y k ≡ cond (ltb k 6) (bitFrom m b v columns k) 0
+    bits t k h =
+        ⊎-elim
+        (λ (l : k < 6). ap (λ (x : ℕ). rowOf x k) e ∙ low-at 6 m b v columns k l ∙ rw (lt-ltb k 6 l) refl)
+        (λ (l : 6 ≤ k). past k l ∙ rw (le-ltb k 6 l) refl)
+        (lt-or-le k 6)
 
 -- ---- column j of the byte: h ≤ m rows
 

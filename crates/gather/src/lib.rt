@@ -6,6 +6,7 @@ ghost use lib.ListN.{length};
 ghost use Rattle.sheet.specs.Registers.{bankRow};
 ghost use Rattle.sheet.specs.Data.{widthOf};
 ghost use Rattle.sheet.specs.Writer.{bitsFrom, dataFrom, bytesFor};
+ghost use Rattle.sheet.specs.Three.{pairOf};
 ghost use Rattle.gather.specs.Lows.{lowBits, Gathered, Whole};
 
 // ---- a byte whose columns are all there: its bits with the first lowest, and then in the other order
@@ -56,6 +57,14 @@ fn four_byte(columns: &[u8], at: usize) -> u8
     ensures { λ r. ⌜ r ≡ bitsFrom 8 4 0 at (now (columns .entry)) ⌝ }
 {
     words::reversed(columns[at] % 16 + columns[at + 1] % 16 * 16)
+}
+
+// 1:3 at an even column: two columns of three rows, and two bits that are 0.
+pub fn pair_byte(columns: &[u8], at: usize) -> u8
+    requires { ⌜ at + 2 ≤ length (now columns) ⌝ }
+    ensures { λ r. ⌜ r ≡ pairOf (now (columns .entry)) at ⌝ }
+{
+    words::reversed(columns[at] % 8 + columns[at + 1] % 8 * 8)
 }
 
 // ---- all such bytes, by the mode

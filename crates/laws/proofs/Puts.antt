@@ -42,7 +42,7 @@ use Rattle.laws.proofs.Wanted.{length-data, data-at, bit-at, Bit, reach
 
 -- ---- the commands make the registers
 
-module _ (K : Part) (u : Settable K) (mode bank : ℕ) (r : Registers) (le : r .e < 2) (lb : r .b < 2) (lo : r .o < 2) (lm : mode < 4) (li : bank < 2) where
+module _ (K : Part) (u : Settable K) (mode bank : ℕ) (r : Registers) (le : r .e < 2) (lb : r .b < 2) (lo : r .o < 2) (lm : mode < 4) (li : bank < 2) (pl : 0 < K .limit) where
   is-mode : K .command (modeSetOf r mode) ≡ ModeSet (record { e = r .e; b = r .b; m = mode })
   is-mode = u .mode-set (r .e) (r .b) mode le lb lm
 
@@ -50,14 +50,14 @@ module _ (K : Part) (u : Settable K) (mode bank : ℕ) (r : Registers) (le : r .
   is-bank = u .bank-select bank (r .o) li lo
 
   set-all : obeyedAll K (settings K r mode bank) r ≡ setTo mode bank r
-  set-all = (λ i. obeyedAll K (K .pointer 0) (obeyed (obeyed (obeyed r (is-mode i)) (is-bank i)) (u .device-select i))) ∙ u .pointer 0 (u .columns) _
+  set-all = (λ i. obeyedAll K (K .pointer 0) (obeyed (obeyed (obeyed r (is-mode i)) (is-bank i)) (u .device-select 0 pl i))) ∙ u .pointer 0 (u .columns) _
 
   all-defined : allDefined K (settings K r mode bank) ≡ true
-  all-defined = (λ i. defined (is-mode i) && (defined (is-bank i) && (defined (u .device-select i) && allDefined K (K .pointer 0)))) ∙ u .defined 0 (u .columns)
+  all-defined = (λ i. defined (is-mode i) && (defined (is-bank i) && (defined (u .device-select 0 pl i) && allDefined K (K .pointer 0)))) ∙ u .defined 0 (u .columns)
 
 -- ---- how long it is
 
-length-each : (xs : List ℕ) → length (eachAfter80 xs) ≡ 2 * length xs
+pub length-each : (xs : List ℕ) → length (eachAfter80 xs) ≡ 2 * length xs
 length-each [] = refl
 length-each (x ∷ xs) = omega (arith, length-each xs)
 
@@ -143,9 +143,10 @@ module _ (K : Part) (u : Settable K) (n : Chips) (r : Both) (ram : List ℕ) (g 
     is-called : called ≡ heardIn K n g r ram (ran K rows (ready K n r ram g commands s))
     is-called =
         let range = asked .own-in in
+        let some-subaddress : 0 < K .limit = omega (arith, asked .few, some) in
         sent-to K n r ram es g (asked .group-in) some commands rows s
-        (all-defined K u mode bank own (range .e-in) (range .b-in) (range .o-in) (asked .mode-in) (asked .bank-in))
-        (set-all K u mode bank own (range .e-in) (range .b-in) (range .o-in) (asked .mode-in) (asked .bank-in))
+        (all-defined K u mode bank own (range .e-in) (range .b-in) (range .o-in) (asked .mode-in) (asked .bank-in) some-subaddress)
+        (set-all K u mode bank own (range .e-in) (range .b-in) (range .o-in) (asked .mode-in) (asked .bank-in) some-subaddress)
         refl few
         ∙ ap (heardIn K n g r ram) (run-at-once K rows (ready K n r ram g commands s) (u .columns) zero-le few-columns)
 

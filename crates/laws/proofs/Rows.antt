@@ -90,7 +90,7 @@ row-stays r t c ram i s p apart =
 
 -- ---- the bits of a byte
 
-bits-stay : (n m b v x c r : ℕ) (ram : List ℕ) → ((k : ℕ) → k < n → c ≡ v + k / m → r ≡ b + k % m → ⊥)
+pub bits-stay : (n m b v x c r : ℕ) (ram : List ℕ) → ((k : ℕ) → k < n → c ≡ v + k / m → r ≡ b + k % m → ⊥)
     → rowOf (getD (putBits n m b v x ram) c 0) r ≡ rowOf (getD ram c 0) r
 unfolding putBits
 bits-stay zero m b v x c r ram apart = refl
@@ -98,7 +98,7 @@ bits-stay (suc n) m b v x c r ram apart =
     row-stays (b + n % m) (bitOf x n) (v + n / m) (putBits n m b v x ram) c r (bit-lt x n) (apart n (omega arith))
     ∙ bits-stay n m b v x c r ram (λ k l. apart k (omega arith))
 
-bits-land : (n m b v x k : ℕ) (ram : List ℕ) → k < n → v + k / m < length ram → rowOf (getD (putBits n m b v x ram) (v + k / m) 0) (b + k % m) ≡ bitOf x k
+pub bits-land : (n m b v x k : ℕ) (ram : List ℕ) → k < n → v + k / m < length ram → rowOf (getD (putBits n m b v x ram) (v + k / m) 0) (b + k % m) ≡ bitOf x k
 unfolding putBits
 bits-land zero m b v x k ram lk lv = absurd (not-suc-le-zero lk)
 bits-land (suc n) m b v x k ram lk lv =

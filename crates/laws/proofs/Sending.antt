@@ -1,6 +1,6 @@
--- A transfer to a group with a chip, commands each after 80, then 40 and data: it is taken, and the group hears the data with the registers that the commands made.
+-- A transfer to a group with a chip: bytes without a fault are taken, and the group hears them; after commands each after 80 it hears data with the registers that they made.
 -- Assumes nothing.
-use mathlib.Core.Path.{_≡_, ap, _∙_}
+use mathlib.Core.Path.{_≡_, refl, ap, _∙_}
 use mathlib.Core.Bool.{true, false}
 use mathlib.Core.List.{List, _∷_, _++_}
 use Prim.Native.Nat.{ℕ, zero, suc, _*_, _≤_, _<_}
@@ -29,32 +29,36 @@ hears n zero l h = rw (lt-ltb 0 (n .zero) h)
 hears n (suc zero) l h = rw (lt-ltb 0 (n .one) h)
 hears n (suc (suc g)) l h = absurd (omega arith)
 
--- the group once its commands are obeyed
+-- the group once commands are obeyed
 abbrev pub ready : Part → Chips → Both → List ℕ → ℕ → List ℕ → Registers → Group
 ready K n r ram g xs s = control (on (2 * length xs) s (begun (registersOf g r) (columnsOf K n g ram)))
 
-module _ (K : Part) (n : Chips) (r : Both) (ram : List ℕ) (es : checkState K n r ram ≡ Passed) (g : ℕ) (pg : g < 2) (some : 0 < chipsIn g n)
-    (xs ys : List ℕ) (s : Registers) (all : allDefined K xs ≡ true) (made : obeyedAll K xs (registersOf g r) ≡ s) (there : known (s .unknown) ≡ true)
-    (few : length (addressOf g ∷ eachAfter80 xs ++ (0x40 ∷ ys)) ≤ 4096) where
-  abbrev sends : List ℕ
-  sends = addressOf g ∷ eachAfter80 xs ++ (0x40 ∷ ys)
+module _ (K : Part) (n : Chips) (r : Both) (ram : List ℕ) (es : checkState K n r ram ≡ Passed) (g : ℕ) (pg : g < 2) (some : 0 < chipsIn g n) where
+  -- the group once its address is acknowledged
+  abbrev pub called : Group
+  called = begun (registersOf g r) (columnsOf K n g ram)
 
-  abbrev first : Group
-  first = begun (registersOf g r) (columnsOf K n g ram)
+  -- a transfer of bytes without a fault is taken, and the group has heard them
+  module _ (xs : List ℕ) (clean : faultIn K false (registersOf g r .unknown) Control 1 xs ≡ Passed) (few : length (addressOf g ∷ xs) ≤ 4096) where
+    passes : checkTransfer K n r ram (whole (addressOf g ∷ xs)) ≡ Passed
+    unfolding checkTransfer checkSent checkLength checkBits within wholeOf
+    passes = rw (es, lt-ltb 0 (length (addressOf g ∷ xs)) (omega arith), le-leb (length (addressOf g ∷ xs)) 4096 few, hears n g pg some) clean
 
-  no-fault : faultIn K false (registersOf g r .unknown) Control 1 (eachAfter80 xs ++ (0x40 ∷ ys)) ≡ Passed
-  unfolding faultIn controlOf
-  no-fault = fault-commands K xs (0x40 ∷ ys) (registersOf g r) 1 all ∙ rw made (fault-data K (s .unknown) ys _ there)
+    pub taken-by : transferCall K n r ram (whole (addressOf g ∷ xs)) ≡ heardIn K n g r ram (heard K Control xs called)
+    unfolding transferCall wholeOf cutData
+    taken-by = rw (passes, hears n g pg some) refl
 
-  passes : checkTransfer K n r ram (whole sends) ≡ Passed
-  unfolding checkTransfer checkSent checkLength checkBits within wholeOf
-  passes = rw (es, lt-ltb 0 (length sends) (omega arith), le-leb (length sends) 4096 few, hears n g pg some) no-fault
+  -- commands each after 80, then 40 and data
+  module _ (xs ys : List ℕ) (s : Registers) (all : allDefined K xs ≡ true) (made : obeyedAll K xs (registersOf g r) ≡ s) (there : known (s .unknown) ≡ true)
+      (few : length (addressOf g ∷ eachAfter80 xs ++ (0x40 ∷ ys)) ≤ 4096) where
+    no-fault : faultIn K false (registersOf g r .unknown) Control 1 (eachAfter80 xs ++ (0x40 ∷ ys)) ≡ Passed
+    unfolding faultIn controlOf
+    no-fault = fault-commands K xs (0x40 ∷ ys) (registersOf g r) 1 all ∙ rw made (fault-data K (s .unknown) ys _ there)
 
-  follows : heard K Control (eachAfter80 xs ++ (0x40 ∷ ys)) first ≡ heard K (All Kind.Data) ys (ready K n r ram g xs s)
-  unfolding heard controlOf
-  follows = heard-commands K xs (0x40 ∷ ys) first ∙ ap (λ (q : Registers). heard K (All Kind.Data) ys (control (on (2 * length xs) q first))) made
+    follows : heard K Control (eachAfter80 xs ++ (0x40 ∷ ys)) called ≡ heard K (All Kind.Data) ys (ready K n r ram g xs s)
+    unfolding heard controlOf
+    follows = heard-commands K xs (0x40 ∷ ys) called ∙ ap (λ (q : Registers). heard K (All Kind.Data) ys (control (on (2 * length xs) q called))) made
 
-  -- it is taken, and the group has heard the data
-  pub sent-to : transferCall K n r ram (whole sends) ≡ heardIn K n g r ram (heard K (All Kind.Data) ys (ready K n r ram g xs s))
-  unfolding transferCall wholeOf cutData
-  sent-to = rw (passes, hears n g pg some) (ap (heardIn K n g r ram) follows)
+    -- it is taken, and the group has heard the data
+    pub sent-to : transferCall K n r ram (whole (addressOf g ∷ eachAfter80 xs ++ (0x40 ∷ ys))) ≡ heardIn K n g r ram (heard K (All Kind.Data) ys (ready K n r ram g xs s))
+    sent-to = taken-by (eachAfter80 xs ++ (0x40 ∷ ys)) no-fault few ∙ ap (heardIn K n g r ram) follows

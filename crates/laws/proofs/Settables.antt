@@ -5,7 +5,7 @@ use mathlib.Core.Bool.{true}
 use mathlib.Core.List.{List}
 use Prim.Native.Nat.{ℕ, _+_, _-_, _*_, _/_, _%_, _<_}
 use native.Mathlib.Omega.{arith}
-use Rattle.sheet.specs.declared.Command.the-variants.{PointerHigh, PointerLow, Pointer, ModeSet, BankSelect}
+use Rattle.sheet.specs.declared.Command.the-variants.{PointerHigh, PointerLow, Pointer, ModeSet, DeviceSelect, BankSelect}
 use Rattle.sheet.specs.Parts.{within, Range, commandIn, pcf8532Ranges, pcf8532, pca85133Ranges, pca85133, partOf}
 use Rattle.sheet.specs.Registers.{atPlace, withMarks}
 use Rattle.sheet.specs.Puts.{Settable}
@@ -28,6 +28,10 @@ bank-in ts w is i o li lo =
     let x : ℕ = 0xF8 + 2 * i + o in
     sym (stretch ts 0xF8 0xFB x (omega arith) (omega arith) w) ∙ is x ∙ ap₂ BankSelect (omega arith) (omega arith)
 
+device-in : (ts : List Range) (limit : ℕ) → whole ts 0xE0 (0xDF + limit) ≡ true → ((x : ℕ) → told ts 0xE0 x ≡ DeviceSelect (x % limit)) → ((n : ℕ) → n < limit → (0xE0 + n) % limit ≡ n)
+    → (n : ℕ) → n < limit → commandIn ts (0xE0 + n) ≡ DeviceSelect n
+device-in ts limit w is rest n h = sym (stretch ts 0xE0 (0xDF + limit) (0xE0 + n) (omega arith) (omega arith) w) ∙ is (0xE0 + n) ∙ ap DeviceSelect (rest n h)
+
 -- ---- the PCF8532: pointer high ends at 09, so that 16 × 9 + 15 is its last column
 
 high : (p : ℕ) → p < 160 → pcf8532 .command (p / 16) ≡ PointerHigh (p / 16)
@@ -43,7 +47,7 @@ unfolding within commandIn
 larger = record {
   mode-set = mode-in pcf8532Ranges refl (λ x. refl);
   bank-select = bank-in pcf8532Ranges refl (λ x. refl);
-  device-select = refl;
+  device-select = device-in pcf8532Ranges 4 refl (λ x. refl) (λ n h. omega arith);
   pointer = λ p h r. rw (high p h, low p) (ap (λ (n : ℕ). withMarks (atPlace r n (r .a)) (record { high = 0; low = 0; device = r .unknown .device })) (omega arith));
   defined = λ p h. rw (high p h, low p);
   columns = omega arith;
@@ -60,7 +64,7 @@ unfolding within commandIn
 smaller = record {
   mode-set = mode-in pca85133Ranges refl (λ x. refl);
   bank-select = bank-in pca85133Ranges refl (λ x. refl);
-  device-select = refl;
+  device-select = device-in pca85133Ranges 8 refl (λ x. refl) (λ n h. omega arith);
   pointer = λ p h r. rw (at p h);
   defined = λ p h. rw (at p h);
   columns = omega arith;

@@ -31,7 +31,7 @@ bits-lt zero m b v wanted = omega arith
 bits-lt (suc n) m b v wanted = rw (pow-suc 2 n) (omega (arith, bits-lt n m b v wanted, bit-lt m b v wanted n))
 
 -- of n bits, the one with d behind it
-bits-at : (n m b v : ℕ) (wanted : List ℕ) (d k : ℕ) → n ≡ suc k + d → bitsFrom n m b v wanted / 2 ^ d % 2 ≡ bitFrom m b v wanted k
+pub bits-at : (n m b v : ℕ) (wanted : List ℕ) (d k : ℕ) → n ≡ suc k + d → bitsFrom n m b v wanted / 2 ^ d % 2 ≡ bitFrom m b v wanted k
 unfolding bitsFrom
 bits-at zero m b v wanted d k e = absurd (omega arith)
 bits-at (suc n) m b v wanted zero k e =

@@ -19,6 +19,7 @@ pub mod Cuts
 pub mod Either
 pub mod Writer
 pub mod Puts
+pub mod Three
 pub mod Pointing
 pub mod Starred
 pub mod Smaller
@@ -32,3 +33,4 @@ pub mod Worked
 pub mod Rescuing
 pub mod Merging
 pub mod Writings
+pub mod Threes

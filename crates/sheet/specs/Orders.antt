@@ -29,7 +29,7 @@ pub record Fault : Type 0 where
   pub number : ℕ
   pub place : ℕ
 
-abbrev refusal : ℕ → ℕ → Fault
+abbrev pub refusal : ℕ → ℕ → Fault
 refusal number place = record { number = number; place = place }
 
 -- the first whose fault is there; 0 where none is
@@ -48,7 +48,7 @@ abbrev pub inOrder : List Fault → (List Bool → List ℕ) → Bool
 inOrder faults call = everySet faults (λ there. same (take 2 (call there)) (firstOf faults there))
 
 -- fault i is there
-abbrev is : List Bool → ℕ → Bool
+abbrev pub is : List Bool → ℕ → Bool
 is [] i = false
 is (t ∷ ts) zero = t
 is (t ∷ ts) (suc i) = is ts i

@@ -25,12 +25,12 @@ use Rattle.sheet.specs.Data.{rowOf, widthOf}
 use Rattle.sheet.specs.Long.{After, replaced, columnsOf, transferCall}
 use Rattle.sheet.specs.Writer.{setTo, bytesFor, rowsTransfer, checkWanted}
 
--- ---- a part's commands: mode-set, bank-select and device-select 0 as both sheets have them, and a pointer that is restored at each column
+-- ---- a part's commands: mode-set, bank-select and device-select as both sheets have them, and a pointer that is restored at each column
 
 pub record Settable (K : Part) : Type 0 where
   pub mode-set : (e b m : ℕ) → e < 2 → b < 2 → m < 4 → K .command (0xC0 + 8 * e + 4 * b + m) ≡ ModeSet (record { e = e; b = b; m = m })
   pub bank-select : (i o : ℕ) → i < 2 → o < 2 → K .command (0xF8 + 2 * i + o) ≡ BankSelect i o
-  pub device-select : K .command 0xE0 ≡ DeviceSelect 0
+  pub device-select : (n : ℕ) → n < K .limit → K .command (0xE0 + n) ≡ DeviceSelect n
   pub pointer : (p : ℕ) → p < K .columns → (r : Registers) → obeyedAll K (K .pointer p) r ≡ withMarks (atPlace r p (r .a)) (record { high = 0; low = 0; device = r .unknown .device })
   pub defined : (p : ℕ) → p < K .columns → allDefined K (K .pointer p) ≡ true
   pub columns : 0 < K .columns

@@ -92,9 +92,11 @@ abbrev pub writtenBy : Check → List ℕ → List ℕ → WrittenAfter
 writtenBy Passed transfer out = record { result = Written.Bytes (length transfer); out = transfer ++ drop (length transfer) out }
 writtenBy (Refused x) transfer out = record { result = Written.Refused x; out = out }
 
--- by a part's number: 16 first
+-- a writer's call by a part's number, its checks of what is wanted, and its transfer: 16 first, and 9 last
+abbrev pub writtenPart : ℕ → Check → List ℕ → List ℕ → WrittenAfter
+writtenPart part wants transfer out = writtenBy (orElse (checkPart part) (orElse wants (checkRoom transfer (length out)))) transfer out
+
 unfoldable pub writeRowsPart : ℕ → Chips → Both → ℕ → ℕ → ℕ → List ℕ → List ℕ → WrittenAfter
 writeRowsPart part n r g mode bank wanted out =
     let K = partOf part in
-    let transfer = rowsTransfer K n r g mode bank wanted in
-    writtenBy (orElse (checkPart part) (orElse (checkWanted K n r g mode bank wanted) (checkRoom transfer (length out)))) transfer out
+    writtenPart part (checkWanted K n r g mode bank wanted) (rowsTransfer K n r g mode bank wanted) out

@@ -1,5 +1,5 @@
 -- From picture to bus bytes (paper 02, request 2), computed: each mode and bank of both parts, the bytes by hand, what their run leaves; lengths, and every refusal in its order.
-use Prim.Native.Nat.{ℕ, zero, suc, _+_, _-_, _*_}
+use Prim.Native.Nat.{ℕ, zero, _+_, _-_, _*_}
 use mathlib.Core.Bool.{Bool, true, cond, _&&_}
 use mathlib.Core.List.{List, [], _∷_, _++_}
 use lib.Dec.{T, eqb}
@@ -17,7 +17,7 @@ use Rattle.sheet.specs.Places.{position, atPosition}
 use Rattle.sheet.specs.Data.{putBits, changed, withRow, storedBits, counted, acknowledger}
 use Rattle.sheet.specs.Writer.{bitsFrom, dataFrom, rowsTransfer, checkWanted, writeRowsPart}
 use Rattle.sheet.specs.Starred.{same, Column, holds}
-use Rattle.sheet.specs.Orders.{Fault, inOrder}
+use Rattle.sheet.specs.Orders.{Fault, refusal, inOrder, is}
 
 -- ---- the bytes
 
@@ -111,14 +111,6 @@ lengths =
 
 -- ---- the order of its refusals: 16, 3, 6, 8, 4, 5, 9; 6 for a register, a wanted mode or a wanted bank
 
-abbrev fault : ℕ → ℕ → Fault
-fault number place = record { number = number; place = place }
-
-abbrev is : List Bool → ℕ → Bool
-is [] i = Bool.false
-is (t ∷ ts) zero = t
-is (t ∷ ts) (suc i) = is ts i
-
 -- group 1 has an M of 4, in place of 2
 abbrev both : Bool → Both
 both bad = record { zero = lost; one = record { e = 1; b = 0; m = cond bad 4 2; p = 7; a = 2; i = 0; o = 1; ab = 1; bf = 3; unknown = marked 1 } }
@@ -131,7 +123,7 @@ asked mode bank register f =
     (replicate 2 0 ++ (cond (is f 5) 16 0 ∷ replicate (cond (is f 1) 797 157 + cond (is f 4) 1 0) 0)) (replicate (cond (is f 1) 412 92 - cond (is f 6) 1 0) 99) .result)
 
 abbrev faults : List Fault
-faults = fault 16 0 ∷ fault 3 0 ∷ fault 6 0 ∷ fault 8 0 ∷ fault 4 0 ∷ fault 5 2 ∷ fault 9 0 ∷ []
+faults = refusal 16 0 ∷ refusal 3 0 ∷ refusal 6 0 ∷ refusal 8 0 ∷ refusal 4 0 ∷ refusal 5 2 ∷ refusal 9 0 ∷ []
 
 abbrev pub ordered : Bool
 ordered =

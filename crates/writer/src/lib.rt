@@ -26,7 +26,7 @@ fn head_size(part: u8) -> usize
 }
 
 // E and B as the registers have them, and a wanted M.
-fn mode_set(registers: Registers, mode: u8) -> u8
+pub fn mode_set(registers: Registers, mode: u8) -> u8
     requires { ⌜ (registers .e < 2) × (registers .b < 2) × (mode < 4) ⌝ }
     ensures { λ r. ⌜ r ≡ modeSetOf registers mode ⌝ }
 {

@@ -42,6 +42,12 @@ extern "C" {
         out: *mut u8, out_length: usize, answer: *mut usize, answer_length: usize,
     ) -> u8;
 
+    pub fn humtrellis_write_three(
+        part: u8, chips0: u8, chips1: u8, registers: *const u8, registers_length: usize,
+        group: u8, wanted: *const u8, wanted_length: usize,
+        out: *mut u8, out_length: usize, answer: *mut usize, answer_length: usize,
+    ) -> u8;
+
     pub fn humtrellis_rescue(
         log: *const u8, log_length: usize, out: *mut u8, out_length: usize,
         answer: *mut usize, answer_length: usize,
@@ -275,6 +281,41 @@ pub fn write_rows(
             group,
             mode,
             bank,
+            w.pointer(),
+            w.length(),
+            o.pointer(),
+            o.length(),
+            a.pointer(),
+            a.length(),
+        )
+    };
+    s.back(registers);
+    w.back(wanted);
+    o.back(out);
+    a.back(answer);
+    number
+}
+
+pub fn write_three(
+    part: u8,
+    [chips0, chips1]: [u8; 2],
+    registers: &mut [u8],
+    group: u8,
+    wanted: &mut [u8],
+    out: &mut [u8],
+    answer: &mut [usize],
+) -> u8 {
+    let (mut s, mut w) = (bytes(registers), bytes(wanted));
+    let (mut o, mut a) = (bytes(out), numbers(answer));
+    // Safety: each pointer goes with the length of the buffer that it points to.
+    let number = unsafe {
+        humtrellis_write_three(
+            part,
+            chips0,
+            chips1,
+            s.pointer(),
+            s.length(),
+            group,
             w.pointer(),
             w.length(),
             o.pointer(),

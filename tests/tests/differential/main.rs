@@ -19,7 +19,9 @@ mod replay;
 mod rescue;
 mod seen;
 mod stops;
+mod three;
 mod writer;
+mod writing;
 
 use case::{refusal_of, Call, Case, MARKS};
 use humtrellis_tests::generate::{self, shape};

@@ -4,7 +4,7 @@ use crate::case::{Call, Case};
 use crate::chip;
 use crate::library::SIZE;
 use crate::plain::{self, CHIP};
-use humtrellis_tests::generate::{commands_then_data, position_commands};
+use humtrellis_tests::generate::commands_then_data;
 use humtrellis_tests::model::{Part, ANSWER, COLUMNS, REGISTERS, SET, WHOLE};
 
 const PCA85133: u8 = 1;
@@ -81,7 +81,7 @@ const MODES: [(u8, [&[u8]; 2]); 4] = [
 /// FF from a position on, after these commands, fills these columns; those past the last chip are lost, and then nobody acknowledges it.
 fn expect_full_byte(chips: usize, settings: [u8; 2], columns: &[u8], v: usize) {
     let mut bench = Bench::new(chips as u8, 0);
-    let place = position_commands(Part::Pca85133, (v / 80) as u8, (v % 80) as u8);
+    let place = Part::Pca85133.position_commands((v / 80) as u8, (v % 80) as u8);
     let commands = [&settings, &place[..]].concat();
     let answer = bench.send(&commands_then_data(0x70, &commands, &[0xFF]));
     let filled = (v..80 * chips).zip(columns.iter().copied());

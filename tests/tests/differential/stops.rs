@@ -131,6 +131,30 @@ impl Bus {
         self.refused(number, expected, 0);
         assert_eq!(out, [0xEE; COLUMNS]);
     }
+
+    /// The same of the writer of request 12.
+    fn write_three(&mut self, expected: u8) {
+        let (wanted, mut out) = ([0; COLUMNS], [0xEE; COLUMNS]);
+        let (r, a) = (&self.registers, &mut self.answer);
+        let number = unsafe {
+            humtrellis_write_three(
+                self.part,
+                self.chips,
+                0,
+                r.as_ptr(),
+                REGISTERS,
+                0,
+                wanted.as_ptr(),
+                self.ram_length,
+                out.as_mut_ptr(),
+                COLUMNS,
+                a.as_mut_ptr(),
+                ANSWER,
+            )
+        };
+        self.refused(number, expected, 0);
+        assert_eq!(out, [0xEE; COLUMNS]);
+    }
 }
 
 #[test]
@@ -168,6 +192,19 @@ fn stops_at_wanted_length() {
         bus.write_rows(6);
         bus.chips = 9;
         bus.write_rows(3);
+    }
+}
+
+/// So in the writer of request 12.
+#[test]
+fn stops_at_wanted_length_of_three() {
+    for mut bus in PARTS.map(Bus::new) {
+        bus.ram_length = FALSE;
+        bus.write_three(4);
+        bus.registers[0] = 9;
+        bus.write_three(6);
+        bus.chips = 9;
+        bus.write_three(3);
     }
 }
 

@@ -1,29 +1,24 @@
 -- `writer::write_rows` meets its contract: refused, nothing for no chip, or the transfer at the start of the output.
 -- Assumes nothing.
-use mathlib.Core.Path.{_≡_, refl, sym, ap, ap₂, _∙_}
+use mathlib.Core.Path.{_≡_, sym, ap, ap₂, _∙_}
 use mathlib.Core.List.{List, [], _∷_, _++_}
 use Prim.Native.Nat.{ℕ, _+_, _*_, _≤_, _<_}
 use native.Mathlib.Omega.{arith}
-use lib.Dec.{leb}
 use lib.ListN.{length, drop}
 use lib.Seq.{length-take-le}
-use borrow.Author.Tests.{eq-eqb, le-leb, lt-leb}
+use borrow.Author.Tests.{eq-eqb}
 use denote.Ref.{now}
 use Rattle.sheet.specs.declared.Registers.{Registers}
 use Rattle.sheet.specs.declared.Both.{Both}
 use Rattle.sheet.specs.declared.Chips.{Chips}
 use Rattle.sheet.specs.declared.Written.{Written}
-use Rattle.sheet.specs.declared.Refusal.{Refusal}
-use Rattle.sheet.specs.declared.Refusal.the-variants.{OutputLength}
-use Rattle.sheet.specs.declared.Check.{Check}
-use Rattle.sheet.specs.declared.Check.the-variants.{Passed, Refused}
-use Rattle.sheet.specs.Parts.{partOf}
+use Rattle.sheet.specs.declared.Check.the-variants.{Passed}
+use Rattle.sheet.specs.Parts.{Part, partOf}
 use Rattle.sheet.specs.Registers.{backplanes, registersOf}
 use Rattle.sheet.specs.Protocol.{addressOf, chipsIn}
-use Rattle.sheet.specs.Checks.{unless, orElse, checkPart}
-use Rattle.sheet.specs.Writer.{eachAfter80, settings, setTo, bytesFor, dataOf, rowsTransfer, checkWanted, checkRoom, WrittenAfter, writtenBy, writeRowsPart}
-use Rattle.sheet.specs.Refusals.{writtenNumbers}
-use Rattle.laws.proofs.First.{then-refused, then-passed}
+use Rattle.sheet.specs.Checks.{orElse, checkPart}
+use Rattle.sheet.specs.Writer.{eachAfter80, settings, setTo, bytesFor, dataOf, rowsTransfer, checkWanted, writeRowsPart}
+use Rattle.laws.proofs.Written.{numbered, refuses, too-short, written, none}
 use Rattle.laws.proofs.Fits.{both-pass}
 use Rattle.laws.proofs.Named.{ram-small}
 use Rattle.laws.proofs.Ranges.{planes-pos}
@@ -34,36 +29,10 @@ use borrow.Author.Needs.{needs}
 use Rattle.writer.proofs.write_rows.Statement.{statement}
 use Rattle.writer.proofs.write_rows.Tie as tie
 
--- a result with the output, and so its numbers
-numbered : {a b : WrittenAfter} → a ≡ b → (a ≡ b) × (writtenNumbers (a .result) ≡ writtenNumbers (b .result))
-numbered e = (e, ap (λ (k : WrittenAfter). writtenNumbers (k .result)) e)
-
--- what the call is, by what its checks answer
-module _ (part : ℕ) (n : Chips) (r : Both) (g mode bank : ℕ) (wanted out : List ℕ) where
-  abbrev transfer : List ℕ
-  transfer = rowsTransfer (partOf part) n r g mode bank wanted
-
-  abbrev wants : Check
-  wants = checkWanted (partOf part) n r g mode bank wanted
-
-  refuses : (x : Refusal) → orElse (checkPart part) wants ≡ Refused x → record { result = Written.Refused x; out = out } ≡ writeRowsPart part n r g mode bank wanted out
-  unfolding writeRowsPart
-  refuses x e = ap (λ (k : Check). writtenBy k transfer out) (then-refused (checkPart part) wants (checkRoom transfer (length out)) x e)
-
-  by-room : (k : Check) → orElse (checkPart part) wants ≡ Passed → checkRoom transfer (length out) ≡ k → writtenBy k transfer out ≡ writeRowsPart part n r g mode bank wanted out
-  unfolding writeRowsPart
-  by-room k e room = ap (λ (k : Check). writtenBy k transfer out) (then-passed (checkPart part) wants (checkRoom transfer (length out)) k e (sym room))
-
-  -- no chip, no bytes
-  is-none : chipsIn g n ≡ 0 → transfer ≡ []
-  unfolding rowsTransfer
-  is-none none = rw (eq-eqb (chipsIn g n) 0 none)
-
-  empty : orElse (checkPart part) wants ≡ Passed → chipsIn g n ≡ 0 → record { result = Written.Bytes 0; out = out } ≡ writeRowsPart part n r g mode bank wanted out
-  empty e none =
-      let is : transfer ≡ [] = is-none none in
-      ap (λ (l : List ℕ). record { result = Written.Bytes (length l); out = l ++ drop (length l) out }) (sym is)
-      ∙ by-room Passed e (ap (λ (l : List ℕ). unless (leb (length l) (length out)) OutputLength) is ∙ rw (le-leb 0 (length out) (omega arith)) refl)
+-- no chip, no bytes
+is-none : (K : Part) (n : Chips) (r : Both) (g mode bank : ℕ) (wanted : List ℕ) → chipsIn g n ≡ 0 → rowsTransfer K n r g mode bank wanted ≡ []
+unfolding rowsTransfer
+is-none K n r g mode bank wanted none = rw (eq-eqb (chipsIn g n) 0 none)
 
 passes : (t : tie.After-enum-told) → let a = t .before .before .before .before .before .args in
     orElse (checkPart (a .part)) (checkWanted (partOf (a .part)) (a .chips) (a .registers) (a .group) (a .mode) (a .bank) (now (a .wanted))) ≡ Passed
@@ -98,22 +67,21 @@ size-is c = let s = c .before .before in
     ∙ sym (length-rows (partOf (a .part)) (a .chips) (a .registers) (a .group) (a .mode) (a .bank) wanted (some s))
 
 returns : tie.Need-returns
+unfolding writeRowsPart
 returns c = let t = c .before .before in
     let a = t .before .before .before .before .before .args in
-    numbered (empty (a .part) (a .chips) (a .registers) (a .group) (a .mode) (a .bank) (now (a .wanted)) (now (a .out)) (passes t) (sym (c .before .chips-in .ensures) ∙ c .if1 .taken))
+    numbered (none (a .part) (checkWanted (partOf (a .part)) (a .chips) (a .registers) (a .group) (a .mode) (a .bank) (now (a .wanted))) (rowsTransfer (partOf (a .part)) (a .chips) (a .registers) (a .group) (a .mode) (a .bank) (now (a .wanted))) (now (a .out)) (passes t) (is-none (partOf (a .part)) (a .chips) (a .registers) (a .group) (a .mode) (a .bank) (now (a .wanted)) (sym (c .before .chips-in .ensures) ∙ c .if1 .taken)))
 
 rows-size-requires : tie.Need-rows-size-requires
 rows-size-requires c κs = let t = c .before .before .before .before in
     (rw (c .backplanes-of .ensures) (planes-pos _), omega (arith, few t))
 
 returns-2 : tie.Need-returns-2
+unfolding writeRowsPart
 returns-2 c = let z = c .before in
     let t = z .before .before .before .before .before in
     let a = t .before .before .before .before .before .args in
-    let transfer = rowsTransfer (partOf (a .part)) (a .chips) (a .registers) (a .group) (a .mode) (a .bank) (now (a .wanted)) in
-    numbered
-    (by-room (a .part) (a .chips) (a .registers) (a .group) (a .mode) (a .bank) (now (a .wanted)) (now (a .out)) (Refused OutputLength) (passes t)
-    (rw (lt-leb (length transfer) (length (now (a .out))) (omega (arith, size-is z, c .if2 .taken))) refl))
+    numbered (too-short (a .part) (checkWanted (partOf (a .part)) (a .chips) (a .registers) (a .group) (a .mode) (a .bank) (now (a .wanted))) (rowsTransfer (partOf (a .part)) (a .chips) (a .registers) (a .group) (a .mode) (a .bank) (now (a .wanted))) (now (a .out)) (passes t) (omega (arith, size-is z, c .if2 .taken)))
 
 -- the output has room
 room : (c : tie.Else2) → let z = c .before in z .rows-size .result ≤ length (now (z .before .before .before .before .before .before .before .before .before .before .args .out))
@@ -137,23 +105,23 @@ put-rows-requires c κs = let z = c .before .before in
     )
 
 returns-3 : tie.Need-returns-3
+unfolding writeRowsPart
 returns-3 c = let a = c .before .before .before .before .before .before .args in
-    numbered (refuses (a .part) (a .chips) (a .registers) (a .group) (a .mode) (a .bank) (now (a .wanted)) (now (a .out)) _ (sym (c .before .before .before .check-wanted .ensures) ∙ c .before .refusal .given .1))
+    numbered (refuses (a .part) (checkWanted (partOf (a .part)) (a .chips) (a .registers) (a .group) (a .mode) (a .bank) (now (a .wanted))) (rowsTransfer (partOf (a .part)) (a .chips) (a .registers) (a .group) (a .mode) (a .bank) (now (a .wanted))) (now (a .out)) _ (sym (c .before .before .before .check-wanted .ensures) ∙ c .before .refusal .given .1))
 
 returns-4 : tie.Need-returns-4
+unfolding writeRowsPart
 returns-4 c = let p = c .before .before in
     let z = p .before .before .before in
     let o = z .before .before in
     let t = o .before .before .before in
     let a = t .before .before .before .before .before .args in
-    let transfer = rowsTransfer (partOf (a .part)) (a .chips) (a .registers) (a .group) (a .mode) (a .bank) (now (a .wanted)) in
     let is = p .put-rows .ensures
     ∙ ap (λ (r : Registers). addressOf (a .group) ∷ eachAfter80 (settings (partOf (a .part)) r (a .mode) (a .bank)) ++ (0x40 ∷ dataOf (setTo (a .mode) (a .bank) r) (now (a .wanted)))) (o .registers-of .ensures)
     ∙ sym (is-rows (partOf (a .part)) (a .chips) (a .registers) (a .group) (a .mode) (a .bank) (now (a .wanted)) (some o)) in
     numbered
     (ap₂ (λ (k : ℕ) (l : List ℕ). record { result = Written.Bytes k; out = l ++ drop k (now (a .out)) }) (size-is z) is
-    ∙ by-room (a .part) (a .chips) (a .registers) (a .group) (a .mode) (a .bank) (now (a .wanted)) (now (a .out)) Passed (passes t)
-    (rw (le-leb (length transfer) (length (now (a .out))) (omega (arith, size-is z, room (p .before .before)))) refl))
+    ∙ written (a .part) (checkWanted (partOf (a .part)) (a .chips) (a .registers) (a .group) (a .mode) (a .bank) (now (a .wanted))) (rowsTransfer (partOf (a .part)) (a .chips) (a .registers) (a .group) (a .mode) (a .bank) (now (a .wanted))) (now (a .out)) (passes t) (omega (arith, size-is z, room (p .before .before))))
 
 pub write-rows-spec : {M : Type 1} → statement M
 write-rows-spec =
