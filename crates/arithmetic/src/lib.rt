@@ -3,6 +3,7 @@ use sheet::Registers;
 ghost use mathlib.Core.Bool.{true};
 ghost use mathlib.Core.Path.{_≡_};
 ghost use Prim.Native.Nat.{_-_, _*_, _/_, _%_, _<_, min};
+ghost use lib.ListN.{length};
 ghost use Rattle.sheet.specs.Parts.{partOf};
 ghost use Rattle.sheet.specs.Registers.{inRange, backplanes, bankRow};
 ghost use Rattle.sheet.specs.Places.{position, atPosition};
@@ -22,6 +23,13 @@ pub fn limit(part: u8) -> usize
     ensures { λ r. ⌜ r ≡ partOf part .limit ⌝ }
 {
     if part == sheet::PCA85133 { 8 } else { 4 }
+}
+
+// The commands that make P a column.
+pub fn pointers(part: u8) -> usize
+    ensures { λ r. ⌜ r ≡ length (partOf part .pointer 0) ⌝ }
+{
+    if part == sheet::PCA85133 { 1 } else { 2 }
 }
 
 // The columns of so many chips.

@@ -12,12 +12,13 @@ use Rattle.sheet.specs.declared.Both.{Both}
 use Rattle.sheet.specs.declared.Chips.{Chips}
 use Rattle.sheet.specs.declared.Refusal.the-variants.{RamLength, Register, GroupOrPhase}
 use Rattle.sheet.specs.declared.Check.the-variants.{Passed}
-use Rattle.sheet.specs.Parts.{Part}
+use Rattle.sheet.specs.Parts.{Part, partOf}
 use Rattle.sheet.specs.Registers.{inRange, registersOf}
 use Rattle.sheet.specs.Protocol.{chipsIn}
 use Rattle.sheet.specs.Checks.{unless, checkChips, checkRegisters, overIn}
 use Rattle.sheet.specs.Writer.{checkWanted}
 use Rattle.laws.proofs.Ranges.{InRange, range-of}
+use Rattle.laws.proofs.Named.{ram-small}
 use Rattle.laws.proofs.Fits.{both-pass, unless-passes, few-chips}
 
 pub record Asked (K : Part) (n : Chips) (r : Both) (g mode bank : ℕ) (wanted : List ℕ) : Type 0 where
@@ -55,3 +56,7 @@ asked-of K n r g mode bank wanted e =
       group-in = ltb-true g 2 (unless-passes _ GroupOrPhase (d .0));
       columns = eqb-true (length wanted) (K .columns * chipsIn g n) (unless-passes _ RamLength (f .0));
     }
+
+-- of a part by its number they are at most 640
+pub few-wanted : (part : ℕ) {n : Chips} {r : Both} {g mode bank : ℕ} {wanted : List ℕ} → Asked (partOf part) n r g mode bank wanted → length wanted ≤ 640
+few-wanted part {n} {r} {g} asked = rw (asked .columns) (ram-small part (chipsIn g n) (asked .few))

@@ -8,7 +8,7 @@ use Prim.Native.Nat.{ℕ, _+_, _*_, _≤_, _<_}
 use native.Mathlib.Nat.{zero-add}
 use native.Mathlib.Omega.{arith}
 use lib.Dec.{eqb}
-use lib.ListN.{length, take, drop, length-take, length-drop}
+use lib.ListN.{length, take, drop, length-append, length-take, length-drop}
 use lib.Seq.{take-at, drop-at, length-take-le}
 use Rattle.lemmas.proofs.Order.{two-others}
 use Rattle.sheet.specs.declared.Registers.{Registers}
@@ -90,6 +90,10 @@ module _ (K : Part) (n : Chips) (r : Both) (ram : List ℕ) (f : Fits K n r ram)
     own-columns columns e =
         ap (take (K .columns * chipsIn g n)) (drop-at (take (startOf K n g) ram) (columns ++ drop (endOf K n g) ram) (startOf K n g) (length-take-le (startOf K n g) ram (omega (arith, ends-in-ram))))
         ∙ take-at columns (drop (endOf K n g) ram) (K .columns * chipsIn g n) e
+
+    -- and the RAM is as long as it was
+    pub length-with : (columns : List ℕ) → length columns ≡ K .columns * chipsIn g n → length (withColumns K n g columns ram) ≡ length ram
+    length-with columns e = simp (length-append, length-take, length-drop) (omega (arith, e, ends-in-ram))
 
   -- the other group's stay
   pub other-columns : (g h : ℕ) → g < 2 → h < 2 → g ≢ h → (columns : List ℕ) → length columns ≡ K .columns * chipsIn g n

@@ -8,7 +8,7 @@ use Prim.Native.Nat.{ℕ, _+_, _-_, _*_, _/_, _%_, _≤_, _<_, zero-le}
 use native.Mathlib.Nat.{zero-add, mul-zero, mul-le-mul-left, div-le-self}
 use native.Mathlib.Omega.{arith}
 use lib.Dec.{eqb}
-use lib.ListN.{length, getD, length-append, length-take, length-drop}
+use lib.ListN.{length, getD, length-append}
 use borrow.Author.Tests.{ne-eqb}
 use Rattle.sheet.specs.declared.Registers.{Registers}
 use Rattle.sheet.specs.declared.Both.{Both}
@@ -30,14 +30,14 @@ use Rattle.sheet.specs.Writer.{eachAfter80, settings, modeSetOf, bankSelectOf, 
 use Rattle.sheet.specs.Puts.{Settable, reaches, putCounts, putLast, Puts, AlikeWhere, WritesRows, ClaimRows}
 use Rattle.laws.proofs.Ranges.{planes-pos}
 use Rattle.laws.proofs.Fits.{Fits, fits-of}
-use Rattle.laws.proofs.Lens.{ends-in-ram, length-columns, own-columns, other-columns}
+use Rattle.laws.proofs.Lens.{length-columns, own-columns, other-columns, length-with}
 use Rattle.laws.proofs.Runs.{length-run, ran, run-at-once}
 use Rattle.laws.proofs.Rows.{run-lands}
-use Rattle.laws.proofs.Asked.{Asked, asked-of}
+use Rattle.laws.proofs.Asked.{Asked, asked-of, few-wanted}
 use Rattle.laws.proofs.Sending.{ready, sent-to}
 use Rattle.laws.proofs.Enough.{run-counts, run-last}
 use Rattle.laws.proofs.Settables.{part-settable}
-use Rattle.laws.proofs.Named.{pointer-bytes, ram-small}
+use Rattle.laws.proofs.Named.{pointer-bytes}
 use Rattle.laws.proofs.Wanted.{length-data, data-at, bit-at, Bit, reached, reached-by, byte-there, same-data}
 
 -- ---- the commands make the registers
@@ -201,7 +201,7 @@ module _ (K : Part) (u : Settable K) (n : Chips) (r : Both) (ram : List ℕ) (g 
       wanted-there = wanted-there;
       others-stay = others-stay;
       other-group = λ h ph ne. (λ i. columnsOf K n h (is-called i .ram)) ∙ other-columns K n r ram fits g h (asked .group-in) ph ne run length-own;
-      size = (λ i. length (is-called i .ram)) ∙ simp (length-append, length-take, length-drop) (omega (arith, length-own, ends-in-ram K n r ram fits g));
+      size = (λ i. length (is-called i .ram)) ∙ length-with K n r ram fits g run length-own;
     }
 
   pub law : length (rowsTransfer K n r g mode bank wanted) ≤ 4096
@@ -242,4 +242,4 @@ part-puts part n r ram g mode bank wanted es ew some =
     let asked = asked-of (partOf part) n r g mode bank wanted ew in
     part-writes-rows part .puts n r ram g mode bank wanted es ew some
     (rw (length-rows (partOf part) n r g mode bank wanted some)
-    (short part _ (length wanted) (rw (asked .columns) (ram-small part (chipsIn g n) (asked .few)))))
+    (short part _ (length wanted) (few-wanted part asked)))

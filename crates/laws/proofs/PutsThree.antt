@@ -6,7 +6,7 @@ use mathlib.Core.List.{List, [], _∷_, _++_, append-nil}
 use Prim.Native.Nat.{ℕ, zero, suc, _+_, _-_, _*_, _/_, _%_, _≤_, _<_}
 use native.Mathlib.Nat.{mul-assoc, mul-zero, mul-suc, mul-le-mul, mul-le-mul-left, mod-lt}
 use native.Mathlib.Omega.{arith}
-use lib.ListN.{length, getD, length-append, length-take, length-drop}
+use lib.ListN.{length, getD, length-append}
 use borrow.Author.Tests.{ne-eqb}
 use Rattle.sheet.specs.declared.Registers.{Registers}
 use Rattle.sheet.specs.declared.Both.{Both}
@@ -27,14 +27,14 @@ use Rattle.sheet.specs.Writer.{eachAfter80, modeSetOf, setTo, checkWanted}
 use Rattle.sheet.specs.Puts.{Settable}
 use Rattle.sheet.specs.Three.{pairOf, byteAt, pairsFrom, threeTransfer, PutsThree, WritesThree, ClaimThree}
 use Rattle.laws.proofs.Fits.{Fits, fits-of}
-use Rattle.laws.proofs.Lens.{ends-in-ram, length-columns, own-columns, other-columns}
+use Rattle.laws.proofs.Lens.{length-columns, own-columns, other-columns, length-with}
 use Rattle.laws.proofs.Commanded.{on, heard-commands, fault-commands}
-use Rattle.laws.proofs.Asked.{Asked, asked-of}
+use Rattle.laws.proofs.Asked.{Asked, asked-of, few-wanted}
 use Rattle.laws.proofs.Sending.{called, taken-by}
 use Rattle.laws.proofs.Pairs.{pairs-more}
 use Rattle.laws.proofs.Threes.{after, afterAll, heard-byte, heard-all, fault-all, Done, steps, rows-after, others-after, size-after, last-counts, last-by, last-registers}
 use Rattle.laws.proofs.Settables.{part-settable}
-use Rattle.laws.proofs.Named.{of-both, has-columns, pointer-bytes, ram-small}
+use Rattle.laws.proofs.Named.{of-both, has-columns, pointer-bytes}
 use Rattle.laws.proofs.Puts.{length-each}
 
 -- to a group with a chip
@@ -96,7 +96,7 @@ module _ (K : Part) (u : Settable K) (even : K .columns % 2 ≡ 0) (n : Chips) (
 
   -- the group in 1:3, and after all bytes but the last
   abbrev begins : Group
-  begins = on (2 * length mode) (obeyedAll K mode own) (called K n r ram es g (asked .group-in) some)
+  begins = on (2 * length mode) (obeyedAll K mode own) (called K n r ram g)
 
   done-at-first : Done K u wanted columns base 0 (0 + 1 + 2 * length mode) begins
   done-at-first = record {
@@ -126,10 +126,10 @@ module _ (K : Part) (u : Settable K) (even : K .columns % 2 ≡ 0) (n : Chips) (
   is-all : pairsFrom K N 0 wanted ≡ pairsFrom K (N - 1) 0 wanted ++ byteAt K last (pairOf wanted last)
   is-all = let e : N ≡ suc (N - 1) = omega (arith, whole-pairs, some-columns) in ap (λ (k : ℕ). pairsFrom K k 0 wanted) e ∙ pairs-more K (N - 1) 0 wanted
 
-  heard-is : heard K Control bytes (called K n r ram es g (asked .group-in) some) ≡ finished
+  heard-is : heard K Control bytes (called K n r ram g) ≡ finished
   unfolding heard
   heard-is =
-      heard-commands K mode (pairsFrom K N 0 wanted) (called K n r ram es g (asked .group-in) some)
+      heard-commands K mode (pairsFrom K N 0 wanted) (called K n r ram g)
       ∙ ap (λ (l : List ℕ). heard K Control l begins) is-all
       ∙ heard-all K u wanted (byteAt K last (pairOf wanted last)) (N - 1) 0 begins (omega (arith, ends, few-columns))
       ∙ ap (λ (l : List ℕ). heard K Control l before) (sym (append-nil (byteAt K last (pairOf wanted last))))
@@ -165,7 +165,7 @@ module _ (K : Part) (u : Settable K) (even : K .columns % 2 ≡ 0) (n : Chips) (
       wanted-there = λ c q lc lq. (λ i. rowOf (getD (own-after i) c 0) q) ∙ rows-after K u wanted columns base refl last _ before done-before (omega (arith, ends)) c q (omega (arith, ends, lc)) lq;
       others-stay = λ c q l. (λ i. rowOf (getD (own-after i) c 0) q) ∙ others-after K u wanted columns base refl last _ before done-before c q l;
       other-group = λ h ph ne. (λ i. columnsOf K n h (is-sent i .ram)) ∙ other-columns K n r ram fits g h (asked .group-in) ph ne (finished .ram) length-own;
-      size = (λ i. length (is-sent i .ram)) ∙ simp (length-append, length-take, length-drop) (omega (arith, length-own, ends-in-ram K n r ram fits g));
+      size = (λ i. length (is-sent i .ram)) ∙ length-with K n r ram fits g (finished .ram) length-own;
     }
 
   pub law : length (threeTransfer K n r g wanted) ≤ 4096 → PutsThree K n r ram g wanted (threeTransfer K n r g wanted) (transferCall K n r ram (whole (threeTransfer K n r g wanted)))
@@ -208,11 +208,14 @@ pub length-of-part : (part : ℕ) (n : Chips) (r : Both) (g : ℕ) (wanted : Lis
     → length (threeTransfer (partOf part) n r g wanted) ≡ 3 + (4 + 2 * length (partOf part .pointer 0)) * (length wanted / 2)
 length-of-part part n r g wanted some = length-three (partOf part) (has-columns part) (length (partOf part .pointer 0)) (λ p l. same-pointers part p) n r g wanted some
 
+-- and the bytes of at most 640 columns are few
+pub pairs-small : (part size : ℕ) → size ≤ 640 → (4 + 2 * length (partOf part .pointer 0)) * (size / 2) ≤ 2560
+pairs-small part size h = mul-le-mul {n₁ = 4 + 2 * length (partOf part .pointer 0)} {m₁ = size / 2} {n₂ = 8} {m₂ = 320} (omega (arith, pointer-bytes part .1)) (omega (arith, h))
+
 pub part-puts-three : (part : ℕ) (n : Chips) (r : Both) (ram : List ℕ) (g : ℕ) (wanted : List ℕ) → checkState (partOf part) n r ram ≡ Passed → checkWanted (partOf part) n r g 3 0 wanted ≡ Passed
     → 0 < chipsIn g n
     → PutsThree (partOf part) n r ram g wanted (threeTransfer (partOf part) n r g wanted) (transferCall (partOf part) n r ram (whole (threeTransfer (partOf part) n r g wanted)))
 part-puts-three part n r ram g wanted es ew some =
     let asked = asked-of (partOf part) n r g 3 0 wanted ew in
-    let small : length wanted ≤ 640 = rw (asked .columns) (ram-small part (chipsIn g n) (asked .few)) in
-    let most : (4 + 2 * length (partOf part .pointer 0)) * (length wanted / 2) ≤ 8 * 320 = mul-le-mul {n₁ = 4 + 2 * length (partOf part .pointer 0)} {m₁ = length wanted / 2} {n₂ = 8} {m₂ = 320} (omega (arith, pointer-bytes part .1)) (omega arith) in
-    part-writes-three part .puts n r ram g wanted es ew some (omega (arith, length-of-part part n r g wanted some, most))
+    let small = pairs-small part (length wanted) (few-wanted part asked) in
+    part-writes-three part .puts n r ram g wanted es ew some (omega (arith, length-of-part part n r g wanted some, small))

@@ -29,22 +29,21 @@ hears n zero l h = rw (lt-ltb 0 (n .zero) h)
 hears n (suc zero) l h = rw (lt-ltb 0 (n .one) h)
 hears n (suc (suc g)) l h = absurd (omega arith)
 
--- the group once commands are obeyed
+-- the group once its address is acknowledged, and once commands are obeyed and a control byte has come
+abbrev pub called : Part → Chips → Both → List ℕ → ℕ → Group
+called K n r ram g = begun (registersOf g r) (columnsOf K n g ram)
+
 abbrev pub ready : Part → Chips → Both → List ℕ → ℕ → List ℕ → Registers → Group
-ready K n r ram g xs s = control (on (2 * length xs) s (begun (registersOf g r) (columnsOf K n g ram)))
+ready K n r ram g xs s = control (on (2 * length xs) s (called K n r ram g))
 
 module _ (K : Part) (n : Chips) (r : Both) (ram : List ℕ) (es : checkState K n r ram ≡ Passed) (g : ℕ) (pg : g < 2) (some : 0 < chipsIn g n) where
-  -- the group once its address is acknowledged
-  abbrev pub called : Group
-  called = begun (registersOf g r) (columnsOf K n g ram)
-
   -- a transfer of bytes without a fault is taken, and the group has heard them
   module _ (xs : List ℕ) (clean : faultIn K false (registersOf g r .unknown) Control 1 xs ≡ Passed) (few : length (addressOf g ∷ xs) ≤ 4096) where
     passes : checkTransfer K n r ram (whole (addressOf g ∷ xs)) ≡ Passed
     unfolding checkTransfer checkSent checkLength checkBits within wholeOf
     passes = rw (es, lt-ltb 0 (length (addressOf g ∷ xs)) (omega arith), le-leb (length (addressOf g ∷ xs)) 4096 few, hears n g pg some) clean
 
-    pub taken-by : transferCall K n r ram (whole (addressOf g ∷ xs)) ≡ heardIn K n g r ram (heard K Control xs called)
+    pub taken-by : transferCall K n r ram (whole (addressOf g ∷ xs)) ≡ heardIn K n g r ram (heard K Control xs (called K n r ram g))
     unfolding transferCall wholeOf cutData
     taken-by = rw (passes, hears n g pg some) refl
 
@@ -55,9 +54,9 @@ module _ (K : Part) (n : Chips) (r : Both) (ram : List ℕ) (es : checkState K n
     unfolding faultIn controlOf
     no-fault = fault-commands K xs (0x40 ∷ ys) (registersOf g r) 1 all ∙ rw made (fault-data K (s .unknown) ys _ there)
 
-    follows : heard K Control (eachAfter80 xs ++ (0x40 ∷ ys)) called ≡ heard K (All Kind.Data) ys (ready K n r ram g xs s)
+    follows : heard K Control (eachAfter80 xs ++ (0x40 ∷ ys)) (called K n r ram g) ≡ heard K (All Kind.Data) ys (ready K n r ram g xs s)
     unfolding heard controlOf
-    follows = heard-commands K xs (0x40 ∷ ys) called ∙ ap (λ (q : Registers). heard K (All Kind.Data) ys (control (on (2 * length xs) q called))) made
+    follows = heard-commands K xs (0x40 ∷ ys) (called K n r ram g) ∙ ap (λ (q : Registers). heard K (All Kind.Data) ys (control (on (2 * length xs) q (called K n r ram g)))) made
 
     -- it is taken, and the group has heard the data
     pub sent-to : transferCall K n r ram (whole (addressOf g ∷ eachAfter80 xs ++ (0x40 ∷ ys))) ≡ heardIn K n g r ram (heard K (All Kind.Data) ys (ready K n r ram g xs s))

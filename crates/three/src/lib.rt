@@ -20,7 +20,7 @@ ghost use Rattle.three.specs.Room.{Pairs, Three};
 fn byte_size(part: u8) -> usize
     ensures { λ r. ⌜ r ≡ 4 + 2 * length (partOf part .pointer 0) ⌝ }
 {
-    if part == sheet::PCA85133 { 6 } else { 8 }
+    4 + 2 * arithmetic::pointers(part)
 }
 
 // Device-select, the pointer, and the data byte x, at column c of the group.

@@ -22,7 +22,7 @@ ghost use Rattle.writer.specs.Room.{Settled, Room};
 fn head_size(part: u8) -> usize
     ensures { λ r. ⌜ r ≡ 8 + 2 * length (partOf part .pointer 0) ⌝ }
 {
-    if part == sheet::PCA85133 { 10 } else { 12 }
+    8 + 2 * arithmetic::pointers(part)
 }
 
 // E and B as the registers have them, and a wanted M.

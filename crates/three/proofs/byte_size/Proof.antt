@@ -1,8 +1,18 @@
--- `three::byte_size` meets its contract for either part.
+-- `three::byte_size` meets its contract.
 -- Assumes nothing.
-use Rattle.laws.proofs.Named.{is-pca85133, is-pcf8532}
+use mathlib.Core.Path.{ap}
+use Prim.Native.Nat.{ℕ, _+_, _*_}
+use native.Mathlib.Omega.{arith}
+use Rattle.laws.proofs.Named.{pointer-bytes}
+use borrow.Author.Needs.{needs}
 use Rattle.three.proofs.byte_size.Statement.{statement}
 use Rattle.three.proofs.byte_size.Tie as tie
 
 pub byte-size-spec : {M : Type 1} → statement M
-byte-size-spec = tie.close (tie.spec (λ c. rw (is-pca85133 _ (c .if1 .taken))) (λ c. rw (is-pcf8532 _ (c .if1 .left))))
+byte-size-spec =
+    tie.close
+    (tie.spec
+    (λ c κs. search needs)
+    (λ c. omega (arith, c .pointers .ensures, pointer-bytes (c .before .args .part) .1))
+    (λ c. omega (arith, c .pointers .ensures, pointer-bytes (c .before .args .part) .1))
+    (λ c. ap (λ (k : ℕ). 4 + 2 * k) (c .pointers .ensures)))

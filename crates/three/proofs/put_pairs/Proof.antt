@@ -2,13 +2,14 @@
 -- Assumes nothing.
 use mathlib.Core.Path.{_≡_, ap, sym, _∙_}
 use Prim.Native.Nat.{ℕ, _+_, _-_, _*_, _/_, _≤_}
-use native.Mathlib.Nat.{add-sub-cancel-left, mul-le-mul}
+use native.Mathlib.Nat.{add-sub-cancel-left}
 use native.Mathlib.Omega.{arith}
 use lib.ListN.{length, take, drop, length-take, length-drop}
 use denote.Ref.{now}
 use Rattle.sheet.specs.Parts.{partOf}
 use Rattle.sheet.specs.Three.{byteAt}
-use Rattle.laws.proofs.Named.{group-columns, pointer-bytes}
+use Rattle.laws.proofs.Named.{group-columns}
+use Rattle.laws.proofs.PutsThree.{pairs-small}
 use Rattle.three.proofs.Putting.{Putting, begun, room, turn, done}
 use borrow.Author.Needs.{needs}
 use Rattle.three.proofs.put_pairs.Statement.{statement}
@@ -32,9 +33,7 @@ short : (c : tie.In-loop Inv-loop μ-loop) → (length (c .before .loop .out) �
 short c = let b = c .before .before in
     let s = b .before .before .before in
     let few : length (now (s .args .wanted)) ≤ 640 = omega (arith, s .pre .there, group-columns (s .args .part)) in
-    let most : b .byte-size .result * (length (now (s .args .wanted)) / 2) ≤ 8 * 320 =
-    mul-le-mul {n₁ = b .byte-size .result} {m₁ = length (now (s .args .wanted)) / 2} {n₂ = 8} {m₂ = 320} (omega (arith, b .byte-size .ensures, pointer-bytes (s .args .part) .1)) (omega (arith, few)) in
-    (omega (arith, c .before .loop .inv .size, rooms b, most), few)
+    (omega (arith, c .before .loop .inv .size, s .pre .room, pairs-small (s .args .part) (length (now (s .args .wanted))) few), few)
 
 part-long : (c : tie.In-loop Inv-loop μ-loop) → let at = c .before .loop .at in
     let size = c .before .before .byte-size .result in

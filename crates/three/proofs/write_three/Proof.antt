@@ -3,7 +3,7 @@
 use mathlib.Core.Path.{_≡_, sym, ap, ap₂, _∙_}
 use mathlib.Core.List.{List, [], _∷_, _++_}
 use Prim.Native.Nat.{ℕ, _+_, _*_, _/_, _%_, _≤_, _<_}
-use native.Mathlib.Nat.{mul-le-mul, mul-le-mul-left}
+use native.Mathlib.Nat.{mul-le-mul-left}
 use native.Mathlib.Omega.{arith}
 use lib.ListN.{length, drop}
 use lib.Seq.{length-take-le}
@@ -21,9 +21,9 @@ use Rattle.sheet.specs.Writer.{eachAfter80, modeSetOf, checkWanted}
 use Rattle.sheet.specs.Three.{pairsFrom, threeTransfer, writeThreePart}
 use Rattle.laws.proofs.Written.{numbered, refuses, too-short, written, none}
 use Rattle.laws.proofs.Fits.{both-pass}
-use Rattle.laws.proofs.Named.{of-both, pointer-bytes, ram-small}
-use Rattle.laws.proofs.Asked.{Asked, asked-of}
-use Rattle.laws.proofs.PutsThree.{is-three, length-of-part}
+use Rattle.laws.proofs.Named.{of-both}
+use Rattle.laws.proofs.Asked.{Asked, asked-of, few-wanted}
+use Rattle.laws.proofs.PutsThree.{is-three, length-of-part, pairs-small}
 use borrow.Author.Needs.{needs}
 use Rattle.three.proofs.write_three.Statement.{statement}
 use Rattle.three.proofs.write_three.Tie as tie
@@ -41,7 +41,7 @@ asks : (t : tie.After-enum-told) → let a = t .before .before .before .before .
 asks t = let a = t .before .before .before .before .before .args in asked-of (partOf (a .part)) (a .chips) (a .registers) (a .group) 3 0 (now (a .wanted)) (both-pass (checkPart (a .part)) _ (passes t) .1)
 
 few : (t : tie.After-enum-told) → length (now (t .before .before .before .before .before .args .wanted)) ≤ 640
-few t = let a = t .before .before .before .before .before .args in rw (asks t .columns) (ram-small (a .part) (chipsIn (a .group) (a .chips)) (asks t .few))
+few t = few-wanted (t .before .before .before .before .before .args .part) (asks t)
 
 -- the columns are two by two
 even-columns : (part chips : ℕ) → partOf part .columns * chips % 2 ≡ 0
@@ -63,7 +63,7 @@ size-is c = let o = c .before in
 size-small : (c : tie.After-byte-size) → c .byte-size .result * (length (now (c .before .before .before .before .before .before .before .before .before .args .wanted)) / 2) ≤ 2560
 size-small c = let t = c .before .before .before .before in
     let a = t .before .before .before .before .before .args in
-    mul-le-mul {n₁ = c .byte-size .result} {m₁ = length (now (a .wanted)) / 2} {n₂ = 8} {m₂ = 320} (omega (arith, c .byte-size .ensures, pointer-bytes (a .part) .1)) (omega (arith, few t))
+    rw (c .byte-size .ensures) (pairs-small (a .part) (length (now (a .wanted))) (few t))
 
 returns : tie.Need-returns
 unfolding writeThreePart

@@ -1,8 +1,18 @@
--- `writer::head_size` meets its contract for either part.
+-- `writer::head_size` meets its contract.
 -- Assumes nothing.
-use Rattle.laws.proofs.Named.{is-pca85133, is-pcf8532}
+use mathlib.Core.Path.{ap}
+use Prim.Native.Nat.{ℕ, _+_, _*_}
+use native.Mathlib.Omega.{arith}
+use Rattle.laws.proofs.Named.{pointer-bytes}
+use borrow.Author.Needs.{needs}
 use Rattle.writer.proofs.head_size.Statement.{statement}
 use Rattle.writer.proofs.head_size.Tie as tie
 
 pub head-size-spec : {M : Type 1} → statement M
-head-size-spec = tie.close (tie.spec (λ c. rw (is-pca85133 _ (c .if1 .taken))) (λ c. rw (is-pcf8532 _ (c .if1 .left))))
+head-size-spec =
+    tie.close
+    (tie.spec
+    (λ c κs. search needs)
+    (λ c. omega (arith, c .pointers .ensures, pointer-bytes (c .before .args .part) .1))
+    (λ c. omega (arith, c .pointers .ensures, pointer-bytes (c .before .args .part) .1))
+    (λ c. ap (λ (k : ℕ). 8 + 2 * k) (c .pointers .ensures)))

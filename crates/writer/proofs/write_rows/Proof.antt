@@ -20,9 +20,8 @@ use Rattle.sheet.specs.Checks.{orElse, checkPart}
 use Rattle.sheet.specs.Writer.{eachAfter80, settings, setTo, bytesFor, dataOf, rowsTransfer, checkWanted, writeRowsPart}
 use Rattle.laws.proofs.Written.{numbered, refuses, too-short, written, none}
 use Rattle.laws.proofs.Fits.{both-pass}
-use Rattle.laws.proofs.Named.{ram-small}
 use Rattle.laws.proofs.Ranges.{planes-pos}
-use Rattle.laws.proofs.Asked.{Asked, asked-of}
+use Rattle.laws.proofs.Asked.{Asked, asked-of, few-wanted}
 use Rattle.laws.proofs.Puts.{length-rows, is-rows}
 use Rattle.writer.proofs.Planes.{by-mode}
 use borrow.Author.Needs.{needs}
@@ -42,7 +41,7 @@ asks : (t : tie.After-enum-told) → let a = t .before .before .before .before .
 asks t = let a = t .before .before .before .before .before .args in asked-of (partOf (a .part)) (a .chips) (a .registers) (a .group) (a .mode) (a .bank) (now (a .wanted)) (both-pass (checkPart (a .part)) _ (passes t) .1)
 
 few : (t : tie.After-enum-told) → length (now (t .before .before .before .before .before .args .wanted)) ≤ 640
-few t = let a = t .before .before .before .before .before .args in rw (asks t .columns) (ram-small (a .part) (chipsIn (a .group) (a .chips)) (asks t .few))
+few t = few-wanted (t .before .before .before .before .before .args .part) (asks t)
 
 -- past the test of the chips there is one
 some : (c : tie.After-registers-of) → let a = c .before .before .before .before .before .before .before .before .args in 0 < chipsIn (a .group) (a .chips)
