@@ -1,12 +1,12 @@
--- `cabi::humtrellis_power_on` meets its contract: the call of the long account, registers written as bytes.
+-- `cabi::power_on` meets its contract: the call of the long account, registers written as bytes.
 -- Assumes nothing.
 use mathlib.Core.Path.{refl}
 use Rattle.answers.proofs.Small.{check-small}
 use Rattle.cabi.specs.Calls.{powerOnC}
 use Rattle.cabi.proofs.Sizes.{first-sized, second-sized}
 use borrow.Author.Needs.{needs}
-use Rattle.cabi.proofs.humtrellis_power_on.Statement.{statement}
-use Rattle.cabi.proofs.humtrellis_power_on.Tie as tie
+use Rattle.cabi.proofs.power_on.Statement.{statement}
+use Rattle.cabi.proofs.power_on.Tie as tie
 
 returns : tie.Need-returns
 unfolding powerOnC
@@ -14,14 +14,14 @@ returns c = let put = c .before .before in
     let said = put .before .before in
     let both = said .before .before .before in
     let done = both .before .before .before in
-    rw (done .before .if1 .taken, put .put-numbers .ensures .0, put .put-numbers .ensures .1, said .check-numbers .ensures, both .put-both .ensures, done .power-on .ensures .0)
+    rw (done .before .if1 .taken, put .put-numbers .ensures .0, put .put-numbers .ensures .1, said .check-numbers .ensures, both .put-both .ensures, done .power-on-in .ensures)
 
 returns-2 : tie.Need-returns-2
 unfolding powerOnC
 returns-2 c = rw (c .if1 .left) refl
 
-pub humtrellis-power-on-spec : {M : Type 1} → statement M
-humtrellis-power-on-spec =
+pub power-on-spec : {M : Type 1} → statement M
+power-on-spec =
     tie.close
     (tie.spec
     (λ c κs. tt)

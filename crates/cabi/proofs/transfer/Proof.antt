@@ -1,4 +1,4 @@
--- `cabi::humtrellis_transfer` meets its contract: the call of the long account between bytes and registers.
+-- `cabi::transfer` meets its contract: the call of the long account between bytes and registers.
 -- Assumes nothing.
 use mathlib.Core.Path.{refl, ap}
 use Rattle.sheet.specs.Long.{After}
@@ -6,8 +6,8 @@ use Rattle.answers.proofs.Small.{answer-small}
 use Rattle.cabi.specs.Calls.{transferC}
 use Rattle.cabi.proofs.Sizes.{first-sized, second-sized}
 use borrow.Author.Needs.{needs}
-use Rattle.cabi.proofs.humtrellis_transfer.Statement.{statement}
-use Rattle.cabi.proofs.humtrellis_transfer.Tie as tie
+use Rattle.cabi.proofs.transfer.Statement.{statement}
+use Rattle.cabi.proofs.transfer.Tie as tie
 
 returns : tie.Need-returns
 unfolding transferC
@@ -16,14 +16,14 @@ returns c = let put = c .before .before in
     let both = said .before .before .before in
     let done = both .before .before .before .before .before in
     let read = done .before .before in
-    rw (read .before .before .if1 .taken, put .put-numbers .ensures .0, put .put-numbers .ensures .1, said .numbers .ensures, both .put-both .ensures, ap (λ (a : After). a .result) (done .transfer .ensures .0), ap (λ (a : After). a .ram) (done .transfer .ensures .0), read .both-of .ensures)
+    rw (read .before .before .if1 .taken, put .put-numbers .ensures .0, put .put-numbers .ensures .1, said .numbers .ensures, both .put-both .ensures, ap (λ (a : After). a .result) (done .transfer-in .ensures), ap (λ (a : After). a .ram) (done .transfer-in .ensures), read .both-of .ensures)
 
 returns-2 : tie.Need-returns-2
 unfolding transferC
 returns-2 c = rw (c .if1 .left) refl
 
-pub humtrellis-transfer-spec : {M : Type 1} → statement M
-humtrellis-transfer-spec =
+pub transfer-spec : {M : Type 1} → statement M
+transfer-spec =
     tie.close
     (tie.spec
     (λ c κs. search (needs, first-sized))
