@@ -9,6 +9,7 @@
  * Group 0 (SA0 = 0) has the address byte 0x70 and group 1 (SA0 = 1) 0x72.
  *
  * RAM         the part's columns a chip: group 0's chips in order, then group 1's. A byte is a column, 0 to 15; bit r is row r.
+ * Packed RAM  half as long: two columns a byte, the even column in the low four bits. Every byte is two columns, so no packed call refuses by 5.
  * Registers   24 bytes: group 0's twelve, then group 1's, each in the order of enum humtrellis_register.
  * Plain chip  174 bytes: 160 columns, SA0 (0 or 1), subaddress (0 to 3; PCA85133: 0 to 7) and twelve registers.
  *             Of a PCA85133 bytes 80 to 159 are neither checked nor read nor changed.
@@ -32,7 +33,7 @@
 #include <stddef.h>
 #include <stdint.h>
 
-#define HUMTRELLIS_VERSION 6 /* of these sizes and calls; docs/C.md says what changed */
+#define HUMTRELLIS_VERSION 7 /* of these sizes and calls; docs/C.md says what changed */
 #define HUMTRELLIS_PCF8532 0 /* the parts */
 #define HUMTRELLIS_PCA85133 1
 #define HUMTRELLIS_COLUMNS 160         /* of a chip: its bytes in the RAM and in a picture */
@@ -93,7 +94,7 @@ enum humtrellis_refusal {
     HUMTRELLIS_REFUSED_EMPTY_TRANSFER = 1,
     HUMTRELLIS_REFUSED_LONG_TRANSFER = 2, /* over 4,096 bytes */
     HUMTRELLIS_REFUSED_CHIP_COUNT = 3,    /* over 4 in a group; PCA85133: over 8 */
-    HUMTRELLIS_REFUSED_RAM_LENGTH = 4,    /* not the part's columns for each chip of both groups; of wanted rows, of the group */
+    HUMTRELLIS_REFUSED_RAM_LENGTH = 4,    /* not the part's columns for each chip of both groups, packed half of them; of wanted rows, those of the group */
     HUMTRELLIS_REFUSED_COLUMN = 5,        /* a byte of the RAM or of wanted rows over 15; place: the first */
     HUMTRELLIS_REFUSED_REGISTER = 6,      /* out of range, in either group; also a wanted mode over 3 or bank over 1 */
     HUMTRELLIS_REFUSED_COMMAND = 7,       /* undefined, in a transfer that a chip hears; place: the first, the address is byte 0 */
@@ -129,6 +130,17 @@ uint8_t humtrellis_transfer(uint8_t part, uint8_t chips0, uint8_t chips1, uint8_
 uint8_t humtrellis_picture(uint8_t part, uint8_t chips0, uint8_t chips1, const uint8_t *registers, size_t registers_length,
                            const uint8_t *ram, size_t ram_length, uint8_t group, uint8_t phase,
                            uint8_t *out, size_t out_length, size_t *answer, size_t answer_length);
+
+/* The three calls above with the RAM packed, half as long: each says, counts and shows what the call above says, counts and shows of the unpacked RAM, and leaves the
+ * RAM that packs what that call leaves. A picture is a byte a column here too. Refusals: the same in the same order, without 5; 4 means half the columns. */
+uint8_t humtrellis_packed_power_on(uint8_t part, uint8_t chips0, uint8_t chips1, const uint8_t *ram, size_t ram_length,
+                                   uint8_t *registers, size_t registers_length, size_t *answer, size_t answer_length);
+uint8_t humtrellis_packed_transfer(uint8_t part, uint8_t chips0, uint8_t chips1, uint8_t *registers, size_t registers_length,
+                                   uint8_t *ram, size_t ram_length, const uint8_t *bytes, size_t bytes_length, uint8_t bits,
+                                   size_t *answer, size_t answer_length);
+uint8_t humtrellis_packed_picture(uint8_t part, uint8_t chips0, uint8_t chips1, const uint8_t *registers, size_t registers_length,
+                                  const uint8_t *ram, size_t ram_length, uint8_t group, uint8_t phase,
+                                  uint8_t *out, size_t out_length, size_t *answer, size_t answer_length);
 
 /* One transfer to a list of 0 to 8 plain chips (PCA85133: 0 to 16), each of which follows every byte by itself; gaps, repeated subaddresses and unequal marks are allowed.
  * Answer: number, place, acknowledged (a byte counts once), 0, 0, acknowledged by (the smallest subaddress that did).

@@ -96,7 +96,7 @@ static void answers(void) {
     EXPECT(power_on() == HUMTRELLIS_TAKEN);
     EXPECT(send(past_the_end, sizeof past_the_end) == HUMTRELLIS_TAKEN);
     EXPECT(answer[HUMTRELLIS_ACKNOWLEDGED] == 8 && answer[HUMTRELLIS_STORED] == 3 && answer[HUMTRELLIS_DISCARDED] == 5);
-    EXPECT(answer[HUMTRELLIS_ACKNOWLEDGED_BY] == HUMTRELLIS_NONE && HUMTRELLIS_NONE == 4 && HUMTRELLIS_VERSION == 6);
+    EXPECT(answer[HUMTRELLIS_ACKNOWLEDGED_BY] == HUMTRELLIS_NONE && HUMTRELLIS_NONE == 4 && HUMTRELLIS_VERSION == 7);
     EXPECT(ram[HUMTRELLIS_COLUMNS - 1] == 7 && ram[HUMTRELLIS_COLUMNS] == 0);
     EXPECT(send(group1, sizeof group1) == HUMTRELLIS_TAKEN && answer[HUMTRELLIS_ACKNOWLEDGED_BY] == 0);
     EXPECT(ram[HUMTRELLIS_COLUMNS] == 5 && ram[HUMTRELLIS_COLUMNS + 1] == 10);
@@ -338,6 +338,21 @@ static void rescues(void) {
     EXPECT(memcmp(text, torn, 6) == 0 && text[6] == 9 && text[8] == 9);
 }
 
+/* Two columns a byte, the even one in the low four bits: group 0's byte 0 and group 1's, which begins half way. Half the RAM, every byte of it. */
+static void packed(void) {
+    const uint8_t to_zero[] = {0x70, 0x80, 0xC8, 0x40, 0xA5}, to_one[] = {0x72, 0x80, 0xC8, 0x80, 0x41, 0x40, 0x80};
+    uint8_t half[HUMTRELLIS_COLUMNS];
+    memset(half, 0xFF, sizeof half);
+    EXPECT(humtrellis_packed_power_on(HUMTRELLIS_PCF8532, 1, 1, half, sizeof half, registers, sizeof registers, answer, HUMTRELLIS_ANSWER) == HUMTRELLIS_TAKEN);
+    EXPECT(humtrellis_packed_transfer(HUMTRELLIS_PCF8532, 1, 1, registers, sizeof registers, half, sizeof half, to_zero, sizeof to_zero, HUMTRELLIS_WHOLE, answer, HUMTRELLIS_ANSWER) == HUMTRELLIS_TAKEN);
+    EXPECT(answer[HUMTRELLIS_ACKNOWLEDGED] == 5 && answer[HUMTRELLIS_STORED] == 8 && answer[HUMTRELLIS_ACKNOWLEDGED_BY] == 0 && half[0] == 0xA5 && half[1] == 0xFF);
+    EXPECT(humtrellis_packed_transfer(HUMTRELLIS_PCF8532, 1, 1, registers, sizeof registers, half, sizeof half, to_one, sizeof to_one, HUMTRELLIS_WHOLE, answer, HUMTRELLIS_ANSWER) == HUMTRELLIS_TAKEN);
+    EXPECT(half[79] == 0xFF && half[80] == 0x1F && half[81] == 0xF0 && half[82] == 0xFF);
+    EXPECT(humtrellis_packed_picture(HUMTRELLIS_PCF8532, 1, 1, registers, sizeof registers, half, sizeof half, 1, 0, picture, sizeof picture, answer, HUMTRELLIS_ANSWER) == HUMTRELLIS_TAKEN);
+    EXPECT(answer[HUMTRELLIS_LIT] == 4 * 158 + 1 && picture[0] == 15 && picture[1] == 1 && picture[2] == 0 && picture[3] == 15);
+    EXPECT(humtrellis_packed_power_on(HUMTRELLIS_PCF8532, 1, 0, half, sizeof half, registers, sizeof registers, answer, HUMTRELLIS_ANSWER) == HUMTRELLIS_REFUSED_RAM_LENGTH);
+}
+
 int main(void) {
     registers_by_name();
     ranges();
@@ -353,6 +368,7 @@ int main(void) {
     cut_chips();
     wanted_rows();
     every_element();
+    packed();
     unknown_part();
     logs();
     rescues();

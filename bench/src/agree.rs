@@ -1,8 +1,9 @@
 //! Before anything is timed: all ways must give the same answers, registers, columns, pictures and transfers for wanted rows.
 
 use crate::library::Numbers;
-use crate::samples::{self, Bus, Setup, Writing};
-use crate::ways::{Picture, Transfer, Writer, PICTURES, TRANSFERS, WRITERS};
+use crate::samples::{self, Bus, Setup, Writing, STARTS};
+use crate::ways::{Picture, Transfer, Writer};
+use crate::ways::{PACKED_PICTURES, PACKED_TRANSFERS, PICTURES, TRANSFERS, WRITERS};
 use humtrellis_tests::generate::{self, shape};
 use humtrellis_tests::model::{REGISTERS, SET, WHOLE};
 use humtrellis_tests::random::Random;
@@ -63,11 +64,20 @@ fn taken(what: &str, (answer, bus, _): Outcome) -> Result<Bus, String> {
 fn timed_transfers(setup: Setup) -> Result<(), String> {
     let what = format!("transfer, {}", setup.name());
     let mut bus = setup.bus(&mut Random::new(0));
-    for bytes in setup.transfers() {
+    for bytes in setup.transfers(0) {
         let outcome = agreed(&what, &TRANSFERS, |way| {
             transferred(way, &bus, &bytes, WHOLE)
         })?;
         bus = taken(&what, outcome)?;
+    }
+    for start in STARTS {
+        let mut bus = bus.packed();
+        for bytes in setup.transfers(start) {
+            let outcome = agreed(&format!("packed {what}"), &PACKED_TRANSFERS, |way| {
+                transferred(way, &bus, &bytes, WHOLE)
+            })?;
+            bus = taken(&what, outcome)?;
+        }
     }
     Ok(())
 }
@@ -78,6 +88,11 @@ fn timed_pictures(setup: Setup) -> Result<(), String> {
         for group in 0..2 {
             let outcome = agreed(&what, &PICTURES, |way| {
                 pictured(way, &bus, [group as u8, 0], bus.columns(group))
+            })?;
+            taken(&what, outcome)?;
+            let packed = bus.packed();
+            let outcome = agreed(&format!("packed {what}"), &PACKED_PICTURES, |way| {
+                pictured(way, &packed, [group as u8, 0], bus.columns(group))
             })?;
             taken(&what, outcome)?;
         }
@@ -128,6 +143,10 @@ fn generated(seed: u64) -> Result<(), String> {
         };
         let bits = generate::bits(random);
         let what = format!("generated transfer {seed}");
+        let packed = bus.packed();
+        agreed(&format!("{what}, packed"), &PACKED_TRANSFERS, |way| {
+            transferred(way, &packed, &bytes, bits)
+        })?;
         let outcome = agreed(&what, &TRANSFERS, |way| {
             transferred(way, &bus, &bytes, bits)
         })?;
@@ -141,6 +160,10 @@ fn generated(seed: u64) -> Result<(), String> {
     };
     let what = format!("generated picture {seed}");
     agreed(&what, &PICTURES, |way| pictured(way, &bus, view, length))?;
+    let packed = bus.packed();
+    agreed(&format!("{what}, packed"), &PACKED_PICTURES, |way| {
+        pictured(way, &packed, view, length)
+    })?;
     generated_rows(seed, random, bus)
 }
 

@@ -22,6 +22,18 @@ extern "C" {
         out: *mut u8, out_length: usize, answer: *mut usize, answer_length: usize,
     ) -> u8;
 
+    fn humtrellis_packed_transfer(
+        part: u8, chips0: u8, chips1: u8, registers: *mut u8, registers_length: usize,
+        ram: *mut u8, ram_length: usize, bytes: *const u8, bytes_length: usize, bits: u8,
+        answer: *mut usize, answer_length: usize,
+    ) -> u8;
+
+    fn humtrellis_packed_picture(
+        part: u8, chips0: u8, chips1: u8, registers: *const u8, registers_length: usize,
+        ram: *const u8, ram_length: usize, group: u8, phase: u8,
+        out: *mut u8, out_length: usize, answer: *mut usize, answer_length: usize,
+    ) -> u8;
+
     fn humtrellis_write_rows(
         part: u8, chips0: u8, chips1: u8, registers: *const u8, registers_length: usize,
         group: u8, mode: u8, bank: u8, wanted: *const u8, wanted_length: usize,
@@ -31,57 +43,65 @@ extern "C" {
     fn humtrellis_replay(log: *const u8, log_length: usize, out: *mut u8, out_length: usize) -> usize;
 }
 
-pub fn transfer(
-    part: u8,
-    [chips0, chips1]: [u8; 2],
-    registers: &mut RegisterBytes,
-    ram: &mut [u8],
-    bytes: &[u8],
-    bits: u8,
-) -> Numbers {
-    let mut answer = [0; ANSWER];
-    // Safety: each pointer goes with the length of the buffer that it points to.
-    unsafe {
-        humtrellis_transfer(
-            part,
-            chips0,
-            chips1,
-            registers.as_mut_ptr(),
-            registers.len(),
-            ram.as_mut_ptr(),
-            ram.len(),
-            bytes.as_ptr(),
-            bytes.len(),
-            bits,
-            answer.as_mut_ptr(),
-            answer.len(),
-        )
+/// A transfer and a picture in the form that the calls take the RAM in.
+macro_rules! forms {
+    ($transfer:ident by $called:ident, $picture:ident by $shown:ident) => {
+        pub fn $transfer(
+            part: u8,
+            [chips0, chips1]: [u8; 2],
+            registers: &mut RegisterBytes,
+            ram: &mut [u8],
+            bytes: &[u8],
+            bits: u8,
+        ) -> Numbers {
+            let mut answer = [0; ANSWER];
+            // Safety: each pointer goes with the length of the buffer that it points to.
+            unsafe {
+                $called(
+                    part,
+                    chips0,
+                    chips1,
+                    registers.as_mut_ptr(),
+                    registers.len(),
+                    ram.as_mut_ptr(),
+                    ram.len(),
+                    bytes.as_ptr(),
+                    bytes.len(),
+                    bits,
+                    answer.as_mut_ptr(),
+                    answer.len(),
+                )
+            };
+            answer
+        }
+
+        pub fn $picture(view: View, out: &mut [u8]) -> Numbers {
+            let mut answer = [0; ANSWER];
+            // Safety: each pointer goes with the length of the buffer that it points to.
+            unsafe {
+                $shown(
+                    view.part,
+                    view.chips0,
+                    view.chips1,
+                    view.registers.as_ptr(),
+                    view.registers.len(),
+                    view.ram.as_ptr(),
+                    view.ram.len(),
+                    view.group,
+                    view.phase,
+                    out.as_mut_ptr(),
+                    out.len(),
+                    answer.as_mut_ptr(),
+                    answer.len(),
+                )
+            };
+            answer
+        }
     };
-    answer
 }
 
-pub fn picture(view: View, out: &mut [u8]) -> Numbers {
-    let mut answer = [0; ANSWER];
-    // Safety: each pointer goes with the length of the buffer that it points to.
-    unsafe {
-        humtrellis_picture(
-            view.part,
-            view.chips0,
-            view.chips1,
-            view.registers.as_ptr(),
-            view.registers.len(),
-            view.ram.as_ptr(),
-            view.ram.len(),
-            view.group,
-            view.phase,
-            out.as_mut_ptr(),
-            out.len(),
-            answer.as_mut_ptr(),
-            answer.len(),
-        )
-    };
-    answer
-}
+forms!(transfer by humtrellis_transfer, picture by humtrellis_picture);
+forms!(packed_transfer by humtrellis_packed_transfer, packed_picture by humtrellis_packed_picture);
 
 pub fn write_rows(asked: Asked, out: &mut [u8]) -> Numbers {
     let mut answer = [0; ANSWER];

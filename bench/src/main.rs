@@ -20,8 +20,21 @@ fn run() -> Result<(), String> {
     report::pictures(&pictures);
     let writings = measure::all(&samples::filled(), measure::writings);
     report::writings(&writings);
+    let even = measure::all(&samples::filled(), |setup| {
+        measure::packed_transfers(setup, 0)
+    });
+    report::packed("a transfer from column 0 on, a data byte", &even);
+    let odd = measure::all(&samples::filled(), |setup| {
+        measure::packed_transfers(setup, 1)
+    });
+    report::packed("a transfer from column 1 on, a data byte", &odd);
+    let shown = measure::all(&samples::shown(), measure::packed_pictures);
+    report::packed("a picture, a column", &shown);
     replay::run()?;
     report::targets(&transfers, &pictures, &writings);
+    report::packed_targets("from column 0", &even);
+    report::packed_targets("from column 1", &odd);
+    report::packed_targets("picture", &shown);
     Ok(())
 }
 

@@ -2,7 +2,8 @@
 
 use crate::samples::{Bus, Setup, Writing, TURNS};
 use crate::timing::{figures, Call, Figure};
-use crate::ways::{Picture, Transfer, Writer, PICTURES, TRANSFERS, WRITERS};
+use crate::ways::{Picture, Transfer, Writer};
+use crate::ways::{PACKED_PICTURES, PACKED_TRANSFERS, PICTURES, TRANSFERS, WRITERS};
 use humtrellis_tests::model::WHOLE;
 use humtrellis_tests::random::Random;
 use std::hint::black_box;
@@ -12,7 +13,7 @@ pub type Row<const WAYS: usize> = (Setup, [Figure; WAYS]);
 
 pub fn all<const WAYS: usize>(
     setups: &[Setup],
-    measure: fn(Setup) -> [Figure; WAYS],
+    measure: impl Fn(Setup) -> [Figure; WAYS],
 ) -> Vec<Row<WAYS>> {
     let row = |setup: &Setup| (*setup, measure(*setup));
     setups.iter().map(row).collect()
@@ -27,9 +28,22 @@ fn transfer_call<'a>(transfer: Transfer, mut bus: Bus, transfers: &'a [Vec<u8>])
 
 /// Nanoseconds a data byte.
 pub fn transfers(setup: Setup) -> [Figure; 3] {
-    let transfers = setup.transfers();
+    let transfers = setup.transfers(0);
     let bus = || setup.bus(&mut Random::new(0));
     let calls = TRANSFERS.map(|(_, way)| transfer_call(way, bus(), &transfers));
+    figures(calls).map(|figure| figure.per(setup.data_bytes()))
+}
+
+/// Packed, the one-byte form and the packed loop: nanoseconds a data byte.
+pub fn packed_transfers(setup: Setup, start: u8) -> [Figure; 3] {
+    let transfers = setup.transfers(start);
+    let bus = setup.bus(&mut Random::new(0));
+    let [(_, library), _, (_, by_hand)] = PACKED_TRANSFERS;
+    let calls = [
+        transfer_call(library, bus.packed(), &transfers),
+        transfer_call(TRANSFERS[0].1, bus.clone(), &transfers),
+        transfer_call(by_hand, bus.packed(), &transfers),
+    ];
     figures(calls).map(|figure| figure.per(setup.data_bytes()))
 }
 
@@ -49,6 +63,19 @@ fn picture_call<'a>(picture: Picture, buses: &'a [Bus]) -> Call<'a> {
 pub fn pictures(setup: Setup) -> [Figure; 4] {
     let buses = setup.shown_buses();
     let calls = PICTURES.map(|(_, way)| picture_call(way, &buses));
+    figures(calls).map(|figure| figure.per(setup.columns()))
+}
+
+/// Packed, the one-byte form and the packed loop: nanoseconds a column.
+pub fn packed_pictures(setup: Setup) -> [Figure; 3] {
+    let buses = setup.shown_buses();
+    let packed: Vec<Bus> = buses.iter().map(Bus::packed).collect();
+    let [(_, library), _, (_, by_hand)] = PACKED_PICTURES;
+    let calls = [
+        picture_call(library, &packed),
+        picture_call(PICTURES[0].1, &buses),
+        picture_call(by_hand, &packed),
+    ];
     figures(calls).map(|figure| figure.per(setup.columns()))
 }
 

@@ -106,9 +106,44 @@ pub fn replay(length: usize, figures: [Figure; 2]) {
     println!();
 }
 
+/// The figures of the packed form, the one-byte form and the packed loop; `what` says of which.
+pub fn packed(what: &str, rows: &[Row<3>]) {
+    println!(
+        "Packed, {what}: ns, median of {SAMPLES} samples, and the library's lowest and highest"
+    );
+    println!("part     | mode   | columns |  packed | one-byte |    loop | packed/one-byte | packed/loop |         packed");
+    for (setup, [a, b, c]) in rows {
+        println!(
+            "{} | {:7} | {:7.3} | {:8.3} | {:7.3} | {:15.2} | {:11.2} | {}",
+            row_name(setup),
+            setup.columns(),
+            a.median,
+            b.median,
+            c.median,
+            ratio(*a, *b),
+            ratio(*a, *c),
+            spread(a)
+        );
+    }
+    println!();
+}
+
 fn print_target(target: &str, value: f64, limit: f64) {
     let verdict = if value <= limit { "met" } else { "missed" };
     println!("{verdict:6} | {value:6.2} | {limit:5} | {target}");
+}
+
+/// Those of the packed form, against the packed loop and the one-byte form.
+pub fn packed_targets(what: &str, rows: &[Row<3>]) {
+    for (setup, [a, b, c]) in rows {
+        let name = format!(
+            "packed {what}, {} columns, {}",
+            setup.columns(),
+            setup.name()
+        );
+        print_target(&format!("{name}: library/loop"), ratio(*a, *c), 2.0);
+        print_target(&format!("{name}: packed/one-byte"), ratio(*a, *b), 1.5);
+    }
 }
 
 pub fn targets(transfers: &[Row<3>], pictures: &[Row<4>], writings: &[Row<3>]) {

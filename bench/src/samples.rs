@@ -9,6 +9,9 @@ use humtrellis_tests::random::Random;
 /// Inputs of one kind that take turns, so that no call repeats the one before.
 pub const TURNS: usize = 8;
 
+/// The columns that packed transfers are timed from: an even and an odd one.
+pub const STARTS: [u8; 2] = [0, 1];
+
 #[derive(Clone, Copy)]
 pub struct Mode {
     pub name: &'static str,
@@ -59,6 +62,15 @@ impl Bus {
             chips,
             registers: [0; REGISTERS],
             ram: any_columns(random, columns),
+        }
+    }
+
+    /// The same with its columns packed, two a byte.
+    pub fn packed(&self) -> Self {
+        let pairs = self.ram.as_chunks::<2>().0.iter();
+        Bus {
+            ram: pairs.map(|[even, odd]| even & 15 | odd << 4).collect(),
+            ..self.clone()
         }
     }
 
@@ -163,11 +175,12 @@ impl Setup {
         Bus::new(random, self.part.number(), self.chips)
     }
 
-    pub fn transfers(self) -> Vec<Vec<u8>> {
+    /// From column 0 or 1 on, to the last one.
+    pub fn transfers(self, start: u8) -> Vec<Vec<u8>> {
         let mut random = Random::new(self.mode.bits as u64);
         let mut data = || random.bytes(self.data_bytes());
         (0..TURNS)
-            .map(|_| transfer(self.part, self.mode, &data()))
+            .map(|_| transfer(self.part, self.mode, start, &data()))
             .collect()
     }
 
@@ -208,15 +221,15 @@ impl Setup {
     }
 }
 
-/// Sets mode, device and pointer (each with its control byte), then a data run from column 0 on.
-fn transfer(part: Part, mode: Mode, data: &[u8]) -> Vec<u8> {
-    let commands = [&[0xC8 | mode.bits], &part.position_commands(0, 0)[..]].concat();
+/// Sets mode, device and pointer (each with its control byte), then a data run from a column of chip 0 on.
+fn transfer(part: Part, mode: Mode, start: u8, data: &[u8]) -> Vec<u8> {
+    let commands = [&[0xC8 | mode.bits], &part.position_commands(0, start)[..]].concat();
     commands_then_data(0x70, &commands, data)
 }
 
 /// Bytes of such a transfer that are not data.
 pub fn around_data(part: Part) -> usize {
-    transfer(part, MODES[0], &[]).len()
+    transfer(part, MODES[0], 0, &[]).len()
 }
 
 /// The same of a transfer for wanted rows, which has a bank-select too.
@@ -244,7 +257,7 @@ fn log(random: &mut Random) -> Vec<u8> {
             0..=400 => left - around,
             _ => random.between(1, 320),
         };
-        records.push(transfer(LOG_PART, mode, &random.bytes(length)));
+        records.push(transfer(LOG_PART, mode, 0, &random.bytes(length)));
         left -= around + length;
     }
     log_of(4, 0, &records)

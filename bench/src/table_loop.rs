@@ -3,10 +3,13 @@
 //! A branch on the part leads to a path of its own, compiled with its literals. A run then goes a byte at a time over a
 //! table of 256 entries a mode: bytes whose columns are all there without a test for the end, the one cut byte apart,
 //! the counts in closed form.
+//! Packed columns, two a byte, go by the same tables four bits a column; from an odd column on each word takes a column over from the one before.
 //! Wanted rows become data bytes the other way round: whole words of columns by shifts or a product, in 1:3 by a table a column.
 
 mod checks;
 mod commands;
+mod held;
+mod packed;
 mod part;
 mod picture;
 mod run;
@@ -14,11 +17,13 @@ mod tables;
 mod transfer;
 mod writer;
 
-pub use picture::{picture_by_columns, picture_by_words};
-pub use transfer::transfer;
+pub use picture::{packed_picture, picture_by_columns, picture_by_words};
+pub use transfer::{packed_transfer, transfer};
 pub use writer::write_rows;
 
+use held::Held;
 use part::Part;
+use std::ops::Range;
 
 /// Numbers of an answer.
 const ANSWER: usize = 6;
@@ -49,11 +54,12 @@ fn refused((number, place): Refusal, last: usize) -> [usize; ANSWER] {
     [number, place, 0, 0, 0, last]
 }
 
-/// Where the columns of a group begin and end in the long RAM.
-fn group_range<Chosen: Part>(chips: [u8; 2], group: usize) -> std::ops::Range<usize> {
-    let middle = Chosen::COLUMNS * chips[0] as usize;
+/// Where the bytes of a group begin and end in the long RAM.
+fn group_range<Chosen: Part, Form: Held>(chips: [u8; 2], group: usize) -> Range<usize> {
+    let bytes = |chips: u8| Chosen::COLUMNS / Form::COLUMNS_A_BYTE * chips as usize;
+    let middle = bytes(chips[0]);
     match group {
         0 => 0..middle,
-        _ => middle..middle + Chosen::COLUMNS * chips[1] as usize,
+        _ => middle..middle + bytes(chips[1]),
     }
 }

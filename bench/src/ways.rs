@@ -36,12 +36,52 @@ pub const PICTURES: [(&str, Picture); 4] = [
     ("words", table_loop::picture_by_words),
 ];
 
+/// The packed form (paper 02, request 6): the library's calls, its one-byte calls under unpacking, and (c).
+pub const PACKED_TRANSFERS: [(&str, Transfer); 3] = [
+    ("library", library::packed_transfer),
+    ("unpacked", unpacked_transfer),
+    ("loop", table_loop::packed_transfer),
+];
+
+pub const PACKED_PICTURES: [(&str, Picture); 3] = [
+    ("library", library::packed_picture),
+    ("unpacked", unpacked_picture),
+    ("loop", table_loop::packed_picture),
+];
+
 /// The same of the transfer for wanted rows.
 pub const WRITERS: [(&str, Writer); 3] = [
     ("library", library::write_rows),
     ("model", model_writer),
     ("loop", table_loop::write_rows),
 ];
+
+fn unpacked(ram: &[u8]) -> Vec<u8> {
+    let columns = |pair: &u8| [pair & 15, pair >> 4];
+    ram.iter().flat_map(columns).collect()
+}
+
+fn unpacked_transfer(
+    part: u8,
+    chips: [u8; 2],
+    registers: &mut RegisterBytes,
+    ram: &mut [u8],
+    bytes: &[u8],
+    bits: u8,
+) -> Numbers {
+    let mut columns = unpacked(ram);
+    let answer = library::transfer(part, chips, registers, &mut columns, bytes, bits);
+    let pairs = columns.as_chunks::<2>().0.iter();
+    for (pair, [even, odd]) in ram.iter_mut().zip(pairs) {
+        *pair = even | odd << 4;
+    }
+    answer
+}
+
+fn unpacked_picture(view: View, out: &mut [u8]) -> Numbers {
+    let ram = &unpacked(view.ram);
+    library::picture(View { ram, ..view }, out)
+}
 
 fn model_transfer(
     part: u8,

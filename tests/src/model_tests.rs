@@ -6,6 +6,8 @@ mod control;
 mod cut;
 #[path = "last_chip_tests.rs"]
 mod last_chip;
+#[path = "packed_tests.rs"]
+mod packed;
 #[path = "part_tests.rs"]
 mod part;
 #[path = "rescue_tests.rs"]

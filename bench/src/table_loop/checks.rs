@@ -1,5 +1,6 @@
 //! The checks that the calls share, in the order 3, 6, 4, 5.
 
+use super::held::Held;
 use super::part::Part;
 use super::{Refusal, SET};
 
@@ -12,13 +13,13 @@ const fn limits<Chosen: Part>() -> [u8; 2 * SET] {
 }
 
 /// The whole state of a bus.
-pub fn check_state<Chosen: Part>(
+pub fn check_state<Chosen: Part, Form: Held>(
     chips: [u8; 2],
     registers: &[u8; 2 * SET],
     ram: &[u8],
 ) -> Result<(), Refusal> {
     check_bus::<Chosen>(chips, registers)?;
-    check_columns::<Chosen>(chips[0] as usize + chips[1] as usize, ram)
+    Form::check::<Chosen>(chips[0] as usize + chips[1] as usize, ram)
 }
 
 /// 3 and 6: the chips and the registers.

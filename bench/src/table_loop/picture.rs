@@ -1,5 +1,7 @@
 //! The picture of a group, in two ways: a count a column, and eight columns as one word.
 
+use super::held::{Bytes, Held};
+use super::packed::{self, Packed};
 use super::part::{Part, Pca85133, Pcf8532};
 use super::{checks, group_range, refused, Refusal, AB, ANSWER, BF, E, M, O, SET, UNKNOWN_PART};
 use humtrellis_tests::model::View;
@@ -16,39 +18,44 @@ const ROWS: [u64; 4] = [
 type Show = fn(&[u8], u8, u64, &mut [u8]) -> usize;
 
 #[inline(always)]
-fn picture(view: View, out: &mut [u8], show: Show) -> [usize; ANSWER] {
+fn picture<Form: Held>(view: View, out: &mut [u8], show: Show) -> [usize; ANSWER] {
     match view.part {
-        0 => picture_of::<Pcf8532>(view, out, show),
-        1 => picture_of::<Pca85133>(view, out, show),
+        0 => picture_of::<Pcf8532, Form>(view, out, show),
+        1 => picture_of::<Pca85133, Form>(view, out, show),
         _ => refused(UNKNOWN_PART, 0),
     }
 }
 
 #[inline(always)]
-fn picture_of<Chosen: Part>(view: View, out: &mut [u8], show: Show) -> [usize; ANSWER] {
-    if let Err(refusal) = check::<Chosen>(view, out.len()) {
+fn picture_of<Chosen: Part, Form: Held>(view: View, out: &mut [u8], show: Show) -> [usize; ANSWER] {
+    if let Err(refusal) = check::<Chosen, Form>(view, out.len()) {
         return refused(refusal, 0);
     }
     let group = view.group as usize;
-    let columns = &view.ram[group_range::<Chosen>([view.chips0, view.chips1], group)];
+    let own = &view.ram[group_range::<Chosen, Form>([view.chips0, view.chips1], group)];
     let set = &view.registers.as_chunks::<SET>().0[group];
     let (shift, rows) = shown(set, view.phase);
-    [0, 0, show(columns, shift, rows, out), 0, 0, 0]
+    [0, 0, show(own, shift, rows, out), 0, 0, 0]
 }
 
 #[inline(never)]
 pub fn picture_by_columns(view: View, out: &mut [u8]) -> [usize; ANSWER] {
-    picture(view, out, show_columns)
+    picture::<Bytes>(view, out, show_columns)
 }
 
 #[inline(never)]
 pub fn picture_by_words(view: View, out: &mut [u8]) -> [usize; ANSWER] {
-    picture(view, out, show_words)
+    picture::<Bytes>(view, out, show_words)
 }
 
-fn check<Chosen: Part>(view: View, length: usize) -> Result<(), Refusal> {
+#[inline(never)]
+pub fn packed_picture(view: View, out: &mut [u8]) -> [usize; ANSWER] {
+    picture::<Packed>(view, out, packed::show)
+}
+
+fn check<Chosen: Part, Form: Held>(view: View, length: usize) -> Result<(), Refusal> {
     let chips = [view.chips0, view.chips1];
-    checks::check_state::<Chosen>(chips, view.registers, view.ram)?;
+    checks::check_state::<Chosen, Form>(chips, view.registers, view.ram)?;
     if view.group > 1 || view.phase > 1 {
         return Err((8, 0));
     }

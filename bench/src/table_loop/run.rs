@@ -1,29 +1,31 @@
 //! A run of data bytes into a group's columns.
 
+use super::held::Held;
 use super::part::Part;
 use super::tables::{Table, FOUR, STATIC, THREE, TWO};
 use super::{A, I, M, P, SET};
 
 /// Stores a run of some bytes, moves the position, and adds to the counts acknowledged, stored and discarded.
 /// The chip that has the last byte's last column, if it is there.
-pub fn store<Chosen: Part>(
+pub fn store<Chosen: Part, Form: Held>(
     set: &mut [u8; SET],
-    columns: &mut [u8],
+    ram: &mut [u8],
     data: &[u8],
     counts: &mut [usize; 3],
 ) -> usize {
+    let columns = Form::COLUMNS_A_BYTE * ram.len();
     let (backplanes, width) = [(4, 2), (1, 8), (2, 4), (3, 3)][set[M] as usize & 3];
     let position = Chosen::COLUMNS * set[A] as usize + set[P] as usize;
-    let start = position.min(columns.len());
-    let left = &mut columns[start..];
-    let whole = data.len().min(left.len() / width);
+    let start = position.min(columns);
+    let left = columns - start;
+    let whole = data.len().min(left / width);
     let (fitting, rest) = data.split_at(whole);
-    let (filled, cut) = left.split_at_mut(whole * width);
-    fill(set, filled, fitting);
+    let filled = whole * width;
+    Form::fill(set, ram, start, fitting);
     let mut stored = 8 * whole;
     if let Some(byte) = rest.first() {
-        fill_cut(set, cut, *byte);
-        stored += backplanes * cut.len();
+        Form::fill_cut(set, ram, start + filled, *byte);
+        stored += backplanes * (left - filled);
     }
     counts[0] += whole;
     counts[1] += stored;
@@ -31,7 +33,7 @@ pub fn store<Chosen: Part>(
     let after = position + width * data.len();
     set[P] = (after % Chosen::COLUMNS) as u8;
     set[A] = (after / Chosen::COLUMNS).min(Chosen::MOST) as u8;
-    if after <= columns.len() {
+    if after <= columns {
         (after - 1) / Chosen::COLUMNS
     } else {
         Chosen::MOST
@@ -40,7 +42,7 @@ pub fn store<Chosen: Part>(
 
 /// Bytes whose columns are all there; in line, so that it costs no call in either part's path.
 #[inline(always)]
-fn fill(set: &[u8; SET], columns: &mut [u8], data: &[u8]) {
+pub fn fill(set: &[u8; SET], columns: &mut [u8], data: &[u8]) {
     let shift = 2 * set[I];
     match set[M] {
         1 => fill_static(columns, data, shift),
@@ -87,7 +89,7 @@ fn fill_four(columns: &mut [u8], data: &[u8]) {
 
 /// The columns that are left for a byte that does not fit; in line too.
 #[inline(always)]
-fn fill_cut(set: &[u8; SET], columns: &mut [u8], byte: u8) {
+pub fn fill_cut(set: &[u8; SET], columns: &mut [u8], byte: u8) {
     let shift = 2 * set[I];
     match set[M] {
         1 => fill_entry(columns, &STATIC, byte, shift),

@@ -41,3 +41,46 @@ const fn bits_of_three() -> [[u8; 256]; 3] {
     }
     bits
 }
+
+/// The same columns packed, four bits each, the first lowest.
+pub static PACKED_STATIC: [u32; 256] = packed(1);
+pub static PACKED_TWO: [u16; 256] = packed_pairs(2);
+pub static PACKED_THREE: [u16; 256] = packed_pairs(3);
+pub static PACKED_FOUR: [u8; 256] = packed_bytes();
+
+const fn packed(backplanes: usize) -> [u32; 256] {
+    let mut table = [0; 256];
+    let mut byte = 0;
+    while byte < 256 {
+        let mut k = 0;
+        while k < 8 {
+            let bit = (byte >> (7 - k) & 1) as u32;
+            table[byte] |= bit << (4 * (k / backplanes) + k % backplanes);
+            k += 1;
+        }
+        byte += 1;
+    }
+    table
+}
+
+const fn packed_pairs(backplanes: usize) -> [u16; 256] {
+    let wide = packed(backplanes);
+    let mut table = [0; 256];
+    let mut byte = 0;
+    while byte < 256 {
+        table[byte] = wide[byte] as u16;
+        byte += 1;
+    }
+    table
+}
+
+const fn packed_bytes() -> [u8; 256] {
+    let wide = packed(4);
+    let mut table = [0; 256];
+    let mut byte = 0;
+    while byte < 256 {
+        table[byte] = wide[byte] as u8;
+        byte += 1;
+    }
+    table
+}

@@ -1,5 +1,7 @@
 //! A transfer: the checks, then its bytes.
 
+use super::held::{Bytes, Held};
+use super::packed::Packed;
 use super::part::{Part, Pca85133, Pcf8532};
 use super::{checks, commands, group_range, refused, run};
 use super::{Refusal, ANSWER, DEVICE, HIGH, SET, UNKNOWN_PART};
@@ -13,29 +15,53 @@ pub fn transfer(
     bytes: &[u8],
     bits: u8,
 ) -> [usize; ANSWER] {
-    match part {
-        0 => transfer_to::<Pcf8532>(chips, registers, ram, bytes, bits),
-        1 => transfer_to::<Pca85133>(chips, registers, ram, bytes, bits),
-        // Paper 02, request 5: the number for none is then the PCF8532's.
-        _ => refused(UNKNOWN_PART, Pcf8532::MOST),
-    }
+    transfer_in::<Bytes>(part, chips, registers, ram, bytes, bits)
 }
 
-fn transfer_to<Chosen: Part>(
+#[inline(never)]
+pub fn packed_transfer(
+    part: u8,
     chips: [u8; 2],
     registers: &mut [u8; 2 * SET],
     ram: &mut [u8],
     bytes: &[u8],
     bits: u8,
 ) -> [usize; ANSWER] {
-    let group = match hearing_group::<Chosen>(chips, registers, ram, bytes, bits) {
+    transfer_in::<Packed>(part, chips, registers, ram, bytes, bits)
+}
+
+#[inline(always)]
+fn transfer_in<Form: Held>(
+    part: u8,
+    chips: [u8; 2],
+    registers: &mut [u8; 2 * SET],
+    ram: &mut [u8],
+    bytes: &[u8],
+    bits: u8,
+) -> [usize; ANSWER] {
+    match part {
+        0 => transfer_to::<Pcf8532, Form>(chips, registers, ram, bytes, bits),
+        1 => transfer_to::<Pca85133, Form>(chips, registers, ram, bytes, bits),
+        // Paper 02, request 5: the number for none is then the PCF8532's.
+        _ => refused(UNKNOWN_PART, Pcf8532::MOST),
+    }
+}
+
+fn transfer_to<Chosen: Part, Form: Held>(
+    chips: [u8; 2],
+    registers: &mut [u8; 2 * SET],
+    ram: &mut [u8],
+    bytes: &[u8],
+    bits: u8,
+) -> [usize; ANSWER] {
+    let group = match hearing_group::<Chosen, Form>(chips, registers, ram, bytes, bits) {
         Err(refusal) => return refused(refusal, Chosen::MOST),
         Ok(None) => return [0, 0, 0, 0, 0, Chosen::MOST],
         Ok(Some(group)) => group,
     };
-    let columns = &mut ram[group_range::<Chosen>(chips, group)];
+    let own = &mut ram[group_range::<Chosen, Form>(chips, group)];
     let set = &mut registers.as_chunks_mut::<SET>().0[group];
-    let counted = carry_out::<Chosen>(set, columns, bytes, whole_bytes(bytes, bits));
+    let counted = carry_out::<Chosen, Form>(set, own, bytes, whole_bytes(bytes, bits));
     let ([acknowledged, stored, discarded], last) = counted;
     [0, 0, acknowledged, stored, discarded, last]
 }
@@ -46,14 +72,14 @@ fn whole_bytes(bytes: &[u8], bits: u8) -> usize {
 }
 
 /// The group that hears a transfer, if one does, after all checks.
-fn hearing_group<Chosen: Part>(
+fn hearing_group<Chosen: Part, Form: Held>(
     chips: [u8; 2],
     registers: &[u8; 2 * SET],
     ram: &[u8],
     bytes: &[u8],
     bits: u8,
 ) -> Result<Option<usize>, Refusal> {
-    checks::check_state::<Chosen>(chips, registers, ram)?;
+    checks::check_state::<Chosen, Form>(chips, registers, ram)?;
     let Some(address) = bytes.first() else {
         return Err((1, 0));
     };
@@ -75,9 +101,9 @@ fn hearing_group<Chosen: Part>(
 }
 
 /// Goes from control byte to control byte; every whole byte but a data byte is acknowledged. The counts, and the chip of the last data byte.
-fn carry_out<Chosen: Part>(
+fn carry_out<Chosen: Part, Form: Held>(
     set: &mut [u8; SET],
-    columns: &mut [u8],
+    ram: &mut [u8],
     bytes: &[u8],
     whole: usize,
 ) -> ([usize; 3], usize) {
@@ -98,7 +124,7 @@ fn carry_out<Chosen: Part>(
             some.iter().for_each(|byte| Chosen::obey(set, *byte));
         } else {
             if !some.is_empty() {
-                last = run::store::<Chosen>(set, columns, some, &mut counts);
+                last = run::store::<Chosen, Form>(set, ram, some, &mut counts);
             }
             open = control & 0x80 == 0 || some.is_empty();
         }

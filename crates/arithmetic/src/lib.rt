@@ -1,6 +1,6 @@
 // The small arithmetic that several rooms share: the numbers of a part, modes and banks, places, bits and rows.
 use sheet::Registers;
-ghost use mathlib.Core.Bool.{true};
+ghost use mathlib.Core.Bool.{true, cond};
 ghost use mathlib.Core.Path.{_≡_};
 ghost use Prim.Native.Nat.{_-_, _*_, _/_, _%_, _<_, min};
 ghost use lib.ListN.{length};
@@ -124,6 +124,23 @@ pub fn columns_from(v: usize, size: usize) -> usize
     ensures { λ r. ⌜ r ≡ size - v ⌝ }
 {
     if v < size { size - v } else { 0 }
+}
+
+// ---- packed columns, two a byte (paper 02, request 6)
+
+// The columns that so many bytes of RAM hold.
+pub fn columns_held(bytes: usize, packed: bool) -> usize
+    requires { ⌜ bytes < 65536 ⌝ }
+    ensures { λ r. ⌜ r ≡ cond packed (2 * bytes) bytes ⌝ }
+{
+    if packed { 2 * bytes } else { bytes }
+}
+
+// The byte of RAM that holds a column.
+pub fn byte_of(column: usize, packed: bool) -> usize
+    ensures { λ r. ⌜ r ≡ cond packed (column / 2) column ⌝ }
+{
+    if packed { column / 2 } else { column }
 }
 
 // ---- bits and rows

@@ -9,6 +9,7 @@ use Rattle.sheet.specs.Refusals.{numbers, plainNumbers, pictureNumbers, rescued
 use Rattle.sheet.specs.Parts.{partOf}
 use Rattle.sheet.specs.Protocol.{Sent}
 use Rattle.sheet.specs.Long.{powerOnPart, transferPart, picturePart}
+use Rattle.sheet.specs.Packed.{unpacked, packed}
 use Rattle.sheet.specs.Plain.{chipPowerOnPart, chipPicturePart}
 use Rattle.sheet.specs.Rescue.{rescueCall}
 use Rattle.sheet.specs.Writer.{writeRowsPart}
@@ -45,6 +46,16 @@ transferC part z o registers ram transfer answer =
     let k = numbers (partOf part) (t .result .answer) in
     sized registers ram answer (record { number = getD k 0 0; registers = bothBytes (t .result .registers); buffer = t .ram; answer = k })
 
+-- packed: the call of the unpacked RAM, and the RAM that packs what it leaves (paper 02, request 6)
+abbrev pub packedCalled : Called → Called
+packedCalled c = record { number = c .number; registers = c .registers; buffer = packed (c .buffer); answer = c .answer }
+
+unfoldable pub packedPowerOnC : ℕ → ℕ → ℕ → List ℕ → List ℕ → List ℕ → Called
+packedPowerOnC part z o ram registers answer = packedCalled (powerOnC part z o (unpacked ram) registers answer)
+
+unfoldable pub packedTransferC : ℕ → ℕ → ℕ → List ℕ → List ℕ → Sent → List ℕ → Called
+packedTransferC part z o registers ram transfer answer = packedCalled (transferC part z o registers (unpacked ram) transfer answer)
+
 -- ---- calls that lend one buffer to write: a picture, chips, a transfer or a log
 
 pub record Filled : Type 0 where
@@ -65,6 +76,9 @@ unfoldable pub pictureC : ℕ → ℕ → ℕ → List ℕ → List ℕ → ℕ 
 pictureC part z o registers ram group phase out answer =
     let s = picturePart part (chipsOf z o) (bothOf registers) ram group phase out in
     saidC (eqb (length registers) 24) (pictureNumbers (s .result)) (s .out) out answer
+
+unfoldable pub packedPictureC : ℕ → ℕ → ℕ → List ℕ → List ℕ → ℕ → ℕ → List ℕ → List ℕ → Filled
+packedPictureC part z o registers ram group phase out answer = pictureC part z o registers (unpacked ram) group phase out answer
 
 unfoldable pub chipPictureC : ℕ → List ℕ → ℕ → List ℕ → List ℕ → Filled
 chipPictureC part chip phase out answer =

@@ -4,10 +4,99 @@ use buslog::Replayed;
 use sheet::Chips;
 ghost use mathlib.Core.Path.{_≡_};
 ghost use Rattle.sheet.specs.Protocol.{sent};
+ghost use Rattle.sheet.specs.Packed.{columnsIn};
 ghost use Rattle.buslog.specs.Replays.{replayCall};
-ghost use Rattle.cabi.specs.Calls.{powerOnC, transferC, pictureC, chipPowerOnC, chipPictureC, plainC, writeRowsC, writeThreeC, rescueC, replayNumber};
+ghost use Rattle.cabi.specs.Calls.{powerOnC, transferC, pictureC, packedPowerOnC, packedTransferC, packedPictureC, chipPowerOnC, chipPictureC, plainC, writeRowsC, writeThreeC, rescueC, replayNumber};
 
-// Power-on of the long account, taken or refused by 16, 3, 4, 5.
+// ---- the long account, over columns that are a byte each or packed
+
+// Power-on, taken or refused by 16, 3, 4, 5.
+fn power_on(
+    part: u8,
+    chips0: u8,
+    chips1: u8,
+    ram: &[u8],
+    packed: bool,
+    registers: &mut [u8],
+    answer: &mut [usize],
+) -> u8
+    ensures { λ r. ⌜ powerOnC part chips0 chips1 (columnsIn packed (now (ram .entry))) (now (registers .entry)) (now (answer .entry)) ≡ record { number = r; registers = now (registers .exit); buffer = columnsIn packed (now (ram .entry)); answer = now (answer .exit) } ⌝ }
+{
+    if (registers.len() == 24) & (answer.len() == 6) {
+        let chips = Chips {
+            zero: chips0,
+            one: chips1,
+        };
+        let done = long::power_on_in(part, chips, ram, packed);
+        let after = done.registers;
+        let check = done.check;
+        wire::put_both(after, registers);
+        wire::put_numbers(answers::check_numbers(check), answer)
+    } else {
+        255
+    }
+}
+
+// A transfer, of whose last byte so many bits came, taken or refused by 16, 3, 6, 4, 5, 1, 2, 19, then 7, 17 and 18.
+fn transfer(
+    part: u8,
+    chips0: u8,
+    chips1: u8,
+    registers: &mut [u8],
+    ram: &mut [u8],
+    packed: bool,
+    bytes: &[u8],
+    bits: u8,
+    answer: &mut [usize],
+) -> u8
+    ensures { λ r. ⌜ transferC part chips0 chips1 (now (registers .entry)) (columnsIn packed (now (ram .entry))) (sent (now (bytes .entry)) bits) (now (answer .entry)) ≡ record { number = r; registers = now (registers .exit); buffer = columnsIn packed (now (ram .exit)); answer = now (answer .exit) } ⌝ }
+{
+    if (registers.len() == 24) & (answer.len() == 6) {
+        let chips = Chips {
+            zero: chips0,
+            one: chips1,
+        };
+        let before = wire::both_of(registers);
+        let done = long::transfer_in(part, chips, before, ram, packed, bytes, bits);
+        let after = done.registers;
+        let said = done.answer;
+        wire::put_both(after, registers);
+        wire::put_numbers(answers::numbers(part, said), answer)
+    } else {
+        255
+    }
+}
+
+// The picture of a group at a blink phase, or a refusal by 16, 3, 6, 4, 5, 8, 9.
+fn picture(
+    part: u8,
+    chips0: u8,
+    chips1: u8,
+    registers: &[u8],
+    ram: &[u8],
+    packed: bool,
+    group: u8,
+    phase: u8,
+    out: &mut [u8],
+    answer: &mut [usize],
+) -> u8
+    ensures { λ r. ⌜ pictureC part chips0 chips1 (now (registers .entry)) (columnsIn packed (now (ram .entry))) group phase (now (out .entry)) (now (answer .entry)) ≡ record { number = r; buffer = now (out .exit); answer = now (answer .exit) } ⌝ }
+{
+    if (registers.len() == 24) & (answer.len() == 6) {
+        let chips = Chips {
+            zero: chips0,
+            one: chips1,
+        };
+        let before = wire::both_of(registers);
+        let shown = long::picture_in(part, chips, before, ram, packed, group, phase, out);
+        wire::put_numbers(answers::picture_numbers(shown), answer)
+    } else {
+        255
+    }
+}
+
+// ---- a byte a column
+
 #[no_mangle]
 pub extern "C" fn humtrellis_power_on(
     part: u8,
@@ -19,22 +108,9 @@ pub extern "C" fn humtrellis_power_on(
 ) -> u8
     ensures { λ r. ⌜ powerOnC part chips0 chips1 (now (ram .entry)) (now (registers .entry)) (now (answer .entry)) ≡ record { number = r; registers = now (registers .exit); buffer = now (ram .entry); answer = now (answer .exit) } ⌝ }
 {
-    if (registers.len() == 24) & (answer.len() == 6) {
-        let chips = Chips {
-            zero: chips0,
-            one: chips1,
-        };
-        let done = long::power_on(part, chips, ram);
-        let after = done.registers;
-        let check = done.check;
-        wire::put_both(after, registers);
-        wire::put_numbers(answers::check_numbers(check), answer)
-    } else {
-        255
-    }
+    power_on(part, chips0, chips1, ram, false, registers, answer)
 }
 
-// A transfer of the long account, of whose last byte so many bits came, taken or refused by 16, 3, 6, 4, 5, 1, 2, 19, then 7, 17 and 18.
 #[no_mangle]
 pub extern "C" fn humtrellis_transfer(
     part: u8,
@@ -48,23 +124,19 @@ pub extern "C" fn humtrellis_transfer(
 ) -> u8
     ensures { λ r. ⌜ transferC part chips0 chips1 (now (registers .entry)) (now (ram .entry)) (sent (now (bytes .entry)) bits) (now (answer .entry)) ≡ record { number = r; registers = now (registers .exit); buffer = now (ram .exit); answer = now (answer .exit) } ⌝ }
 {
-    if (registers.len() == 24) & (answer.len() == 6) {
-        let chips = Chips {
-            zero: chips0,
-            one: chips1,
-        };
-        let before = wire::both_of(registers);
-        let done = long::transfer(part, chips, before, ram, bytes, bits);
-        let after = done.registers;
-        let said = done.answer;
-        wire::put_both(after, registers);
-        wire::put_numbers(answers::numbers(part, said), answer)
-    } else {
-        255
-    }
+    transfer(
+        part,
+        chips0,
+        chips1,
+        registers,
+        ram,
+        false,
+        bytes,
+        bits,
+        answer,
+    )
 }
 
-// The picture of a group at a blink phase, or a refusal by 16, 3, 6, 4, 5, 8, 9.
 #[no_mangle]
 pub extern "C" fn humtrellis_picture(
     part: u8,
@@ -79,18 +151,91 @@ pub extern "C" fn humtrellis_picture(
 ) -> u8
     ensures { λ r. ⌜ pictureC part chips0 chips1 (now (registers .entry)) (now (ram .entry)) group phase (now (out .entry)) (now (answer .entry)) ≡ record { number = r; buffer = now (out .exit); answer = now (answer .exit) } ⌝ }
 {
-    if (registers.len() == 24) & (answer.len() == 6) {
-        let chips = Chips {
-            zero: chips0,
-            one: chips1,
-        };
-        let before = wire::both_of(registers);
-        let shown = long::picture(part, chips, before, ram, group, phase, out);
-        wire::put_numbers(answers::picture_numbers(shown), answer)
-    } else {
-        255
-    }
+    picture(
+        part,
+        chips0,
+        chips1,
+        registers,
+        ram,
+        false,
+        group,
+        phase,
+        out,
+        answer,
+    )
 }
+
+// ---- packed, two columns a byte: the RAM has half as many bytes, and 5 can't occur
+
+#[no_mangle]
+pub extern "C" fn humtrellis_packed_power_on(
+    part: u8,
+    chips0: u8,
+    chips1: u8,
+    ram: &[u8],
+    registers: &mut [u8],
+    answer: &mut [usize],
+) -> u8
+    ensures { λ r. ⌜ packedPowerOnC part chips0 chips1 (now (ram .entry)) (now (registers .entry)) (now (answer .entry)) ≡ record { number = r; registers = now (registers .exit); buffer = now (ram .entry); answer = now (answer .exit) } ⌝ }
+{
+    power_on(part, chips0, chips1, ram, true, registers, answer)
+}
+
+#[no_mangle]
+pub extern "C" fn humtrellis_packed_transfer(
+    part: u8,
+    chips0: u8,
+    chips1: u8,
+    registers: &mut [u8],
+    ram: &mut [u8],
+    bytes: &[u8],
+    bits: u8,
+    answer: &mut [usize],
+) -> u8
+    ensures { λ r. ⌜ packedTransferC part chips0 chips1 (now (registers .entry)) (now (ram .entry)) (sent (now (bytes .entry)) bits) (now (answer .entry)) ≡ record { number = r; registers = now (registers .exit); buffer = now (ram .exit); answer = now (answer .exit) } ⌝ }
+{
+    transfer(
+        part,
+        chips0,
+        chips1,
+        registers,
+        ram,
+        true,
+        bytes,
+        bits,
+        answer,
+    )
+}
+
+#[no_mangle]
+pub extern "C" fn humtrellis_packed_picture(
+    part: u8,
+    chips0: u8,
+    chips1: u8,
+    registers: &[u8],
+    ram: &[u8],
+    group: u8,
+    phase: u8,
+    out: &mut [u8],
+    answer: &mut [usize],
+) -> u8
+    ensures { λ r. ⌜ packedPictureC part chips0 chips1 (now (registers .entry)) (now (ram .entry)) group phase (now (out .entry)) (now (answer .entry)) ≡ record { number = r; buffer = now (out .exit); answer = now (answer .exit) } ⌝ }
+{
+    picture(
+        part,
+        chips0,
+        chips1,
+        registers,
+        ram,
+        true,
+        group,
+        phase,
+        out,
+        answer,
+    )
+}
+
+// ---- chips, one by one
 
 // Power-on of one chip, taken or refused by 16, 11: only its registers are new.
 #[no_mangle]

@@ -203,7 +203,7 @@ fn show_own(part: u8, columns: [u8; 160], registers: Registers, phase: u8, out: 
     ensures { λ r. ⌜ r ≡ litIn (pictureOf registers phase (take (partOf part .columns) columns)) ⌝ }
 {
     let own = arithmetic::columns(part);
-    picture::show(&columns[..own], registers, phase, out)
+    picture::show(&columns[..own], false, registers, phase, out)
 }
 
 // The picture of the chip alone, of the part's columns, and its lit elements, or a refusal.

@@ -4,6 +4,8 @@ use sheet::Both;
 use sheet::Chips;
 use sheet::Registers;
 ghost use mathlib.Core.Path.{_≡_};
+ghost use mathlib.Core.Bool.{cond};
+ghost use Prim.Native.Nat.{_/_};
 ghost use Rattle.sheet.specs.Parts.{partOf};
 ghost use Rattle.sheet.specs.Registers.{registersOf};
 ghost use Rattle.sheet.specs.Protocol.{heardBy, chipsIn};
@@ -52,7 +54,7 @@ pub fn replaced(group: u8, after: Registers, registers: Both) -> Both
 }
 
 // Where a group's columns begin in the RAM.
-pub fn start_of(part: u8, chips: Chips, group: u8) -> usize
+fn start_of(part: u8, chips: Chips, group: u8) -> usize
     ensures { λ r. ⌜ r ≡ startOf (partOf part) chips group ⌝ }
 {
     if group == 0 {
@@ -63,8 +65,22 @@ pub fn start_of(part: u8, chips: Chips, group: u8) -> usize
 }
 
 // And where they end.
-pub fn end_of(part: u8, chips: Chips, group: u8) -> usize
+fn end_of(part: u8, chips: Chips, group: u8) -> usize
     ensures { λ r. ⌜ r ≡ endOf (partOf part) chips group ⌝ }
 {
     start_of(part, chips, group) + arithmetic::columns_in(part, chips_in(group, chips) as u16)
+}
+
+// The bytes of the RAM that hold them, a byte a column or packed: the first.
+pub fn start_in(part: u8, chips: Chips, group: u8, packed: bool) -> usize
+    ensures { λ r. ⌜ r ≡ cond packed (startOf (partOf part) chips group / 2) (startOf (partOf part) chips group) ⌝ }
+{
+    arithmetic::byte_of(start_of(part, chips, group), packed)
+}
+
+// And the end of them.
+pub fn end_in(part: u8, chips: Chips, group: u8, packed: bool) -> usize
+    ensures { λ r. ⌜ r ≡ cond packed (endOf (partOf part) chips group / 2) (endOf (partOf part) chips group) ⌝ }
+{
+    arithmetic::byte_of(end_of(part, chips, group), packed)
 }

@@ -19,6 +19,11 @@ or-else Passed b c = refl
 or-else (Refused r) b c = refl
 
 -- the two refuse, or what comes after them decides
+-- a last check that passes refuses nothing
+pub or-passed : (a : Check) → orElse a Passed ≡ a
+or-passed Passed = refl
+or-passed (Refused r) = refl
+
 pub then-refused : (a b c : Check) (r : Refusal) → orElse a b ≡ Refused r → Refused r ≡ orElse a (orElse b c)
 then-refused Passed b c r e = rw e
 then-refused (Refused x) b c r e = sym e

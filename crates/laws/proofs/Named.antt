@@ -1,6 +1,6 @@
 -- A part by its number: what holds of both parts holds of it, and the sizes that follow.
 -- Assumes nothing.
-use Prim.Native.Nat.{ℕ, _*_, _<_, _≤_}
+use Prim.Native.Nat.{ℕ, _*_, _/_, _<_, _≤_}
 use mathlib.Core.Path.{_≡_, refl}
 use mathlib.Core.Bool.{Bool, true, false, cond}
 use mathlib.Core.List.{List}
@@ -49,6 +49,10 @@ zero-picture n r ram g phase out = refl
 
 pub has-columns : (part : ℕ) → 0 < partOf part .columns
 has-columns part = of-both (λ K. 0 < K .columns) part (omega arith) (omega arith)
+
+-- an even number of them
+pub columns-even : (part : ℕ) → partOf part .columns ≡ 2 * (partOf part .columns / 2)
+columns-even part = of-both (λ K. K .columns ≡ 2 * (K .columns / 2)) part refl refl
 
 pub columns-small : (part : ℕ) → partOf part .columns ≤ 160
 columns-small part = of-both (λ K. K .columns ≤ 160) part (omega arith) (omega arith)

@@ -1,20 +1,42 @@
--- A group's part of the RAM, as the code takes it and puts it back.
+-- A group's part of the RAM, a byte a column or packed, as the code takes it and puts it back, for any part with an even number of columns.
 -- Assumes nothing.
-use mathlib.Core.Path.{_≡_}
+use mathlib.Core.Path.{_≡_, ap, ap₂, _∙_, subst, sym}
+use mathlib.Core.Bool.{Bool, true, false, cond}
 use mathlib.Core.List.{List, _++_}
-use Prim.Native.Nat.{ℕ, _-_, _*_}
+use Prim.Native.Nat.{ℕ, _-_, _*_, _/_, _≤_}
 use native.Mathlib.Nat.{add-sub-cancel-left}
-use lib.ListN.{take, drop}
+use native.Mathlib.Omega.{arith}
+use lib.ListN.{length, take, drop}
 use lib.Seq.{drop-drop}
 use Rattle.sheet.specs.declared.Chips.{Chips}
 use Rattle.sheet.specs.Parts.{Part}
 use Rattle.sheet.specs.Protocol.{chipsIn}
 use Rattle.sheet.specs.Long.{startOf, endOf, columnsOf, withColumns}
+use Rattle.sheet.specs.Packed.{unpacked, columnsIn}
+use Rattle.laws.proofs.Packed.{ordered, end-in-bytes, part-unpacked, back-unpacked}
 
-module _ (K : Part) (n : Chips) (ram : List ℕ) (g start end : ℕ) (es : start ≡ startOf K n g) (ee : end ≡ endOf K n g) where
-  pub part-taken : take (end - start) (drop start ram) ≡ columnsOf K n g ram
-  part-taken = rw (es, ee, add-sub-cancel-left (startOf K n g) (K .columns * chipsIn g n))
+module _ (K : Part) (half : ℕ) (even : K .columns ≡ 2 * half) (n : Chips) (ram : List ℕ) (g start end : ℕ) where
+  pub part-taken : (packed : Bool) → start ≡ cond packed (startOf K n g / 2) (startOf K n g) → end ≡ cond packed (endOf K n g / 2) (endOf K n g)
+      → columnsIn packed (take (end - start) (drop start ram)) ≡ columnsOf K n g (columnsIn packed ram)
+  part-taken true es ee = ap₂ (λ (s e : ℕ). unpacked (take (e - s) (drop s ram))) es ee ∙ part-unpacked K half even n g ram
+  part-taken false es ee = rw (es, ee, add-sub-cancel-left (startOf K n g) (K .columns * chipsIn g n))
 
-  pub put-back : (last after : List ℕ) → last ≡ after → take start ram ++ (last ++ drop (end - start) (drop start ram)) ≡ withColumns K n g after ram
-  put-back last after e =
+  pub put-back : (packed : Bool) → start ≡ cond packed (startOf K n g / 2) (startOf K n g) → end ≡ cond packed (endOf K n g / 2) (endOf K n g)
+      → (last after : List ℕ) → columnsIn packed last ≡ after
+      → columnsIn packed (take start ram ++ (last ++ drop (end - start) (drop start ram))) ≡ withColumns K n g after (columnsIn packed ram)
+  put-back true es ee last after e =
+      ap₂ (λ (s t : ℕ). unpacked (take s ram ++ (last ++ drop (t - s) (drop s ram)))) es ee
+      ∙ ap (λ (l : List ℕ). unpacked (take (startOf K n g / 2) ram ++ (last ++ l))) (drop-drop (endOf K n g / 2 - startOf K n g / 2) (startOf K n g / 2) ram ∙ ap (λ (k : ℕ). drop k ram) (ordered K half even n g))
+      ∙ back-unpacked K half even n g ram last
+      ∙ ap (λ (l : List ℕ). withColumns K n g l (unpacked ram)) e
+  put-back false es ee last after e =
       rw (es, ee, e, add-sub-cancel-left (startOf K n g) (K .columns * chipsIn g n), drop-drop (K .columns * chipsIn g n) (startOf K n g) ram)
+
+  -- it begins before it ends, and ends in the RAM
+  pub in-order : (packed : Bool) → start ≡ cond packed (startOf K n g / 2) (startOf K n g) → end ≡ cond packed (endOf K n g / 2) (endOf K n g) → start ≤ end
+  in-order true es ee = rw (es, ee) (omega (arith, ordered K half even n g))
+  in-order false es ee = omega (arith, es, ee)
+
+  pub end-in : (packed : Bool) → end ≡ cond packed (endOf K n g / 2) (endOf K n g) → endOf K n g ≤ length (columnsIn packed ram) → end ≤ length ram
+  end-in true ee l = subst (λ (k : ℕ). k ≤ length ram) (sym ee) (end-in-bytes K half even n g ram l)
+  end-in false ee l = subst (λ (k : ℕ). k ≤ length ram) (sym ee) l

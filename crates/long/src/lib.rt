@@ -1,4 +1,4 @@
-// THE LONG ACCOUNT: one register set a group and one long RAM. Every input gets an answer; a refused call changes nothing.
+// THE LONG ACCOUNT: one register set a group and one long RAM, a byte a column or packed. Every input gets an answer; a refused call changes nothing.
 use sheet::Acknowledger;
 use sheet::Addressed;
 use sheet::Answer;
@@ -17,13 +17,15 @@ ghost use Rattle.sheet.specs.Parts.{partOf};
 ghost use Rattle.sheet.specs.Protocol.{sent};
 ghost use Rattle.sheet.specs.Checks.{checkState};
 ghost use Rattle.sheet.specs.Long.{noCounts, replaced, taken, powerOnPart, transferPart, picturePart};
+ghost use Rattle.sheet.specs.Packed.{columnsIn, powerOnPacked, transferPacked, picturePacked};
+
+// ---- over columns that are a byte each, or packed
 
 // Power-on: the power-on registers, taken or refused by 16, 3, 4, 5; the RAM is only read.
-pub fn power_on(part: u8, chips: Chips, ram: &[u8]) -> PowerOn
-    ensures { λ r. ⌜ r ≡ powerOnPart part chips (now (ram .entry)) ⌝ }
-    ensures { λ r. ⌜ checkNumbers (r .check) ≡ checkNumbers (powerOnPart part chips (now (ram .entry)) .check) ⌝ }
+pub fn power_on_in(part: u8, chips: Chips, ram: &[u8], packed: bool) -> PowerOn
+    ensures { λ r. ⌜ r ≡ powerOnPart part chips (columnsIn packed (now (ram .entry))) ⌝ }
 {
-    let check = refused::check_power_on(part, chips, ram);
+    let check = refused::check_power_on(part, chips, ram, packed);
     let registers = Both {
         zero: command::power_on(),
         one: command::power_on(),
@@ -37,17 +39,18 @@ fn deliver(
     chips: Chips,
     registers: Both,
     ram: &mut [u8],
+    packed: bool,
     bytes: &[u8],
     bits: u8,
     group: u8,
 ) -> Transferred
-    requires { ⌜ (checkState (partOf part) chips registers (now ram) ≡ Check.Passed) × (length (now bytes) < 4097) ⌝ }
-    ensures { λ r. ⌜ record { result = r; ram = now (ram .exit) } ≡ taken (partOf part) chips registers (now (ram .entry)) (sent (now (bytes .entry)) bits) (Addressed.To group) ⌝ }
+    requires { ⌜ (checkState (partOf part) chips registers (columnsIn packed (now ram)) ≡ Check.Passed) × (length (now bytes) < 4097) ⌝ }
+    ensures { λ r. ⌜ record { result = r; ram = columnsIn packed (now (ram .exit)) } ≡ taken (partOf part) chips registers (columnsIn packed (now (ram .entry))) (sent (now (bytes .entry)) bits) (Addressed.To group) ⌝ }
 {
-    let start = groups::start_of(part, chips, group);
-    let end = groups::end_of(part, chips, group);
+    let start = groups::start_in(part, chips, group, packed);
+    let end = groups::end_in(part, chips, group, packed);
     let before = groups::registers_of(group, registers);
-    let heard = hearing::hear(part, &mut ram[start..end], before, bytes, bits);
+    let heard = hearing::hear(part, &mut ram[start..end], packed, before, bytes, bits);
     let after = heard.registers;
     let counts = heard.counts;
     let last = heard.last;
@@ -75,6 +78,71 @@ fn unheard(registers: Both) -> Transferred
 }
 
 // A transfer, START to STOP, of whose last byte so many bits came, taken or refused by 16, 3, 6, 4, 5, 1, 2, 19, then 7, 17 and 18.
+pub fn transfer_in(
+    part: u8,
+    chips: Chips,
+    registers: Both,
+    ram: &mut [u8],
+    packed: bool,
+    bytes: &[u8],
+    bits: u8,
+) -> Transferred
+    ensures { λ r. ⌜ record { result = r; ram = columnsIn packed (now (ram .exit)) } ≡ transferPart part chips registers (columnsIn packed (now (ram .entry))) (sent (now (bytes .entry)) bits) ⌝ }
+{
+    match refused::check_transfer(part, chips, registers, ram, packed, bytes, bits) {
+        Check::Refused(refusal) => Transferred {
+            answer: Answer::Refused(refusal),
+            registers,
+        },
+        Check::Passed => match groups::heard_by(chips, checks::address_byte(bytes, bits)) {
+            Addressed::To(group) => deliver(
+                part,
+                chips,
+                registers,
+                ram,
+                packed,
+                bytes,
+                bits,
+                group,
+            ),
+            Addressed::Nobody => unheard(registers),
+        },
+    }
+}
+
+// The picture of a group at a blink phase and its lit elements, or a refusal by 16, 3, 6, 4, 5, 8, 9.
+pub fn picture_in(
+    part: u8,
+    chips: Chips,
+    registers: Both,
+    ram: &[u8],
+    packed: bool,
+    group: u8,
+    phase: u8,
+    out: &mut [u8],
+) -> Pictured
+    ensures { λ r. ⌜ record { result = r; out = now (out .exit) } ≡ picturePart part chips registers (columnsIn packed (now (ram .entry))) group phase (now (out .entry)) ⌝ }
+{
+    match refused::check_picture(part, chips, registers, ram, packed, group, phase, out.len()) {
+        Check::Refused(refusal) => Pictured::Refused(refusal),
+        Check::Passed => {
+            let start = groups::start_in(part, chips, group, packed);
+            let end = groups::end_in(part, chips, group, packed);
+            let shown = groups::registers_of(group, registers);
+            Pictured::Lit(picture::show(&ram[start..end], packed, shown, phase, out))
+        }
+    }
+}
+
+// ---- a byte a column
+
+pub fn power_on(part: u8, chips: Chips, ram: &[u8]) -> PowerOn
+    ensures { λ r. ⌜ r ≡ powerOnPart part chips (now (ram .entry)) ⌝ }
+    ensures { λ r. ⌜ checkNumbers (r .check) ≡ checkNumbers (powerOnPart part chips (now (ram .entry)) .check) ⌝ }
+{
+    power_on_in(part, chips, ram, false)
+}
+
 pub fn transfer(
     part: u8,
     chips: Chips,
@@ -86,19 +154,9 @@ pub fn transfer(
     ensures { λ r. ⌜ record { result = r; ram = now (ram .exit) } ≡ transferPart part chips registers (now (ram .entry)) (sent (now (bytes .entry)) bits) ⌝ }
     ensures { λ r. ⌜ numbers (partOf part) (r .answer) ≡ numbers (partOf part) (transferPart part chips registers (now (ram .entry)) (sent (now (bytes .entry)) bits) .result .answer) ⌝ }
 {
-    match refused::check_transfer(part, chips, registers, ram, bytes, bits) {
-        Check::Refused(refusal) => Transferred {
-            answer: Answer::Refused(refusal),
-            registers,
-        },
-        Check::Passed => match groups::heard_by(chips, checks::address_byte(bytes, bits)) {
-            Addressed::To(group) => deliver(part, chips, registers, ram, bytes, bits, group),
-            Addressed::Nobody => unheard(registers),
-        },
-    }
+    transfer_in(part, chips, registers, ram, false, bytes, bits)
 }
 
-// The picture of a group at a blink phase and its lit elements, or a refusal by 16, 3, 6, 4, 5, 8, 9.
 pub fn picture(
     part: u8,
     chips: Chips,
@@ -111,13 +169,43 @@ pub fn picture(
     ensures { λ r. ⌜ record { result = r; out = now (out .exit) } ≡ picturePart part chips registers (now (ram .entry)) group phase (now (out .entry)) ⌝ }
     ensures { λ r. ⌜ pictureNumbers r ≡ pictureNumbers (picturePart part chips registers (now (ram .entry)) group phase (now (out .entry)) .result) ⌝ }
 {
-    match refused::check_picture(part, chips, registers, ram, group, phase, out.len()) {
-        Check::Refused(refusal) => Pictured::Refused(refusal),
-        Check::Passed => {
-            let start = groups::start_of(part, chips, group);
-            let end = groups::end_of(part, chips, group);
-            let shown = groups::registers_of(group, registers);
-            Pictured::Lit(picture::show(&ram[start..end], shown, phase, out))
-        }
-    }
+    picture_in(part, chips, registers, ram, false, group, phase, out)
+}
+
+// ---- packed: two columns a byte (paper 02, request 6). The RAM has half as many bytes, and 5 can't occur
+
+pub fn packed_power_on(part: u8, chips: Chips, ram: &[u8]) -> PowerOn
+    ensures { λ r. ⌜ r ≡ powerOnPacked part chips (now (ram .entry)) ⌝ }
+    ensures { λ r. ⌜ checkNumbers (r .check) ≡ checkNumbers (powerOnPacked part chips (now (ram .entry)) .check) ⌝ }
+{
+    power_on_in(part, chips, ram, true)
+}
+
+pub fn packed_transfer(
+    part: u8,
+    chips: Chips,
+    registers: Both,
+    ram: &mut [u8],
+    bytes: &[u8],
+    bits: u8,
+) -> Transferred
+    ensures { λ r. ⌜ record { result = r; ram = now (ram .exit) } ≡ transferPacked part chips registers (now (ram .entry)) (sent (now (bytes .entry)) bits) ⌝ }
+    ensures { λ r. ⌜ numbers (partOf part) (r .answer) ≡ numbers (partOf part) (transferPacked part chips registers (now (ram .entry)) (sent (now (bytes .entry)) bits) .result .answer) ⌝ }
+{
+    transfer_in(part, chips, registers, ram, true, bytes, bits)
+}
+
+pub fn packed_picture(
+    part: u8,
+    chips: Chips,
+    registers: Both,
+    ram: &[u8],
+    group: u8,
+    phase: u8,
+    out: &mut [u8],
+) -> Pictured
+    ensures { λ r. ⌜ record { result = r; out = now (out .exit) } ≡ picturePacked part chips registers (now (ram .entry)) group phase (now (out .entry)) ⌝ }
+    ensures { λ r. ⌜ pictureNumbers r ≡ pictureNumbers (picturePacked part chips registers (now (ram .entry)) group phase (now (out .entry)) .result) ⌝ }
+{
+    picture_in(part, chips, registers, ram, true, group, phase, out)
 }

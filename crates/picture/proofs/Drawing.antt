@@ -76,3 +76,11 @@ module _ {first height : ℕ} {columns : List ℕ} where
         let counted = d .counted ∙ ap (λ (l : List ℕ). pictures.litIn (rowsOf first height l)) (take-all i columns h) in
         let written = mapped-all (pictures.lit height (Rows first)) columns out i h (d .mapped) in
         λ j. record { lit = counted j; out = written j }
+
+  -- two columns more, of one byte
+  pub pair-turn : {out : List ℕ} {lit p q : ℕ} (i : ℕ) → Drawing first height columns out lit (2 * i) → 2 * i + 1 < length columns
+      → p ≡ pictures.lit height (Rows first) (getD columns (2 * i) 0) → q ≡ pictures.lit height (Rows first) (getD columns (2 * i + 1) 0)
+      → Drawing first height columns (set (set out (2 * i) p) (2 * i + 1) q) (lit + ones p + ones q) (2 * (i + 1))
+  pair-turn i d h ep eq =
+      let next : 2 * (i + 1) ≡ 2 * i + 1 + 1 = omega arith in
+      rw next (one-turn (one-turn d (omega arith) ep) h eq)

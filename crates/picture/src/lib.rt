@@ -6,6 +6,7 @@ ghost use mathlib.Core.Bool.{cond};
 ghost use Prim.Native.Nat.{_-_, _≤_, _<_};
 ghost use lib.ListN.{length};
 ghost use Rattle.sheet.specs.Pictures.{shown, lit, pictureOf, litIn};
+ghost use Rattle.sheet.specs.Packed.{unpacked, columnsIn};
 ghost use Rattle.picture.specs.Drawn.{drawn, Few, Drawable};
 
 // The bank that is shown: the group's own, or the other one.
@@ -69,14 +70,68 @@ fn draw(columns: &[u8], first: usize, height: usize, out: &mut [u8]) -> usize
     lit
 }
 
+// Writes these rows of at most 32 packed columns, two a byte, and counts their ones.
+fn draw_pairs(ram: &[u8], first: usize, height: usize, out: &mut [u8]) -> u8
+    requires { ⌜ Few (unpacked (now ram)) first height (now out) ⌝ }
+    ensures { λ r. ⌜ record { lit = r; out = now (out .exit) } ≡ drawn first height (unpacked (now (ram .entry))) ⌝ }
+{
+    let mut ones = 0;
+    let mut i: usize = 0;
+    while i < ram.len() {
+        let pair = ram[i];
+        let even = lit_rows(first, height, pair % 16);
+        let odd = lit_rows(first, height, pair / 16);
+        out[2 * i] = even;
+        out[2 * i + 1] = odd;
+        ones += u8::count_ones(even) as u8;
+        ones += u8::count_ones(odd) as u8;
+        i += 1;
+    }
+    ones
+}
+
+// Writes these rows of each packed column and counts their ones, 32 columns after the other.
+fn draw_packed(ram: &[u8], first: usize, height: usize, out: &mut [u8]) -> usize
+    requires { ⌜ Drawable (unpacked (now ram)) first height (now out) ⌝ }
+    ensures { λ r. ⌜ record { lit = r; out = now (out .exit) } ≡ drawn first height (unpacked (now (ram .entry))) ⌝ }
+{
+    let n = ram.len();
+    let mut lit: usize = 0;
+    let mut start = 0;
+    while start < n {
+        let end = arithmetic::least(start + 16, n);
+        let ones = draw_pairs(
+            &ram[start..end],
+            first,
+            height,
+            &mut out[2 * start..2 * end],
+        );
+        lit += ones as usize;
+        start = end;
+    }
+    lit
+}
+
+// Of columns that are a byte each, or packed.
+fn draw_in(ram: &[u8], packed: bool, first: usize, height: usize, out: &mut [u8]) -> usize
+    requires { ⌜ Drawable (columnsIn packed (now ram)) first height (now out) ⌝ }
+    ensures { λ r. ⌜ record { lit = r; out = now (out .exit) } ≡ drawn first height (columnsIn packed (now (ram .entry))) ⌝ }
+{
+    if packed {
+        draw_packed(ram, first, height, out)
+    } else {
+        draw(ram, first, height, out)
+    }
+}
+
 // The picture is written, a byte a column, and counted in one walk. Dark is a picture of no rows.
-pub fn show(columns: &[u8], registers: Registers, phase: u8, out: &mut [u8]) -> usize
-    requires { ⌜ (length (now out) ≡ length (now columns)) × (length (now out) ≤ 1280) × (registers .m < 4) × (registers .o < 2) ⌝ }
-    ensures { λ _. ⌜ now (out .exit) ≡ pictureOf registers phase (now (columns .entry)) ⌝ }
-    ensures { λ r. ⌜ r ≡ litIn (pictureOf registers phase (now (columns .entry))) ⌝ }
+pub fn show(ram: &[u8], packed: bool, registers: Registers, phase: u8, out: &mut [u8]) -> usize
+    requires { ⌜ (length (now out) ≡ length (columnsIn packed (now ram))) × (length (now out) ≤ 1280) × (registers .m < 4) × (registers .o < 2) ⌝ }
+    ensures { λ _. ⌜ now (out .exit) ≡ pictureOf registers phase (columnsIn packed (now (ram .entry))) ⌝ }
+    ensures { λ r. ⌜ r ≡ litIn (pictureOf registers phase (columnsIn packed (now (ram .entry)))) ⌝ }
 {
     match shown(registers, phase) {
-        Shown::Dark => draw(columns, 0, 0, out),
-        Shown::Rows(first) => draw(columns, first, arithmetic::backplanes(registers), out),
+        Shown::Dark => draw_in(ram, packed, 0, 0, out),
+        Shown::Rows(first) => draw_in(ram, packed, first, arithmetic::backplanes(registers), out),
     }
 }

@@ -1,16 +1,14 @@
 // Data bytes into a group's columns, each mode with its own literal arithmetic.
 // Bytes whose columns are all there go in without a test a column; only the byte at the edge is tested.
-use sheet::Registers;
 ghost use mathlib.Core.Path.{_≡_};
 ghost use Prim.Native.Nat.{_+_, _-_, _*_, _≤_, _<_, _^_};
 ghost use lib.ListN.{length};
 ghost use Rattle.sheet.specs.declared.Check.the-variants.{Passed};
-ghost use Rattle.sheet.specs.Parts.{partOf};
 ghost use Rattle.sheet.specs.Registers.{bankRow};
 ghost use Rattle.sheet.specs.Checks.{overIn};
 ghost use Rattle.sheet.specs.Data.{changed, withRow, putBits};
-ghost use Rattle.sheet.specs.Runs.{putRun, writtenBy};
-ghost use Rattle.ram.specs.Writes.{Whole, Cut, Run, Writable};
+ghost use Rattle.sheet.specs.Runs.{putRun};
+ghost use Rattle.ram.specs.Writes.{Whole, Cut};
 
 // One row of a column. A column past the end is nobody's.
 fn put_row(ram: &mut [u8], at: usize, row: usize, bit: u8)
@@ -36,7 +34,7 @@ fn put_bits(ram: &mut [u8], at: usize, m: usize, b: usize, x: u8)
 }
 
 // Of the bytes that do not fit, only the first has columns left.
-fn cut_byte(ram: &mut [u8], at: usize, m: usize, bank: u8, rest: &[u8])
+pub fn cut_byte(ram: &mut [u8], at: usize, m: usize, bank: u8, rest: &[u8])
     requires { ⌜ Cut (now ram) at m bank (now rest) ⌝ }
     ensures { λ _. ⌜ now (ram .exit) ≡ putRun m (bankRow m bank) at (now (rest .entry)) (now (ram .entry)) ⌝ }
 {
@@ -123,7 +121,7 @@ fn four_run(ram: &mut [u8], v: usize, bytes: &[u8])
 }
 
 // Bytes whose columns are all there, by the mode.
-fn whole_bytes(ram: &mut [u8], v: usize, m: usize, bank: u8, bytes: &[u8])
+pub fn whole_bytes(ram: &mut [u8], v: usize, m: usize, bank: u8, bytes: &[u8])
     requires { ⌜ Whole (now ram) v m bank (now bytes) ⌝ }
     ensures { λ _. ⌜ now (ram .exit) ≡ putRun m (bankRow m bank) v (now (bytes .entry)) (now (ram .entry)) ⌝ }
 {
@@ -133,26 +131,4 @@ fn whole_bytes(ram: &mut [u8], v: usize, m: usize, bank: u8, bytes: &[u8])
         3 => three_run(ram, v, bytes),
         _ => four_run(ram, v, bytes),
     }
-}
-
-// Writes a run from column v on: the bytes that fit, and of the others the columns left.
-fn put_run(ram: &mut [u8], v: usize, m: usize, bank: u8, bytes: &[u8])
-    requires { ⌜ Run (now ram) v m bank (now bytes) ⌝ }
-    ensures { λ _. ⌜ now (ram .exit) ≡ putRun m (bankRow m bank) v (now (bytes .entry)) (now (ram .entry)) ⌝ }
-{
-    let w = arithmetic::width(m);
-    let left = arithmetic::columns_from(v, ram.len());
-    let whole = arithmetic::least(bytes.len(), left / w);
-    whole_bytes(ram, v, m, bank, &bytes[..whole]);
-    cut_byte(ram, v + w * whole, m, bank, &bytes[whole..]);
-}
-
-// Writes a run of data bytes from where the registers point, in their mode and input bank.
-pub fn write(part: u8, ram: &mut [u8], registers: Registers, bytes: &[u8])
-    requires { ⌜ Writable (partOf part) (now ram) registers (now bytes) ⌝ }
-    ensures { λ _. ⌜ now (ram .exit) ≡ writtenBy (partOf part) registers (now (bytes .entry)) (now (ram .entry)) ⌝ }
-{
-    let m = arithmetic::backplanes(registers);
-    let v = arithmetic::position(part, registers);
-    put_run(ram, v, m, registers.i, bytes);
 }

@@ -6,13 +6,14 @@ use sheet::Chips;
 use sheet::Refusal;
 ghost use mathlib.Core.Path.{_≡_};
 ghost use mathlib.Core.Bool.{_&&_};
-ghost use Prim.Native.Nat.{_*_};
+ghost use Prim.Native.Nat.{_*_, _/_};
 ghost use lib.Dec.{ltb};
 ghost use Rattle.sheet.specs.declared.Refusal.the-variants.{GroupOrPhase};
 ghost use Rattle.sheet.specs.Parts.{partOf};
 ghost use Rattle.sheet.specs.Registers.{inRange};
 ghost use Rattle.sheet.specs.Protocol.{heardBy, chipsIn, sent, addressByte};
 ghost use Rattle.sheet.specs.Checks.{unless, orElse, checkPart, checkChips, checkRegisters, checkColumns, checkRam, checkBytes, checkState, checkPowerOn, checkTransfer, checkPicture};
+ghost use Rattle.sheet.specs.Packed.{unpacked, columnsIn};
 ghost use Rattle.sheet.specs.Writer.{checkWanted};
 
 // Whether every register of both groups is in range.
@@ -35,14 +36,24 @@ fn check_columns(size: usize, columns: &[u8]) -> Check
     }
 }
 
-// The RAM: 4, 5.
-fn check_ram(part: u8, chips: Chips, ram: &[u8]) -> Check
-    ensures { λ r. ⌜ r ≡ checkRam (partOf part) chips (now (ram .entry)) ⌝ }
+// So many packed columns: 4 where they are not half as many bytes. Every byte is two columns, so 5 can't occur.
+fn check_packed(size: usize, ram: &[u8]) -> Check
+    requires { ⌜ size ≡ 2 * (size / 2) ⌝ }
+    ensures { λ r. ⌜ r ≡ checkColumns size (unpacked (now (ram .entry))) ⌝ }
 {
-    check_columns(
-        arithmetic::columns_in(part, chips.zero as u16 + chips.one as u16),
-        ram,
-    )
+    checks::unless(ram.len() == size / 2, Refusal::RamLength)
+}
+
+// The RAM, of columns that are a byte each or packed: 4, 5.
+fn check_ram(part: u8, chips: Chips, ram: &[u8], packed: bool) -> Check
+    ensures { λ r. ⌜ r ≡ checkRam (partOf part) chips (columnsIn packed (now (ram .entry))) ⌝ }
+{
+    let size = arithmetic::columns_in(part, chips.zero as u16 + chips.one as u16);
+    if packed {
+        check_packed(size, ram)
+    } else {
+        check_columns(size, ram)
+    }
 }
 
 // What every call begins with: 16, 3.
@@ -56,12 +67,12 @@ fn check_bus(part: u8, chips: Chips) -> Check
 }
 
 // A power-on: 16, 3, 4, 5.
-pub fn check_power_on(part: u8, chips: Chips, ram: &[u8]) -> Check
-    ensures { λ r. ⌜ r ≡ orElse (checkPart part) (checkPowerOn (partOf part) chips (now (ram .entry))) ⌝ }
+pub fn check_power_on(part: u8, chips: Chips, ram: &[u8], packed: bool) -> Check
+    ensures { λ r. ⌜ r ≡ orElse (checkPart part) (checkPowerOn (partOf part) chips (columnsIn packed (now (ram .entry)))) ⌝ }
 {
     match check_bus(part, chips) {
         Check::Refused(refusal) => Check::Refused(refusal),
-        Check::Passed => check_ram(part, chips, ram),
+        Check::Passed => check_ram(part, chips, ram, packed),
     }
 }
 
@@ -76,12 +87,12 @@ fn check_registers(part: u8, chips: Chips, registers: Both) -> Check
 }
 
 // And every call with a RAM: 16, 3, 6, 4, 5.
-fn check_state(part: u8, chips: Chips, registers: Both, ram: &[u8]) -> Check
-    ensures { λ r. ⌜ r ≡ orElse (checkPart part) (checkState (partOf part) chips registers (now (ram .entry))) ⌝ }
+fn check_state(part: u8, chips: Chips, registers: Both, ram: &[u8], packed: bool) -> Check
+    ensures { λ r. ⌜ r ≡ orElse (checkPart part) (checkState (partOf part) chips registers (columnsIn packed (now (ram .entry)))) ⌝ }
 {
     match check_registers(part, chips, registers) {
         Check::Refused(refusal) => Check::Refused(refusal),
-        Check::Passed => check_ram(part, chips, ram),
+        Check::Passed => check_ram(part, chips, ram, packed),
     }
 }
 
@@ -104,12 +115,13 @@ pub fn check_transfer(
     chips: Chips,
     registers: Both,
     ram: &[u8],
+    packed: bool,
     bytes: &[u8],
     bits: u8,
 ) -> Check
-    ensures { λ r. ⌜ r ≡ orElse (checkPart part) (checkTransfer (partOf part) chips registers (now (ram .entry)) (sent (now (bytes .entry)) bits)) ⌝ }
+    ensures { λ r. ⌜ r ≡ orElse (checkPart part) (checkTransfer (partOf part) chips registers (columnsIn packed (now (ram .entry))) (sent (now (bytes .entry)) bits)) ⌝ }
 {
-    match check_state(part, chips, registers, ram) {
+    match check_state(part, chips, registers, ram, packed) {
         Check::Refused(refusal) => Check::Refused(refusal),
         Check::Passed => match checks::check_sent(bytes.len(), bits) {
             Check::Refused(refusal) => Check::Refused(refusal),
@@ -124,13 +136,14 @@ pub fn check_picture(
     chips: Chips,
     registers: Both,
     ram: &[u8],
+    packed: bool,
     group: u8,
     phase: u8,
     size: usize,
 ) -> Check
-    ensures { λ r. ⌜ r ≡ orElse (checkPart part) (checkPicture (partOf part) chips registers (now (ram .entry)) group phase size) ⌝ }
+    ensures { λ r. ⌜ r ≡ orElse (checkPart part) (checkPicture (partOf part) chips registers (columnsIn packed (now (ram .entry))) group phase size) ⌝ }
 {
-    match check_state(part, chips, registers, ram) {
+    match check_state(part, chips, registers, ram, packed) {
         Check::Refused(refusal) => Check::Refused(refusal),
         Check::Passed => {
             if (group < 2) & (phase < 2) {

@@ -21,6 +21,7 @@ pub mod Writer
 pub mod Puts
 pub mod Three
 pub mod Pointing
+pub mod Packed
 pub mod Starred
 pub mod Smaller
 pub mod Blinking
@@ -34,3 +35,4 @@ pub mod Rescuing
 pub mod Merging
 pub mod Writings
 pub mod Threes
+pub mod Packing

@@ -1,10 +1,13 @@
 -- A byte written column by column, the first column and then each later one, from its bits y in the other order.
 -- Assumes nothing.
-use mathlib.Core.Path.{_≡_, refl, sym, ap, _∙_}
+use mathlib.Core.Path.{_≡_, refl, sym, ap, _∙_, subst}
 use mathlib.Core.List.{List}
 use Prim.Native.Nat.{ℕ, _+_, _*_, _/_, _%_, _^_, _≤_}
 use native.Mathlib.Nat.{add-zero, zero-add, mul-zero, div-one}
+use native.Mathlib.Omega.{arith}
+use lib.ListN.{set}
 use Rattle.sheet.specs.Data.{changed, putBits}
+use Rattle.laws.proofs.Nibbles.{Nibbles, bits-nibbles}
 use Rattle.words.specs.Fields.{withRows, field}
 use Rattle.words.proofs.Fields.{field-part, column}
 
@@ -25,3 +28,15 @@ module _ (m b x v y : ℕ) (ram : List ℕ) (told : y ≡ field x 0 8) where
       let e : y / 2 ^ (m * 0) ≡ y = rw (mul-zero m) (div-one y) in
       rw (mul-zero m, zero-add h) at
       (later 0 h d ram after few (rw (mul-zero m, zero-add (h + d)) all) (rw (mul-zero m) refl) (rw (e, add-zero v) ea))
+
+-- of a column below 16 nothing is left
+overwritten : (c f : ℕ) (ram : List ℕ) → Nibbles ram → set ram c f ≡ changed (withRows 0 4 f) c ram
+unfolding changed withRows
+overwritten c f ram w = ap (λ (q : ℕ). set ram c q) (omega (arith, w c))
+
+-- 1:4: two columns of four rows, all of them new
+pub four-put : (x v y : ℕ) (ram : List ℕ) → y ≡ field x 0 8 → Nibbles ram → set (set ram v (y % 16)) (v + 1) (y / 16 % 16) ≡ putBits 8 4 0 v x ram
+four-put x v y ram told w =
+    let e0 : set ram v (y % 16) ≡ putBits 4 4 0 v x ram = first 4 0 x v y ram told 4 4 _ (omega arith) refl (overwritten v (y % 16) ram w) in
+    let w1 : Nibbles (set ram v (y % 16)) = subst Nibbles (sym e0) (bits-nibbles 4 4 0 v x ram (omega arith) (omega arith) w) in
+    later 4 0 x v y ram told 1 4 0 _ _ (omega arith) refl e0 (overwritten (v + 1) (y / 16 % 16) (set ram v (y % 16)) w1)

@@ -1,8 +1,9 @@
 //! Everything that a call of the long account takes, and the same call by library and by model.
 
-use crate::library;
+use crate::library::{self, Form};
 use humtrellis_tests::generate::shape;
 use humtrellis_tests::model::{self, Answer, View, ANSWER, REGISTERS, WHOLE};
+use humtrellis_tests::packed;
 
 #[derive(Clone, Copy, Debug)]
 pub enum Call {
@@ -14,6 +15,7 @@ pub enum Call {
 /// The buffers and numbers of a call; after the call, what they have become.
 #[derive(Clone, Debug, PartialEq)]
 pub struct Case {
+    pub form: Form,
     pub part: u8,
     pub chips: [u8; 2],
     pub registers: Vec<u8>,
@@ -26,9 +28,10 @@ pub struct Case {
 }
 
 impl Case {
-    /// A bus from power-on with RAM all 0, and a picture buffer of group 0.
+    /// A bus from power-on with RAM all 0, a byte a column, and a picture buffer of group 0.
     pub fn new(part: u8, chips: [u8; 2]) -> Self {
         Case {
+            form: Form::OneByte,
             part,
             chips,
             registers: vec![0; REGISTERS],
@@ -47,8 +50,9 @@ impl Case {
         self.out = vec![0xEE; length_of(self.part, self.chips[shown[0] as usize])];
     }
 
-    fn by_library(&mut self, call: Call) -> u8 {
-        let (part, chips, shown) = (self.part, self.chips, self.shown);
+    /// Makes the call by the library alone, and gives the number returned.
+    pub fn by_library(&mut self, call: Call) -> u8 {
+        let (part, chips, shown) = ((self.form, self.part), self.chips, self.shown);
         let (registers, ram, answer) = (&mut self.registers, &mut self.ram, &mut self.answer);
         let (bytes, bits, out) = (&mut self.bytes, self.bits, &mut self.out);
         match call {
@@ -74,9 +78,10 @@ impl Case {
     fn answer_of_model(&mut self, call: Call, registers: &mut [u8; REGISTERS]) -> Answer {
         let ([chips0, chips1], [group, phase]) = (self.chips, self.shown);
         let (part, ram, bytes, bits) = (self.part, &mut self.ram, &self.bytes, self.bits);
+        let (power_on, transfer, picture) = model_of(self.form);
         match call {
-            Call::PowerOn => model::power_on(part, chips0, chips1, ram, registers),
-            Call::Transfer => model::transfer(part, chips0, chips1, registers, ram, bytes, bits),
+            Call::PowerOn => power_on(part, chips0, chips1, ram, registers),
+            Call::Transfer => transfer(part, chips0, chips1, registers, ram, bytes, bits),
             Call::Picture => {
                 let view = View {
                     part,
@@ -87,7 +92,7 @@ impl Case {
                     group,
                     phase,
                 };
-                model::picture(view, &mut self.out)
+                picture(view, &mut self.out)
             }
         }
     }
@@ -116,12 +121,24 @@ impl Case {
     }
 }
 
-/// Bytes of RAM, or of a picture, that so many chips have.
+type PowerOn = fn(u8, u8, u8, &[u8], &mut [u8; REGISTERS]) -> Answer;
+type Transfer = fn(u8, u8, u8, &mut [u8; REGISTERS], &mut [u8], &[u8], u8) -> Answer;
+type Picture = fn(View, &mut [u8]) -> Answer;
+
+/// The model's three calls over a RAM of this form.
+fn model_of(form: Form) -> (PowerOn, Transfer, Picture) {
+    match form {
+        Form::OneByte => (model::power_on, model::transfer, model::picture),
+        Form::Packed => (packed::power_on, packed::transfer, packed::picture),
+    }
+}
+
+/// Bytes of RAM, a byte a column, or of a picture, that so many chips have.
 fn length_of(part: u8, chips: u8) -> usize {
     shape(part).columns() * chips as usize
 }
 
-/// Bytes of RAM that the chips of both groups have.
+/// Bytes of RAM, a byte a column, that the chips of both groups have.
 pub fn ram_length(part: u8, chips: [u8; 2]) -> usize {
     chips.iter().map(|chips| length_of(part, *chips)).sum()
 }

@@ -22,6 +22,23 @@ extern "C" {
         out: *mut u8, out_length: usize, answer: *mut usize, answer_length: usize,
     ) -> u8;
 
+    pub fn humtrellis_packed_power_on(
+        part: u8, chips0: u8, chips1: u8, ram: *const u8, ram_length: usize,
+        registers: *mut u8, registers_length: usize, answer: *mut usize, answer_length: usize,
+    ) -> u8;
+
+    pub fn humtrellis_packed_transfer(
+        part: u8, chips0: u8, chips1: u8, registers: *mut u8, registers_length: usize,
+        ram: *mut u8, ram_length: usize, bytes: *const u8, bytes_length: usize, bits: u8,
+        answer: *mut usize, answer_length: usize,
+    ) -> u8;
+
+    pub fn humtrellis_packed_picture(
+        part: u8, chips0: u8, chips1: u8, registers: *const u8, registers_length: usize,
+        ram: *const u8, ram_length: usize, group: u8, phase: u8,
+        out: *mut u8, out_length: usize, answer: *mut usize, answer_length: usize,
+    ) -> u8;
+
     pub fn humtrellis_plain_transfer(
         part: u8, chips: *mut u8, chips_length: usize, bytes: *const u8, bytes_length: usize, bits: u8,
         answer: *mut usize, answer_length: usize,
@@ -54,6 +71,13 @@ extern "C" {
     ) -> u8;
 
     pub fn humtrellis_replay(log: *const u8, log_length: usize, out: *mut u8, out_length: usize) -> usize;
+}
+
+/// How the RAM is kept: a byte a column, or packed, two columns in a byte.
+#[derive(Clone, Copy, Debug, PartialEq)]
+pub enum Form {
+    OneByte,
+    Packed,
 }
 
 const FENCE: usize = 24;
@@ -97,16 +121,20 @@ fn numbers(buffer: &[usize]) -> Fenced<usize> {
 }
 
 pub fn power_on(
-    part: u8,
+    (form, part): (Form, u8),
     [chips0, chips1]: [u8; 2],
     ram: &mut [u8],
     registers: &mut [u8],
     answer: &mut [usize],
 ) -> u8 {
     let (mut r, mut s, mut a) = (bytes(ram), bytes(registers), numbers(answer));
+    let call = match form {
+        Form::OneByte => humtrellis_power_on,
+        Form::Packed => humtrellis_packed_power_on,
+    };
     // Safety: each pointer goes with the length of the buffer that it points to.
     let number = unsafe {
-        humtrellis_power_on(
+        call(
             part,
             chips0,
             chips1,
@@ -125,7 +153,7 @@ pub fn power_on(
 }
 
 pub fn transfer(
-    part: u8,
+    (form, part): (Form, u8),
     [chips0, chips1]: [u8; 2],
     registers: &mut [u8],
     ram: &mut [u8],
@@ -135,9 +163,13 @@ pub fn transfer(
 ) -> u8 {
     let (mut s, mut r) = (bytes(registers), bytes(ram));
     let (mut b, mut a) = (bytes(sent), numbers(answer));
+    let call = match form {
+        Form::OneByte => humtrellis_transfer,
+        Form::Packed => humtrellis_packed_transfer,
+    };
     // Safety: each pointer goes with the length of the buffer that it points to.
     let number = unsafe {
-        humtrellis_transfer(
+        call(
             part,
             chips0,
             chips1,
@@ -160,7 +192,7 @@ pub fn transfer(
 }
 
 pub fn picture(
-    part: u8,
+    (form, part): (Form, u8),
     [chips0, chips1]: [u8; 2],
     registers: &mut [u8],
     ram: &mut [u8],
@@ -170,9 +202,13 @@ pub fn picture(
 ) -> u8 {
     let (mut s, mut r) = (bytes(registers), bytes(ram));
     let (mut o, mut a) = (bytes(out), numbers(answer));
+    let call = match form {
+        Form::OneByte => humtrellis_picture,
+        Form::Packed => humtrellis_packed_picture,
+    };
     // Safety: each pointer goes with the length of the buffer that it points to.
     let number = unsafe {
-        humtrellis_picture(
+        call(
             part,
             chips0,
             chips1,

@@ -13,6 +13,7 @@ mod last_chip;
 mod library;
 mod merge;
 mod orders;
+mod packed;
 mod part;
 mod plain;
 mod replay;

@@ -1,25 +1,31 @@
-//! Every set of faults at once: which refusal comes first.
+//! Every set of faults at once, over RAM of either form: which refusal comes first.
 
 use crate::case::{first_refusal, refusal_of, Call, Case, PARTS};
+use crate::library::Form;
 use humtrellis_tests::generate::shape;
 use humtrellis_tests::model::{ANSWER, REGISTERS, SET};
 
 const BAD_COUNT: usize = 1;
 const BAD_REGISTER: usize = 2;
 const BAD_LENGTH: usize = 4;
+/// A fault of the one-byte form alone: packed, a byte over 15 has an odd column that is not 0.
 const BAD_COLUMN: usize = 8;
 
-/// Each part with every set of faults.
-fn every_fault() -> impl Iterator<Item = (u8, usize)> {
-    PARTS
-        .into_iter()
-        .flat_map(|part| (0..16).map(move |faults| (part, faults)))
+/// Each form and part with every set of faults.
+fn every_fault() -> impl Iterator<Item = (Form, u8, usize)> {
+    let faulty = |form, part| (0..16).map(move |faults| (form, part, faults));
+    let forms = [Form::OneByte, Form::Packed].into_iter();
+    forms.flat_map(move |form| PARTS.into_iter().flat_map(move |part| faulty(form, part)))
 }
 
 /// A bus of two chips and one, with the faults that the bits of `faults` name.
-fn bus_with(part: u8, faults: usize) -> Case {
+fn bus_with(form: Form, part: u8, faults: usize) -> Case {
     let mut case = Case::new(part, [2, 1]);
     let most = shape(part).subaddresses();
+    if form == Form::Packed {
+        case.form = form;
+        case.ram.truncate(case.ram.len() / 2);
+    }
     if faults & BAD_COUNT != 0 {
         case.chips[1] = most + 1;
     }
@@ -36,28 +42,35 @@ fn bus_with(part: u8, faults: usize) -> Case {
     case
 }
 
-/// The refusal of a bus, or 0: its part comes first.
-fn refusal_of_bus(part: u8, faults: usize, registers_matter: bool) -> u8 {
+/// The refusal of a bus, or 0: its part comes first, and 5 is not there where RAM is packed.
+fn refusal_of_bus(form: Form, part: u8, faults: usize, registers_matter: bool) -> u8 {
     let refusal = |fault, number| if faults & fault != 0 { number } else { 0 };
     let register = if registers_matter {
         refusal(BAD_REGISTER, 6)
     } else {
         0
     };
+    let column = match form {
+        Form::OneByte => refusal(BAD_COLUMN, 5),
+        Form::Packed => 0,
+    };
     first_refusal([
         refusal_of(part),
         refusal(BAD_COUNT, 3),
         register,
         refusal(BAD_LENGTH, 4),
-        refusal(BAD_COLUMN, 5),
+        column,
     ])
 }
 
 #[test]
 fn power_on() {
-    for (part, faults) in every_fault() {
-        let expected = refusal_of_bus(part, faults, false);
-        assert_eq!(bus_with(part, faults).compare(Call::PowerOn), expected);
+    for (form, part, faults) in every_fault() {
+        let expected = refusal_of_bus(form, part, faults, false);
+        assert_eq!(
+            bus_with(form, part, faults).compare(Call::PowerOn),
+            expected
+        );
     }
 }
 
@@ -102,13 +115,13 @@ pub fn transfers() -> Vec<(Vec<u8>, u8, [u8; 2])> {
 
 #[test]
 fn transfer() {
-    for (part, faults) in every_fault() {
+    for (form, part, faults) in every_fault() {
         for (bytes, bits, numbers) in transfers() {
             for (mark, number) in (0..).zip(numbers) {
-                let mut case = bus_with(part, faults);
+                let mut case = bus_with(form, part, faults);
                 case.registers[SET - 1] = mark;
                 (case.bytes, case.bits) = (bytes.clone(), bits);
-                let expected = first_refusal([refusal_of_bus(part, faults, true), number]);
+                let expected = first_refusal([refusal_of_bus(form, part, faults, true), number]);
                 assert_eq!(case.compare(Call::Transfer), expected);
             }
         }
@@ -118,15 +131,15 @@ fn transfer() {
 #[test]
 fn picture() {
     let views = [([0, 0], 0), ([2, 0], 8), ([0, 2], 8), ([255, 255], 8)];
-    for (part, faults) in every_fault() {
+    for (form, part, faults) in every_fault() {
         let right = 2 * shape(part).columns();
         for (shown, number) in views {
             for length in [right, right - 1, right + 1, 0, right / 2, 2 * right] {
-                let mut case = bus_with(part, faults);
+                let mut case = bus_with(form, part, faults);
                 case.shown = shown;
                 case.out = vec![0xEE; length];
                 let wrong = if length == right { 0 } else { 9 };
-                let of_bus = refusal_of_bus(part, faults, true);
+                let of_bus = refusal_of_bus(form, part, faults, true);
                 let expected = first_refusal([of_bus, number, wrong]);
                 assert_eq!(case.compare(Call::Picture), expected);
             }
@@ -147,9 +160,9 @@ fn sizes() {
         (REGISTERS, 0),
         (0, 0),
     ];
-    for (part, faults) in every_fault() {
+    for (form, part, faults) in every_fault() {
         for (registers, answer) in wrong {
-            let mut case = bus_with(part, faults);
+            let mut case = bus_with(form, part, faults);
             case.registers.resize(registers, 200);
             case.answer.resize(answer, 77);
             assert_eq!(case.try_all(), [255; 3]);

@@ -13,6 +13,7 @@ const FALSE: usize = 1 << 44;
 
 /// One chip, and the lengths that are told of its buffers.
 struct Bus {
+    form: Form,
     part: u8,
     chips: u8,
     registers: [u8; REGISTERS],
@@ -25,6 +26,7 @@ struct Bus {
 impl Bus {
     fn new(part: u8) -> Self {
         Bus {
+            form: Form::OneByte,
             part,
             chips: 1,
             registers: [0; REGISTERS],
@@ -32,6 +34,15 @@ impl Bus {
             bytes_length: 2,
             out_length: shape(part).columns(),
             answer: [77; ANSWER],
+        }
+    }
+
+    /// The same over packed RAM.
+    fn packed(part: u8) -> Self {
+        Bus {
+            form: Form::Packed,
+            ram_length: shape(part).columns() / 2,
+            ..Bus::new(part)
         }
     }
 
@@ -44,8 +55,12 @@ impl Bus {
 
     fn power_on(&mut self, expected: u8) {
         let (ram, r, a) = ([0; COLUMNS], &mut self.registers, &mut self.answer);
+        let call = match self.form {
+            Form::OneByte => humtrellis_power_on,
+            Form::Packed => humtrellis_packed_power_on,
+        };
         let number = unsafe {
-            humtrellis_power_on(
+            call(
                 self.part,
                 self.chips,
                 0,
@@ -63,8 +78,12 @@ impl Bus {
     fn transfer(&mut self, expected: u8) {
         let (mut ram, bytes) = ([0; COLUMNS], [0x70, 0x00]);
         let (r, a, ram) = (&mut self.registers, &mut self.answer, ram.as_mut_ptr());
+        let call = match self.form {
+            Form::OneByte => humtrellis_transfer,
+            Form::Packed => humtrellis_packed_transfer,
+        };
         let number = unsafe {
-            humtrellis_transfer(
+            call(
                 self.part,
                 self.chips,
                 0,
@@ -85,8 +104,12 @@ impl Bus {
     fn picture(&mut self, expected: u8) {
         let (ram, mut out) = ([0; COLUMNS], [0xEE; COLUMNS]);
         let (r, a) = (&self.registers, &mut self.answer);
+        let call = match self.form {
+            Form::OneByte => humtrellis_picture,
+            Form::Packed => humtrellis_packed_picture,
+        };
         let number = unsafe {
-            humtrellis_picture(
+            call(
                 self.part,
                 self.chips,
                 0,
@@ -157,9 +180,15 @@ impl Bus {
     }
 }
 
+/// Every part over RAM of either form.
+fn both_forms() -> impl Iterator<Item = Bus> {
+    let forms = |part| [Bus::new(part), Bus::packed(part)];
+    PARTS.into_iter().flat_map(forms)
+}
+
 #[test]
 fn stops_at_ram_length() {
-    for mut bus in PARTS.map(Bus::new) {
+    for mut bus in both_forms() {
         bus.ram_length = FALSE;
         bus.power_on(4);
         bus.transfer(4);
@@ -170,7 +199,7 @@ fn stops_at_ram_length() {
 /// A register comes before the RAM's length, and a chip count before both.
 #[test]
 fn stops_before_ram_length() {
-    for mut bus in PARTS.map(Bus::new) {
+    for mut bus in both_forms() {
         bus.ram_length = FALSE;
         bus.registers[0] = 9;
         bus.transfer(6);
@@ -210,7 +239,7 @@ fn stops_at_wanted_length_of_three() {
 
 #[test]
 fn stops_at_transfer_and_picture_length() {
-    for mut bus in PARTS.map(Bus::new) {
+    for mut bus in both_forms() {
         bus.bytes_length = FALSE;
         bus.transfer(2);
         bus.out_length = FALSE;

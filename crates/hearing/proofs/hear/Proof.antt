@@ -8,6 +8,7 @@ use lib.Seq.{length-take-le}
 use denote.Ref.{now}
 use Rattle.sheet.specs.Parts.{partOf}
 use Rattle.sheet.specs.Long.{begun}
+use Rattle.sheet.specs.Packed.{columnsIn}
 use Rattle.laws.proofs.Wholes.{whole-most}
 use Rattle.hearing.proofs.Hearing.{whole-heard}
 use borrow.Author.Needs.{needs}
@@ -26,7 +27,7 @@ returns : tie.Need-returns
 returns c = let h = c .before .before .before in
     let w = h .before .before .before in
     let a = w .before .before .before .args in
-    whole-heard (partOf (a .part)) (now (a .bytes)) (a .bits) (w .whole-count .result) (w .whole-count .ensures) (begun (a .registers) (now (a .ram))) (h .hear-bytes .result) (h .hear-bytes .last .1 .0)
+    whole-heard (partOf (a .part)) (now (a .bytes)) (a .bits) (w .whole-count .result) (w .whole-count .ensures) (begun (a .registers) (columnsIn (a .packed) (now (a .ram)))) (h .hear-bytes .result) (columnsIn (a .packed) (h .hear-bytes .last .1 .0))
     (h .hear-bytes .ensures .0) (h .hear-bytes .ensures .1) (c .end .result) (c .end .ensures)
 
 pub hear-spec : {M : Type 1} → statement M

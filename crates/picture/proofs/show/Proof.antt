@@ -20,20 +20,20 @@ both e = (ap (λ (k : Drawn). k .out) e, ap (λ (k : Drawn). k .lit) e)
 told : (c : tie.After-first) → let a = c .before .before .before .before .before .args in shown (a .registers) (a .phase) ≡ Rows (c .first .given .0 .0)
 told c = sym (c .before .before .shown .ensures) ∙ c .first .given .1
 
-draw-requires-2 : tie.Need-draw-requires-2
-draw-requires-2 c κs = let f = c .before .before .before in
+draw-in-requires-2 : tie.Need-draw-in-requires-2
+draw-in-requires-2 c κs = let f = c .before .before .before in
     let s = f .before .before .before .before .before in
     let rows = rows-in _ _ _ (s .pre .2) (s .pre .3) (told f) in
     record { size = s .pre .0; below = omega (arith, rows); rows = omega (arith, rows, c .before .backplanes .ensures); most = omega (arith, s .pre .0, s .pre .1) }
 
 returns : tie.Need-returns
 returns c = let t = c .before .before .before .before in
-    both (c .before .before .draw .ensures ∙ ap (λ (p : List ℕ). record { lit = litIn p; out = p }) (dark-picture _ _ _ (sym (t .before .before .shown .ensures) ∙ t .enum-told .given .1)))
+    both (c .before .before .draw-in .ensures ∙ ap (λ (p : List ℕ). record { lit = litIn p; out = p }) (dark-picture _ _ _ (sym (t .before .before .shown .ensures) ∙ t .enum-told .given .1)))
 
 returns-2 : tie.Need-returns-2
 unfolding pictureOf
 returns-2 c = let b = c .before .before .before .before in
-    rw (told (b .before .before), ← (b .backplanes .ensures)) (both (c .before .before .draw2 .ensures))
+    rw (told (b .before .before), ← (b .backplanes .ensures)) (both (c .before .before .draw-in2 .ensures))
 
 pub show-spec : {M : Type 1} → statement M
 show-spec =
@@ -44,7 +44,7 @@ show-spec =
     (λ c κs. let s = c .before .before .before .before .before .before in record { size = s .pre .0; below = omega arith; rows = omega arith; most = omega (arith, s .pre .0, s .pre .1) })
     (λ c. search needs)
     (λ c κs. search needs)
-    draw-requires-2
+    draw-in-requires-2
     (λ c. search needs)
     returns
     (λ c. search needs)

@@ -10,6 +10,7 @@ use Rattle.sheet.specs.declared.Check.{Check}
 use Rattle.sheet.specs.Parts.{partOf}
 use Rattle.sheet.specs.Protocol.{chipsIn}
 use Rattle.sheet.specs.Checks.{unless, orElse, checkPart, checkState, checkPicture}
+use Rattle.sheet.specs.Packed.{columnsIn}
 use Rattle.laws.proofs.First.{then-refused, then-passed}
 use borrow.Author.Needs.{needs}
 use Rattle.refused.proofs.check_picture.Statement.{statement}
@@ -17,7 +18,7 @@ use Rattle.refused.proofs.check_picture.Tie as tie
 
 -- what the call begins with
 abbrev state : (c : tie.Start) → Check
-state c = checkState (partOf (c .args .part)) (c .args .chips) (c .args .registers) (now (c .args .ram))
+state c = checkState (partOf (c .args .part)) (c .args .chips) (c .args .registers) (columnsIn (c .args .packed) (now (c .args .ram)))
 
 abbrev rest : (c : tie.Start) → Check
 rest c = let a = c .args in orElse (unless (ltb (a .group) 2 && ltb (a .phase) 2) GroupOrPhase) (unless (eqb (a .size) (partOf (a .part) .columns * chipsIn (a .group) (a .chips))) OutputLength)

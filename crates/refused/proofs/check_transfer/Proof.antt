@@ -6,6 +6,7 @@ use Rattle.sheet.specs.declared.Check.{Check}
 use Rattle.sheet.specs.Parts.{partOf}
 use Rattle.sheet.specs.Protocol.{heardBy, sent, addressByte}
 use Rattle.sheet.specs.Checks.{orElse, checkPart, checkSent, checkBytes, checkState, checkTransfer}
+use Rattle.sheet.specs.Packed.{columnsIn}
 use Rattle.laws.proofs.First.{then-refused, then-passed}
 use borrow.Author.Needs.{needs}
 use Rattle.refused.proofs.check_transfer.Statement.{statement}
@@ -13,7 +14,7 @@ use Rattle.refused.proofs.check_transfer.Tie as tie
 
 -- what the call begins with
 abbrev state : (c : tie.Start) → Check
-state c = checkState (partOf (c .args .part)) (c .args .chips) (c .args .registers) (now (c .args .ram))
+state c = checkState (partOf (c .args .part)) (c .args .chips) (c .args .registers) (columnsIn (c .args .packed) (now (c .args .ram)))
 
 abbrev rest : (c : tie.Start) → Check
 rest c = let t = sent (now (c .args .bytes)) (c .args .bits) in orElse (checkSent t) (checkBytes (partOf (c .args .part)) (c .args .registers) (heardBy (c .args .chips) (addressByte t)) t)

@@ -1,0 +1,13 @@
+-- `cabi::humtrellis_packed_picture` meets its contract.
+-- Assumes nothing.
+use Rattle.cabi.specs.Calls.{packedPictureC}
+use borrow.Author.Needs.{needs}
+use Rattle.cabi.proofs.humtrellis_packed_picture.Statement.{statement}
+use Rattle.cabi.proofs.humtrellis_packed_picture.Tie as tie
+
+returns : tie.Need-returns
+unfolding packedPictureC
+returns c = c .before .before .before .before .picture .ensures
+
+pub humtrellis-packed-picture-spec : {M : Type 1} → statement M
+humtrellis-packed-picture-spec = tie.close (tie.spec (λ c κs. search needs) (λ c. search needs) (λ c. search needs) returns)

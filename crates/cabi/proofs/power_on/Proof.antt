@@ -1,0 +1,34 @@
+-- `cabi::power_on` meets its contract: the call of the long account, registers written as bytes.
+-- Assumes nothing.
+use mathlib.Core.Path.{refl}
+use Rattle.answers.proofs.Small.{check-small}
+use Rattle.cabi.specs.Calls.{powerOnC}
+use Rattle.cabi.proofs.Sizes.{first-sized, second-sized}
+use borrow.Author.Needs.{needs}
+use Rattle.cabi.proofs.power_on.Statement.{statement}
+use Rattle.cabi.proofs.power_on.Tie as tie
+
+returns : tie.Need-returns
+unfolding powerOnC
+returns c = let put = c .before .before in
+    let said = put .before .before in
+    let both = said .before .before .before in
+    let done = both .before .before .before in
+    rw (done .before .if1 .taken, put .put-numbers .ensures .0, put .put-numbers .ensures .1, said .check-numbers .ensures, both .put-both .ensures, done .power-on-in .ensures)
+
+returns-2 : tie.Need-returns-2
+unfolding powerOnC
+returns-2 c = rw (c .if1 .left) refl
+
+pub power-on-spec : {M : Type 1} → statement M
+power-on-spec =
+    tie.close
+    (tie.spec
+    (λ c κs. tt)
+    (λ c κs. search (needs, first-sized))
+    (λ c κs. tt)
+    (λ c κs. search (needs, second-sized, check-small))
+    (λ c. search needs)
+    (λ c. search needs)
+    returns
+    returns-2)
