@@ -20,6 +20,8 @@ pub mod Either
 pub mod Writer
 pub mod Puts
 pub mod Three
+pub mod Hex
+pub mod Images
 pub mod Pointing
 pub mod Starred
 pub mod Smaller
@@ -34,3 +36,4 @@ pub mod Rescuing
 pub mod Merging
 pub mod Writings
 pub mod Threes
+pub mod Imaging
