@@ -6,9 +6,8 @@ use mathlib.Core.List.{List, [], _∷_, _++_}
 use lib.Dec.{ltb}
 use lib.ListN.{length, take, drop}
 use Rattle.sheet.specs.declared.Chips.{Chips}
-use Rattle.sheet.specs.declared.Check.{Check}
-use Rattle.sheet.specs.Parts.{Part, partOf}
-use Rattle.sheet.specs.Checks.{orElse, checkChips, checkColumns}
+use Rattle.sheet.specs.Parts.{partOf}
+use Rattle.sheet.specs.Checks.{checkPowerOn}
 use Rattle.sheet.specs.Writer.{WrittenAfter, writtenPart}
 
 -- ---- bytes as text: two digits a byte, capitals
@@ -54,14 +53,10 @@ dataLines (suc k) address columns = lineOf (recordOf 0 address (take 16 columns)
 unfoldable pub fileOf : List ℕ → List ℕ
 fileOf ram = dataLines ((length ram + 15) / 16) 0 ram ++ lineOf (recordOf 1 0 [])
 
--- ---- the call: 16, 3, 4, 5, 9
+-- ---- the call: 16, then 3, 4 and 5 as at a power-on of this group alone, then 9
 
 abbrev pub oneGroup : ℕ → Chips
 oneGroup n = record { zero = n; one = 0 }
 
--- 3, 4, 5 of a group's RAM
-unfoldable pub checkGroup : Part → ℕ → List ℕ → Check
-checkGroup K n ram = orElse (checkChips K (oneGroup n)) (checkColumns (K .columns * n) ram)
-
 unfoldable pub hexWritePart : ℕ → ℕ → List ℕ → List ℕ → WrittenAfter
-hexWritePart part n ram out = writtenPart part (checkGroup (partOf part) n ram) (fileOf ram) out
+hexWritePart part n ram out = writtenPart part (checkPowerOn (partOf part) (oneGroup n) ram) (fileOf ram) out

@@ -6,8 +6,8 @@ use lib.Dec.{T}
 use lib.ListN.{take, replicate}
 use Rattle.sheet.specs.Refusals.{checkNumbers, writtenNumbers}
 use Rattle.sheet.specs.Parts.{within, partOf}
-use Rattle.sheet.specs.Checks.{checkPart, checkChips, overIn}
-use Rattle.sheet.specs.Hex.{textOf, sumOf, checksumOf, headOf, recordOf, dataLines, fileOf, checkGroup, hexWritePart}
+use Rattle.sheet.specs.Checks.{checkPart, checkChips, checkRam, checkPowerOn, overIn}
+use Rattle.sheet.specs.Hex.{textOf, sumOf, checksumOf, headOf, recordOf, dataLines, fileOf, hexWritePart}
 use Rattle.sheet.specs.Images.{valueOf, areDigits, bytesOf, digitsIn, lineEnd, endIn, isLine, sizeIn, noneGiven, faultOf, faultIn, missingIn, imageIn, imageFrom, imageOf, checkFile, hexReadPart}
 use Rattle.sheet.specs.Starred.{same}
 use Rattle.sheet.specs.Orders.{Fault, refusal, inOrder, is}
@@ -46,42 +46,71 @@ every (f ∷ fs) =
 abbrev pub files : List File
 files =
     -- two columns in one record; lines that end in CR LF; a record a column, the last first
+    -- :020000000A0FE5\n:00000001FF\n
     file (58 ∷ 48 ∷ 50 ∷ 48 ∷ 48 ∷ 48 ∷ 48 ∷ 48 ∷ 48 ∷ 48 ∷ 65 ∷ 48 ∷ 70 ∷ 69 ∷ 53 ∷ 10 ∷ 58 ∷ 48 ∷ 48 ∷ 48 ∷ 48 ∷ 48 ∷ 48 ∷ 48 ∷ 49 ∷ 70 ∷ 70 ∷ 10 ∷ []) 0 0 (10 ∷ 15 ∷ [])
+    -- :020000000A0FE5\r\n:00000001FF\r\n
     ∷ file (58 ∷ 48 ∷ 50 ∷ 48 ∷ 48 ∷ 48 ∷ 48 ∷ 48 ∷ 48 ∷ 48 ∷ 65 ∷ 48 ∷ 70 ∷ 69 ∷ 53 ∷ 13 ∷ 10 ∷ 58 ∷ 48 ∷ 48 ∷ 48 ∷ 48 ∷ 48 ∷ 48 ∷ 48 ∷ 49 ∷ 70 ∷ 70 ∷ 13 ∷ 10 ∷ []) 0 0 (10 ∷ 15 ∷ [])
+    -- :010001000FEF\n:010000000AF5\n:00000001FF\n
     ∷ file (58 ∷ 48 ∷ 49 ∷ 48 ∷ 48 ∷ 48 ∷ 49 ∷ 48 ∷ 48 ∷ 48 ∷ 70 ∷ 69 ∷ 70 ∷ 10 ∷ 58 ∷ 48 ∷ 49 ∷ 48 ∷ 48 ∷ 48 ∷ 48 ∷ 48 ∷ 48 ∷ 48 ∷ 65 ∷ 70 ∷ 53 ∷ 10 ∷ 58 ∷ 48 ∷ 48 ∷ 48 ∷ 48 ∷ 48 ∷ 48 ∷ 48 ∷ 49 ∷ 70 ∷ 70 ∷ 10 ∷ []) 0 0 (10 ∷ 15 ∷ [])
     -- a data record of length 0 is taken at any address
+    -- :00FFFF0002\n:020000000A0FE5\n:00000001FF\n
     ∷ file (58 ∷ 48 ∷ 48 ∷ 70 ∷ 70 ∷ 70 ∷ 70 ∷ 48 ∷ 48 ∷ 48 ∷ 50 ∷ 10 ∷ 58 ∷ 48 ∷ 50 ∷ 48 ∷ 48 ∷ 48 ∷ 48 ∷ 48 ∷ 48 ∷ 48 ∷ 65 ∷ 48 ∷ 70 ∷ 69 ∷ 53 ∷ 10 ∷ 58 ∷ 48 ∷ 48 ∷ 48 ∷ 48 ∷ 48 ∷ 48 ∷ 48 ∷ 49 ∷ 70 ∷ 70 ∷ 10 ∷ []) 0 0 (10 ∷ 15 ∷ [])
     -- 21: a small letter, no colon, a blank line, a bare CR, a last line with no LF, a CR that no LF follows there
+    -- :020000000a0FE5\n:00000001FF\n
     ∷ file (58 ∷ 48 ∷ 50 ∷ 48 ∷ 48 ∷ 48 ∷ 48 ∷ 48 ∷ 48 ∷ 48 ∷ 97 ∷ 48 ∷ 70 ∷ 69 ∷ 53 ∷ 10 ∷ 58 ∷ 48 ∷ 48 ∷ 48 ∷ 48 ∷ 48 ∷ 48 ∷ 48 ∷ 49 ∷ 70 ∷ 70 ∷ 10 ∷ []) 21 0 (16 ∷ 16 ∷ [])
+    -- ;020000000A0FE5\n:00000001FF\n
     ∷ file (59 ∷ 48 ∷ 50 ∷ 48 ∷ 48 ∷ 48 ∷ 48 ∷ 48 ∷ 48 ∷ 48 ∷ 65 ∷ 48 ∷ 70 ∷ 69 ∷ 53 ∷ 10 ∷ 58 ∷ 48 ∷ 48 ∷ 48 ∷ 48 ∷ 48 ∷ 48 ∷ 48 ∷ 49 ∷ 70 ∷ 70 ∷ 10 ∷ []) 21 0 (16 ∷ 16 ∷ [])
+    -- :020000000A0FE5\n\n:00000001FF\n
     ∷ file (58 ∷ 48 ∷ 50 ∷ 48 ∷ 48 ∷ 48 ∷ 48 ∷ 48 ∷ 48 ∷ 48 ∷ 65 ∷ 48 ∷ 70 ∷ 69 ∷ 53 ∷ 10 ∷ 10 ∷ 58 ∷ 48 ∷ 48 ∷ 48 ∷ 48 ∷ 48 ∷ 48 ∷ 48 ∷ 49 ∷ 70 ∷ 70 ∷ 10 ∷ []) 21 16 (10 ∷ 15 ∷ [])
+    -- :020000000A0FE5\r:00000001FF\n
     ∷ file (58 ∷ 48 ∷ 50 ∷ 48 ∷ 48 ∷ 48 ∷ 48 ∷ 48 ∷ 48 ∷ 48 ∷ 65 ∷ 48 ∷ 70 ∷ 69 ∷ 53 ∷ 13 ∷ 58 ∷ 48 ∷ 48 ∷ 48 ∷ 48 ∷ 48 ∷ 48 ∷ 48 ∷ 49 ∷ 70 ∷ 70 ∷ 10 ∷ []) 21 0 (16 ∷ 16 ∷ [])
+    -- :020000000A0FE5\n:00000001FF
     ∷ file (58 ∷ 48 ∷ 50 ∷ 48 ∷ 48 ∷ 48 ∷ 48 ∷ 48 ∷ 48 ∷ 48 ∷ 65 ∷ 48 ∷ 70 ∷ 69 ∷ 53 ∷ 10 ∷ 58 ∷ 48 ∷ 48 ∷ 48 ∷ 48 ∷ 48 ∷ 48 ∷ 48 ∷ 49 ∷ 70 ∷ 70 ∷ []) 21 16 (10 ∷ 15 ∷ [])
+    -- :020000000A0FE5\n:00000001FF\r
     ∷ file (58 ∷ 48 ∷ 50 ∷ 48 ∷ 48 ∷ 48 ∷ 48 ∷ 48 ∷ 48 ∷ 48 ∷ 65 ∷ 48 ∷ 70 ∷ 69 ∷ 53 ∷ 10 ∷ 58 ∷ 48 ∷ 48 ∷ 48 ∷ 48 ∷ 48 ∷ 48 ∷ 48 ∷ 49 ∷ 70 ∷ 70 ∷ 13 ∷ []) 21 16 (10 ∷ 15 ∷ [])
     -- 21: a byte fewer than the length says, and one more
+    -- :030000000A0FE4\n:00000001FF\n
     ∷ file (58 ∷ 48 ∷ 51 ∷ 48 ∷ 48 ∷ 48 ∷ 48 ∷ 48 ∷ 48 ∷ 48 ∷ 65 ∷ 48 ∷ 70 ∷ 69 ∷ 52 ∷ 10 ∷ 58 ∷ 48 ∷ 48 ∷ 48 ∷ 48 ∷ 48 ∷ 48 ∷ 48 ∷ 49 ∷ 70 ∷ 70 ∷ 10 ∷ []) 21 0 (16 ∷ 16 ∷ [])
+    -- :010000000A0FE6\n:00000001FF\n
     ∷ file (58 ∷ 48 ∷ 49 ∷ 48 ∷ 48 ∷ 48 ∷ 48 ∷ 48 ∷ 48 ∷ 48 ∷ 65 ∷ 48 ∷ 70 ∷ 69 ∷ 54 ∷ 10 ∷ 58 ∷ 48 ∷ 48 ∷ 48 ∷ 48 ∷ 48 ∷ 48 ∷ 48 ∷ 49 ∷ 70 ∷ 70 ∷ 10 ∷ []) 21 0 (16 ∷ 16 ∷ [])
     -- 21: an end record with a length, with an address, and before its checksum's 22
+    -- :0100000100FE\n
     ∷ file (58 ∷ 48 ∷ 49 ∷ 48 ∷ 48 ∷ 48 ∷ 48 ∷ 48 ∷ 49 ∷ 48 ∷ 48 ∷ 70 ∷ 69 ∷ 10 ∷ []) 21 0 (16 ∷ 16 ∷ [])
+    -- :00000101FE\n
     ∷ file (58 ∷ 48 ∷ 48 ∷ 48 ∷ 48 ∷ 48 ∷ 49 ∷ 48 ∷ 49 ∷ 70 ∷ 69 ∷ 10 ∷ []) 21 0 (16 ∷ 16 ∷ [])
+    -- :00010001FF\n
     ∷ file (58 ∷ 48 ∷ 48 ∷ 48 ∷ 49 ∷ 48 ∷ 48 ∷ 48 ∷ 49 ∷ 70 ∷ 70 ∷ 10 ∷ []) 21 0 (16 ∷ 16 ∷ [])
     -- 22, and before 23; 23 of types 02 and 04
+    -- :020000000A0FE4\n:00000001FF\n
     ∷ file (58 ∷ 48 ∷ 50 ∷ 48 ∷ 48 ∷ 48 ∷ 48 ∷ 48 ∷ 48 ∷ 48 ∷ 65 ∷ 48 ∷ 70 ∷ 69 ∷ 52 ∷ 10 ∷ 58 ∷ 48 ∷ 48 ∷ 48 ∷ 48 ∷ 48 ∷ 48 ∷ 48 ∷ 49 ∷ 70 ∷ 70 ∷ 10 ∷ []) 22 0 (16 ∷ 16 ∷ [])
+    -- :00000002FF\n:00000001FF\n
     ∷ file (58 ∷ 48 ∷ 48 ∷ 48 ∷ 48 ∷ 48 ∷ 48 ∷ 48 ∷ 50 ∷ 70 ∷ 70 ∷ 10 ∷ 58 ∷ 48 ∷ 48 ∷ 48 ∷ 48 ∷ 48 ∷ 48 ∷ 48 ∷ 49 ∷ 70 ∷ 70 ∷ 10 ∷ []) 22 0 (16 ∷ 16 ∷ [])
+    -- :00000002FE\n:00000001FF\n
     ∷ file (58 ∷ 48 ∷ 48 ∷ 48 ∷ 48 ∷ 48 ∷ 48 ∷ 48 ∷ 50 ∷ 70 ∷ 69 ∷ 10 ∷ 58 ∷ 48 ∷ 48 ∷ 48 ∷ 48 ∷ 48 ∷ 48 ∷ 48 ∷ 49 ∷ 70 ∷ 70 ∷ 10 ∷ []) 23 0 (16 ∷ 16 ∷ [])
+    -- :020000040000FA\n:00000001FF\n
     ∷ file (58 ∷ 48 ∷ 50 ∷ 48 ∷ 48 ∷ 48 ∷ 48 ∷ 48 ∷ 52 ∷ 48 ∷ 48 ∷ 48 ∷ 48 ∷ 70 ∷ 65 ∷ 10 ∷ 58 ∷ 48 ∷ 48 ∷ 48 ∷ 48 ∷ 48 ∷ 48 ∷ 48 ∷ 49 ∷ 70 ∷ 70 ∷ 10 ∷ []) 23 0 (16 ∷ 16 ∷ [])
     -- 24 of the last data byte, also where the first is 25
+    -- :020000000A0FE5\n:020001000001FC\n:00000001FF\n
     ∷ file (58 ∷ 48 ∷ 50 ∷ 48 ∷ 48 ∷ 48 ∷ 48 ∷ 48 ∷ 48 ∷ 48 ∷ 65 ∷ 48 ∷ 70 ∷ 69 ∷ 53 ∷ 10 ∷ 58 ∷ 48 ∷ 50 ∷ 48 ∷ 48 ∷ 48 ∷ 49 ∷ 48 ∷ 48 ∷ 48 ∷ 48 ∷ 48 ∷ 49 ∷ 70 ∷ 67 ∷ 10 ∷ 58 ∷ 48 ∷ 48 ∷ 48 ∷ 48 ∷ 48 ∷ 48 ∷ 48 ∷ 49 ∷ 70 ∷ 70 ∷ 10 ∷ []) 24 16 (10 ∷ 15 ∷ [])
     -- 25, also before 5; 5, also before a later record's 21
+    -- :020000000A0FE5\n:010001000FEF\n:00000001FF\n
     ∷ file (58 ∷ 48 ∷ 50 ∷ 48 ∷ 48 ∷ 48 ∷ 48 ∷ 48 ∷ 48 ∷ 48 ∷ 65 ∷ 48 ∷ 70 ∷ 69 ∷ 53 ∷ 10 ∷ 58 ∷ 48 ∷ 49 ∷ 48 ∷ 48 ∷ 48 ∷ 49 ∷ 48 ∷ 48 ∷ 48 ∷ 70 ∷ 69 ∷ 70 ∷ 10 ∷ 58 ∷ 48 ∷ 48 ∷ 48 ∷ 48 ∷ 48 ∷ 48 ∷ 48 ∷ 49 ∷ 70 ∷ 70 ∷ 10 ∷ []) 25 16 (10 ∷ 15 ∷ [])
+    -- :020000000A0FE5\n:0100010010EE\n:00000001FF\n
     ∷ file (58 ∷ 48 ∷ 50 ∷ 48 ∷ 48 ∷ 48 ∷ 48 ∷ 48 ∷ 48 ∷ 48 ∷ 65 ∷ 48 ∷ 70 ∷ 69 ∷ 53 ∷ 10 ∷ 58 ∷ 48 ∷ 49 ∷ 48 ∷ 48 ∷ 48 ∷ 49 ∷ 48 ∷ 48 ∷ 49 ∷ 48 ∷ 69 ∷ 69 ∷ 10 ∷ 58 ∷ 48 ∷ 48 ∷ 48 ∷ 48 ∷ 48 ∷ 48 ∷ 48 ∷ 49 ∷ 70 ∷ 70 ∷ 10 ∷ []) 25 16 (10 ∷ 15 ∷ [])
+    -- :0100010010EE\n;\n
     ∷ file (58 ∷ 48 ∷ 49 ∷ 48 ∷ 48 ∷ 48 ∷ 49 ∷ 48 ∷ 48 ∷ 49 ∷ 48 ∷ 69 ∷ 69 ∷ 10 ∷ 59 ∷ 10 ∷ []) 5 0 (16 ∷ 16 ∷ [])
     -- 27: an empty file, no end record, bytes after it, and before 26; 26
+    -- empty
     ∷ file ([]) 27 0 (16 ∷ 16 ∷ [])
+    -- :020000000A0FE5\n
     ∷ file (58 ∷ 48 ∷ 50 ∷ 48 ∷ 48 ∷ 48 ∷ 48 ∷ 48 ∷ 48 ∷ 48 ∷ 65 ∷ 48 ∷ 70 ∷ 69 ∷ 53 ∷ 10 ∷ []) 27 0 (10 ∷ 15 ∷ [])
+    -- :020000000A0FE5\n:00000001FF\n\n
     ∷ file (58 ∷ 48 ∷ 50 ∷ 48 ∷ 48 ∷ 48 ∷ 48 ∷ 48 ∷ 48 ∷ 48 ∷ 65 ∷ 48 ∷ 70 ∷ 69 ∷ 53 ∷ 10 ∷ 58 ∷ 48 ∷ 48 ∷ 48 ∷ 48 ∷ 48 ∷ 48 ∷ 48 ∷ 49 ∷ 70 ∷ 70 ∷ 10 ∷ 10 ∷ []) 27 0 (10 ∷ 15 ∷ [])
+    -- :00000001FF\nx
     ∷ file (58 ∷ 48 ∷ 48 ∷ 48 ∷ 48 ∷ 48 ∷ 48 ∷ 48 ∷ 49 ∷ 70 ∷ 70 ∷ 10 ∷ 120 ∷ []) 27 0 (16 ∷ 16 ∷ [])
+    -- :00000001FF\n
     ∷ file (58 ∷ 48 ∷ 48 ∷ 48 ∷ 48 ∷ 48 ∷ 48 ∷ 48 ∷ 49 ∷ 70 ∷ 70 ∷ 10 ∷ []) 26 0 (16 ∷ 16 ∷ [])
+    -- :010000000AF5\n:00000001FF\n
     ∷ file (58 ∷ 48 ∷ 49 ∷ 48 ∷ 48 ∷ 48 ∷ 48 ∷ 48 ∷ 48 ∷ 48 ∷ 65 ∷ 70 ∷ 53 ∷ 10 ∷ 58 ∷ 48 ∷ 48 ∷ 48 ∷ 48 ∷ 48 ∷ 48 ∷ 48 ∷ 49 ∷ 70 ∷ 70 ∷ 10 ∷ []) 26 1 (10 ∷ 16 ∷ [])
     ∷ []
 
@@ -123,5 +152,5 @@ inside-record =
     (λ f. checkNumbers (faultIn (16 ∷ 16 ∷ 16 ∷ cond (is f 4) 5 16 ∷ []) 7 (record-of f)))
 
 pub imaging : T (same (fileOf columns) written && (every files && (writing && (reading && inside-record))))
-unfolding partOf checkPart checkChips overIn textOf sumOf recordOf dataLines fileOf checkGroup hexWritePart within valueOf areDigits bytesOf digitsIn lineEnd endIn isLine sizeIn noneGiven faultOf missingIn imageIn imageFrom imageOf checkFile hexReadPart
+unfolding partOf checkPart checkChips checkRam checkPowerOn overIn textOf sumOf recordOf dataLines fileOf hexWritePart within valueOf areDigits bytesOf digitsIn lineEnd endIn isLine sizeIn noneGiven faultOf missingIn imageIn imageFrom imageOf checkFile hexReadPart
 imaging = tt
