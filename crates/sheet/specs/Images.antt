@@ -83,12 +83,19 @@ unfoldable pub noneGiven : List ℕ → Bool
 noneGiven [] = true
 noneGiven (q ∷ qs) = ltb 15 q && noneGiven qs
 
--- its fault, by what was given before it: 21 of an end record, 22, 23, 24, 25, then 5
-unfoldable pub faultOf : List ℕ → ℕ → List ℕ → Check
-faultOf given at bytes =
-    orElse (unless (endForm bytes) (RecordForm at)) (orElse (unless (eqb (sumOf bytes % 256) 0) (Checksum at))
-    (orElse (unless (leb (kindOf bytes) 1) (RecordType at)) (orElse (unless (inside given bytes) (AddressOutside at))
-    (orElse (unless (noneGiven (take (countOf bytes) (drop (addressOf bytes) given))) (AddressTwice at)) (unless (passed (overIn 0 (dataOf bytes))) (RamByte at))))))
+-- 21 of an end record, 22, 23
+unfoldable pub headFault : ℕ → List ℕ → Check
+headFault at bytes =
+    orElse (unless (endForm bytes) (RecordForm at)) (orElse (unless (eqb (sumOf bytes % 256) 0) (Checksum at)) (unless (leb (kindOf bytes) 1) (RecordType at)))
+
+-- 24, 25 by what was given before it, then 5: each over all its data bytes
+unfoldable pub dataFault : List ℕ → ℕ → List ℕ → Check
+dataFault given at bytes =
+    orElse (unless (inside given bytes) (AddressOutside at))
+    (orElse (unless (noneGiven (take (countOf bytes) (drop (addressOf bytes) given))) (AddressTwice at)) (unless (passed (overIn 0 (dataOf bytes))) (RamByte at)))
+
+abbrev pub faultOf : List ℕ → ℕ → List ℕ → Check
+faultOf given at bytes = orElse (headFault at bytes) (dataFault given at bytes)
 
 -- what is given after it
 abbrev pub stored : List ℕ → List ℕ → List ℕ

@@ -8,7 +8,7 @@ use Rattle.sheet.specs.Refusals.{checkNumbers, writtenNumbers}
 use Rattle.sheet.specs.Parts.{within, partOf}
 use Rattle.sheet.specs.Checks.{checkPart, checkChips, checkRam, checkPowerOn, overIn}
 use Rattle.sheet.specs.Hex.{textOf, sumOf, checksumOf, headOf, recordOf, dataLines, fileOf, hexWritePart}
-use Rattle.sheet.specs.Images.{valueOf, areDigits, bytesOf, digitsIn, lineEnd, endIn, isLine, sizeIn, noneGiven, faultOf, faultIn, missingIn, imageIn, imageFrom, imageOf, checkFile, hexReadPart}
+use Rattle.sheet.specs.Images.{valueOf, areDigits, bytesOf, digitsIn, lineEnd, endIn, isLine, sizeIn, noneGiven, headFault, dataFault, faultIn, missingIn, imageIn, imageFrom, imageOf, checkFile, hexReadPart}
 use Rattle.sheet.specs.Starred.{same}
 use Rattle.sheet.specs.Orders.{Fault, refusal, inOrder, is}
 
@@ -152,5 +152,5 @@ inside-record =
     (λ f. checkNumbers (faultIn (16 ∷ 16 ∷ 16 ∷ cond (is f 4) 5 16 ∷ []) 7 (record-of f)))
 
 pub imaging : T (same (fileOf columns) written && (every files && (writing && (reading && inside-record))))
-unfolding partOf checkPart checkChips checkRam checkPowerOn overIn textOf sumOf recordOf dataLines fileOf hexWritePart within valueOf areDigits bytesOf digitsIn lineEnd endIn isLine sizeIn noneGiven faultOf missingIn imageIn imageFrom imageOf checkFile hexReadPart
+unfolding partOf checkPart checkChips checkRam checkPowerOn overIn textOf sumOf recordOf dataLines fileOf hexWritePart within valueOf areDigits bytesOf digitsIn lineEnd endIn isLine sizeIn noneGiven headFault dataFault missingIn imageIn imageFrom imageOf checkFile hexReadPart
 imaging = tt
