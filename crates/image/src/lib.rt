@@ -6,11 +6,12 @@ use sheet::Refusal;
 use sheet::Written;
 ghost use mathlib.Core.Path.{_≡_};
 ghost use Prim.Native.Nat.{_+_, _*_, _%_, _/_, _≤_, _<_};
-ghost use lib.ListN.{length, drop};
+ghost use lib.ListN.{length, drop, replicate};
 ghost use Rattle.sheet.specs.Refusals.{writtenNumbers};
 ghost use Rattle.sheet.specs.Hex.{dataLines, fileOf, oneGroup, hexWritePart};
 ghost use Rattle.sheet.specs.Images.{image, missingIn, ended, imageFrom, checkFile, hexReadPart};
 ghost use Rattle.text.specs.Texts.{Puts};
+ghost use Rattle.image.specs.Room.{Room};
 
 // The chips of one group, of which there is no other.
 fn one_group(chips: u8) -> Chips
@@ -26,7 +27,7 @@ fn one_group(chips: u8) -> Chips
 
 // The data records of whole sixteens of columns.
 fn put_data(out: &mut [u8], ram: &[u8]) -> usize
-    requires { ⌜ (length (now ram) % 16 ≡ 0) × (length (now ram) < 65536) × (length (dataLines ((length (now ram) + 15) / 16) 0 (now ram)) ≤ length (now out)) ⌝ }
+    requires { ⌜ Room (now ram) (dataLines ((length (now ram) + 15) / 16) 0 (now ram)) (now out) ⌝ }
     ensures { λ r. ⌜ Puts 0 (dataLines ((length (now (ram .entry)) + 15) / 16) 0 (now (ram .entry))) (now (out .entry)) (now (out .exit)) r ⌝ }
 {
     let mut place = 0;
@@ -41,7 +42,7 @@ fn put_data(out: &mut [u8], ram: &[u8]) -> usize
 
 // They and the end record.
 fn put_file(out: &mut [u8], ram: &[u8]) -> usize
-    requires { ⌜ (length (now ram) % 16 ≡ 0) × (length (now ram) < 65536) × (length (fileOf (now ram)) ≤ length (now out)) ⌝ }
+    requires { ⌜ Room (now ram) (fileOf (now ram)) (now out) ⌝ }
     ensures { λ r. ⌜ Puts 0 (fileOf (now (ram .entry))) (now (out .entry)) (now (out .exit)) r ⌝ }
 {
     let end = put_data(out, ram);
@@ -140,6 +141,13 @@ fn check_file(part: u8, chips: u8, file: usize, out: usize) -> Check
     }
 }
 
+// No column is given yet.
+fn none_given() -> [u8; 640]
+    ensures { λ r. ⌜ r ≡ replicate 640 16 ⌝ }
+{
+    [16; 640]
+}
+
 // A group's RAM from Intel HEX. What the records give is kept apart until the last of them is checked, so that a refused file changes nothing.
 // Refused by 16, 3, 14, 4, by the first faulty record (21 to 25, then 5), by 27, then 26.
 pub fn read(part: u8, chips: u8, file: &[u8], ram: &mut [u8]) -> Written
@@ -149,7 +157,7 @@ pub fn read(part: u8, chips: u8, file: &[u8], ram: &mut [u8]) -> Written
     match check_file(part, chips, file.len(), ram.len()) {
         Check::Refused(refusal) => Written::Refused(refusal),
         Check::Passed => {
-            let mut given = [16u8; 640];
+            let mut given = none_given();
             let size = ram.len();
             match read_records(file, &mut given[..size]) {
                 Check::Refused(refusal) => Written::Refused(refusal),
