@@ -22,6 +22,7 @@ pub mod Puts
 pub mod Three
 pub mod Hex
 pub mod Images
+pub mod Covered
 pub mod Pointing
 pub mod Starred
 pub mod Smaller

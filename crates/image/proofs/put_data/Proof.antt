@@ -7,7 +7,7 @@ use native.Mathlib.Omega.{arith}
 use lib.ListN.{length, take, drop, length-take}
 use Rattle.sheet.specs.Hex.{recordOf, lineOf, dataLines}
 use Rattle.text.proofs.Writing.{Writing, begin, rest-is, turn, done, room-for, puts-length}
-use Rattle.image.proofs.Sizes.{linesFrom, one-line, no-line}
+use Rattle.imagelaws.proofs.Sizes.{linesFrom, one-line, no-line}
 use borrow.Author.Needs.{needs}
 use Rattle.image.proofs.put_data.Statement.{statement}
 use Rattle.image.proofs.put_data.Tie as tie

@@ -14,8 +14,8 @@ use Rattle.sheet.specs.Parts.{partOf}
 use Rattle.sheet.specs.Writer.{WrittenAfter}
 use Rattle.sheet.specs.Images.{Image, image, imageFrom, imageOf, checkFile}
 use Rattle.laws.proofs.Written.{numbered}
-use Rattle.image.proofs.Sizes.{Asked, asked-of}
-use Rattle.image.proofs.Answers.{take-replicate, not-read, faulty, all-read}
+use Rattle.imagelaws.proofs.Sizes.{Asked, asked-of}
+use Rattle.imagelaws.proofs.Answers.{take-replicate, not-read, faulty, all-read}
 use borrow.Author.Needs.{needs}
 use Rattle.image.proofs.read.Statement.{statement}
 use Rattle.image.proofs.read.Tie as tie

@@ -17,7 +17,7 @@ use Rattle.sheet.specs.Checks.{orElse, checkPart, checkPowerOn}
 use Rattle.sheet.specs.Hex.{fileOf, oneGroup, hexWritePart}
 use Rattle.text.specs.Texts.{written}
 use Rattle.laws.proofs.Written as calls
-use Rattle.image.proofs.Sizes.{Group, group-of, length-file}
+use Rattle.imagelaws.proofs.Sizes.{Group, group-of, length-file}
 use borrow.Author.Needs.{needs}
 use Rattle.image.proofs.write.Statement.{statement}
 use Rattle.image.proofs.write.Tie as tie
@@ -36,7 +36,7 @@ checked c k e = let a = c .before .before .before .before .args in
 passes : (t : tie.After-enum-told) → let a = t .before .before .before .before .before .before .args in orElse (checkPart (a .part)) (checkPowerOn (partOf (a .part)) (oneGroup (a .chips)) (now (a .ram))) ≡ Passed
 passes t = checked (t .before .before) Passed (t .enum-told .given .1)
 
-group : (t : tie.After-enum-told) → Group (now (t .before .before .before .before .before .before .args .ram))
+group : (t : tie.After-enum-told) → let a = t .before .before .before .before .before .before .args in Group (a .part) (a .chips) (now (a .ram))
 group t = let a = t .before .before .before .before .before .before .args in group-of (a .part) (a .chips) (now (a .ram)) (passes t)
 
 size-is : (c : tie.After-file-size) → c .file-size .result ≡ length (fileOf (now (c .before .before .before .before .before .before .before .args .ram)))

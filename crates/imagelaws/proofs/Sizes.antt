@@ -1,6 +1,6 @@
 -- How long a file is, and its data lines one after the other; what the checks leave of a group's RAM.
 -- Assumes nothing.
-use mathlib.Core.Path.{_≡_, refl, sym, ap, ap₂, _∙_}
+use mathlib.Core.Path.{_≡_, ap, _∙_}
 use mathlib.Core.List.{List, [], _∷_, _++_}
 use Prim.Native.Nat.{ℕ, zero, suc, _+_, _-_, _*_, _/_, _%_, _≤_, _<_}
 use native.Mathlib.Nat.{add-zero}
@@ -17,6 +17,7 @@ use Rattle.sheet.specs.Hex.{recordOf, lineOf, dataLines, fileOf, oneGroup}
 use Rattle.sheet.specs.Images.{checkFile}
 use Rattle.laws.proofs.Fits.{both-pass, unless-passes, few-chips}
 use Rattle.laws.proofs.Named.{of-both, ram-small}
+use Rattle.laws.proofs.Nibbles.{Nibbles, nibbles-of}
 use Rattle.laws.proofs.Hexadecimal.{length-line}
 
 -- ---- the file
@@ -51,23 +52,31 @@ no-line ram address h = let none : (length ram - address + 15) / 16 ≡ 0 = omeg
 
 -- ---- a group's RAM that passed: whole sixteens, and 640 columns at most
 
-pub record Group (ram : List ℕ) : Type 0 where
+pub record Group (part n : ℕ) (ram : List ℕ) : Type 0 where
+  pub chips : checkChips (partOf part) (oneGroup n) ≡ Passed
+  pub size : length ram ≡ partOf part .columns * n
+  pub low : Nibbles ram
   pub sixteens : length ram % 16 ≡ 0
   pub few : length ram ≤ 640
 
 sixteens-of : (part n : ℕ) → (partOf part .columns * n) % 16 ≡ 0
 sixteens-of part n = of-both (λ (K : Part). (K .columns * n) % 16 ≡ 0) part (omega arith) (omega arith)
 
-pub group-of : (part n : ℕ) (ram : List ℕ) → orElse (checkPart part) (checkPowerOn (partOf part) (oneGroup n) ram) ≡ Passed → Group ram
+pub group-of : (part n : ℕ) (ram : List ℕ) → orElse (checkPart part) (checkPowerOn (partOf part) (oneGroup n) ram) ≡ Passed → Group part n ram
 unfolding checkPowerOn checkRam
 group-of part n ram e =
     let K = partOf part in
     let s = both-pass (checkPart part) _ e .1 in
     let t = both-pass (checkChips K (oneGroup n)) _ s in
     let u = both-pass (unless (eqb (length ram) (K .columns * (n + 0))) RamLength) (overIn 0 ram) (t .1) in
-    let few = few-chips K (oneGroup n) (t .0) .0 in
     let size : length ram ≡ K .columns * n = eqb-true (length ram) (K .columns * (n + 0)) (unless-passes _ RamLength (u .0)) ∙ ap (λ (k : ℕ). K .columns * k) (add-zero n) in
-    record { sixteens = ap (λ (k : ℕ). k % 16) size ∙ sixteens-of part n; few = omega (arith, size, ram-small part n few) }
+    record {
+      chips = t .0;
+      size = size;
+      low = nibbles-of 0 ram (u .1);
+      sixteens = ap (λ (k : ℕ). k % 16) size ∙ sixteens-of part n;
+      few = omega (arith, size, ram-small part n (few-chips K (oneGroup n) (t .0) .0));
+    }
 
 -- ---- a file that is to be read: its length, and the output's
 
