@@ -99,6 +99,9 @@ files =
     ∷ file (58 ∷ 48 ∷ 50 ∷ 48 ∷ 48 ∷ 48 ∷ 48 ∷ 48 ∷ 48 ∷ 48 ∷ 65 ∷ 48 ∷ 70 ∷ 69 ∷ 53 ∷ 10 ∷ 58 ∷ 48 ∷ 49 ∷ 48 ∷ 48 ∷ 48 ∷ 49 ∷ 48 ∷ 48 ∷ 49 ∷ 48 ∷ 69 ∷ 69 ∷ 10 ∷ 58 ∷ 48 ∷ 48 ∷ 48 ∷ 48 ∷ 48 ∷ 48 ∷ 48 ∷ 49 ∷ 70 ∷ 70 ∷ 10 ∷ []) 25 16 (10 ∷ 15 ∷ [])
     -- :0100010010EE\n;\n
     ∷ file (58 ∷ 48 ∷ 49 ∷ 48 ∷ 48 ∷ 48 ∷ 49 ∷ 48 ∷ 48 ∷ 49 ∷ 48 ∷ 69 ∷ 69 ∷ 10 ∷ 59 ∷ 10 ∷ []) 5 0 (16 ∷ 16 ∷ [])
+    -- 25 before a later 27
+    -- :020000000A0FE5\n:010001000FEF\n
+    ∷ file (58 ∷ 48 ∷ 50 ∷ 48 ∷ 48 ∷ 48 ∷ 48 ∷ 48 ∷ 48 ∷ 48 ∷ 65 ∷ 48 ∷ 70 ∷ 69 ∷ 53 ∷ 10 ∷ 58 ∷ 48 ∷ 49 ∷ 48 ∷ 48 ∷ 48 ∷ 49 ∷ 48 ∷ 48 ∷ 48 ∷ 70 ∷ 69 ∷ 70 ∷ 10 ∷ []) 25 16 (10 ∷ 15 ∷ [])
     -- 27: an empty file, no end record, bytes after it, and before 26; 26
     -- empty
     ∷ file ([]) 27 0 (16 ∷ 16 ∷ [])
@@ -151,6 +154,10 @@ inside-record =
     inOrder (refusal 21 7 ∷ refusal 22 7 ∷ refusal 23 7 ∷ refusal 24 7 ∷ refusal 25 7 ∷ refusal 5 7 ∷ [])
     (λ f. checkNumbers (faultIn (16 ∷ 16 ∷ 16 ∷ cond (is f 4) 5 16 ∷ []) 7 (record-of f)))
 
-pub imaging : T (same (fileOf columns) written && (every files && (writing && (reading && inside-record))))
+-- what was given before a fault in the last record is not in the output
+abbrev refused-late : Bool
+refused-late = same (hexReadPart 1 1 (take 44 written ++ (10 ∷ [])) (replicate 80 9) .out) (replicate 80 9)
+
+pub imaging : T (same (fileOf columns) written && (every files && (writing && (reading && (inside-record && refused-late)))))
 unfolding partOf checkPart checkChips checkRam checkPowerOn overIn textOf sumOf recordOf dataLines fileOf hexWritePart within valueOf areDigits bytesOf digitsIn lineEnd endIn isLine sizeIn noneGiven headFault dataFault missingIn imageIn imageFrom imageOf checkFile hexReadPart
 imaging = tt
