@@ -10,6 +10,10 @@ pub address-of-spec : {M : Type 1} → statement M
 address-of-spec =
     tie.close
     (tie.spec
-    (λ c. search needs) (λ c. omega (arith, c .shared-slice-known .given 1)) (λ c. omega (arith, c .shared-slice-known .given 1))
-    (λ c. search needs) (λ c. omega (arith, c .shared-slice-known2 .given 2)) (λ c. omega (arith, c .before .shared-slice-known .given 1, c .shared-slice-known2 .given 2))
-    (λ c. (refl, omega (arith, c .before .shared-slice-known .given 1, c .shared-slice-known2 .given 2))))
+    (λ c. search needs)
+    (λ c. omega (arith, c .shared-slice-known .given 1, c .shared-slice-known .given 2))
+    (λ c. omega (arith, c .shared-slice-known .given 1, c .shared-slice-known .given 2))
+    (λ c. search needs)
+    (λ c. omega (arith, c .shared-slice-known2 .given 1, c .shared-slice-known2 .given 2))
+    (λ c. omega (arith, c .shared-slice-known2 .given 1, c .shared-slice-known2 .given 2))
+    (λ c. (refl, omega (arith, c .shared-slice-known2 .given 1, c .shared-slice-known2 .given 2))))
