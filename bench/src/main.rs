@@ -1,6 +1,7 @@
 //! Times the proved library, the independent model and a table loop side by side; docs/SPEED.md says what is printed.
 
 mod agree;
+mod images;
 mod library;
 mod measure;
 mod replay;
@@ -21,6 +22,7 @@ fn run() -> Result<(), String> {
     let writings = measure::all(&samples::filled(), measure::writings);
     report::writings(&writings);
     replay::run()?;
+    images::run()?;
     report::targets(&transfers, &pictures, &writings);
     Ok(())
 }

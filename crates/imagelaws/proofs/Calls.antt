@@ -7,9 +7,10 @@ use Prim.Native.Nat.{ℕ, _+_, _*_, _/_, _≤_}
 use native.Mathlib.Omega.{arith}
 use lib.ListN.{length, take, drop}
 use lib.Seq.{take-at}
-use borrow.Author.Tests.{le-leb, eq-eqb}
+use borrow.Author.Tests.{le-leb, leb-true, eq-eqb}
 use Rattle.sheet.specs.declared.Written.{Written}
 use Rattle.sheet.specs.declared.Refusal.{Refusal}
+use Rattle.sheet.specs.declared.Refusal.the-variants.{OutputLength}
 use Rattle.sheet.specs.declared.Check.{Check}
 use Rattle.sheet.specs.declared.Check.the-variants.{Passed, Refused}
 use Rattle.sheet.specs.Parts.{partOf}
@@ -18,7 +19,7 @@ use Rattle.sheet.specs.Writer.{WrittenAfter, writtenBy, checkRoom}
 use Rattle.sheet.specs.Hex.{fileOf, oneGroup, hexWritePart}
 use Rattle.sheet.specs.Images.{image, imageOf, checkFile, hexReadPart}
 use Rattle.sheet.specs.Covered.{GivesBack, Untouched}
-use Rattle.laws.proofs.Fits.{both-pass}
+use Rattle.laws.proofs.Fits.{both-pass, unless-passes}
 use Rattle.laws.proofs.First.{or-else}
 use Rattle.imagelaws.proofs.Sizes.{Group, group-of, length-file}
 use Rattle.imagelaws.proofs.Answers.{all-read}
@@ -37,6 +38,18 @@ wrote : (k : Check) (text out : List ℕ) (size : ℕ) → writtenBy k text out 
 unfolding is-taken bytes-in
 wrote Passed text out size e = (refl, take-at text (drop (length text) out) size (ap bytes-in e))
 wrote (Refused r) text out size e = absurd (true≢false (sym (ap is-taken e)))
+
+-- and what it wrote lies inside the output
+pub written-inside : (part n : ℕ) (ram out : List ℕ) (size : ℕ) → hexWritePart part n ram out .result ≡ Written.Bytes size → size ≤ length out
+unfolding hexWritePart is-taken bytes-in
+written-inside part n ram out size e =
+    let wants = checkPowerOn (partOf part) (oneGroup n) ram in
+    let room = checkRoom (fileOf ram) (length out) in
+    let k = orElse (checkPart part) (orElse wants room) in
+    let passes = wrote k (fileOf ram) out size e .0 in
+    let fits = leb-true (length (fileOf ram)) (length out) (unless-passes _ OutputLength (both-pass wants room (both-pass (checkPart part) (orElse wants room) passes .1) .1)) in
+    let same : length (fileOf ram) ≡ size = ap bytes-in (sym (ap (λ (c : Check). writtenBy c (fileOf ram) out .result) passes) ∙ e) in
+    omega arith
 
 -- a group's file is short enough to be read, for as many columns
 can-read : (part n : ℕ) (ram back : List ℕ) → checkPart part ≡ Passed → Group part n ram → length back ≡ length ram → checkFile part n (length (fileOf ram)) (length back) ≡ Passed

@@ -2,26 +2,14 @@
 use records::Cursor;
 use records::Record;
 use sheet::Both;
-use sheet::Check;
 use sheet::Chips;
 ghost use mathlib.Core.Path.{_≡_};
-ghost use lib.ListN.{replicate};
 ghost use Rattle.sheet.specs.Parts.{pcf8532};
-ghost use Rattle.sheet.specs.Long.{stateOf, stateAfterAll};
-ghost use Rattle.sheet.specs.Logs.{logTransfers, checkLog};
-
-// 14, 12, 3, then 13 and 20, as a replay checks a log.
-pub fn check_log(log: &[u8]) -> Check
-    ensures { λ r. ⌜ r ≡ checkLog (now (log .entry)) ⌝ }
-{
-    match records::check_head(log) {
-        Check::Refused(refusal) => Check::Refused(refusal),
-        Check::Passed => records::check_records(log),
-    }
-}
+ghost use Rattle.sheet.specs.Long.{bothOn, stateOf, stateAfterAll};
+ghost use Rattle.sheet.specs.Logs.{logChips, logTransfers};
 
 // Carries out the transfers of a log's whole records.
-pub fn carry_out(log: &[u8], chips: Chips, initial: Both, ram: &mut [u8])
+fn carry_out(log: &[u8], chips: Chips, initial: Both, ram: &mut [u8])
     ensures { λ _. ⌜ now (ram .exit) ≡ stateAfterAll pcf8532 chips (stateOf initial (now (ram .entry))) (logTransfers (now (log .entry))) .ram ⌝ }
 {
     let seen = records::seen_bytes(log);
@@ -38,4 +26,13 @@ pub fn carry_out(log: &[u8], chips: Chips, initial: Both, ram: &mut [u8])
         registers = done.registers;
         cursor = Cursor { at: end, seen };
     }
+}
+
+// From power-on, in the RAM of the log's own chips.
+pub fn leave(log: &[u8], ram: &mut [u8])
+    ensures { λ _. ⌜ now (ram .exit) ≡ stateAfterAll pcf8532 (logChips (now (log .entry))) (stateOf bothOn (now (ram .entry))) (logTransfers (now (log .entry))) .ram ⌝ }
+{
+    let chips = records::chips_of(log);
+    let start = long::power_on(sheet::PCF8532, chips, ram);
+    carry_out(log, chips, start.registers, ram);
 }

@@ -56,18 +56,35 @@ told c = let read = c .before .before .before .before in
     c .transfer .ensures .0 ∙ zero-transfer _ _ _ _
     ∙ ap (λ (k : ℕ). transferCall pcf8532 (a .chips) (p .loop .registers) (p .loop .ram) (whole (take (start + read .start .given .0 .1 .0 - (start + k)) (drop (start + k) log)))) (p .before .seen-bytes .ensures)
 
-loop-holds : tie.Need-loop-holds Inv-loop μ-loop
-loop-holds c = ?
+add-end : tie.Need-add-end Inv-loop μ-loop
+add-end c = omega (arith, next (c .before) .inside)
+
+add-from : tie.Need-add-from Inv-loop μ-loop
+add-from c = omega (arith, next (c .before) .inside, seen-few (c .before))
+
+part-transfer-end : tie.Need-part-transfer-end Inv-loop μ-loop
+part-transfer-end c = omega (arith, next (c .before .before) .inside)
 
 loop-less : tie.Need-loop-less Inv-loop μ-loop
-loop-less c = ?
+loop-less c = let n = next (c .before .before .before .before .before .before .before) in omega (arith, n .inside, n .begins)
 
 loop-again : tie.Need-loop-again Inv-loop μ-loop
-loop-again c = ?
+loop-again c = let t = c .before .before .before in
+    let read = t .before .before .before .before in
+    let p = read .before .before .before in
+    (next-record (p .loop .inv .0) (next read) (told t) (t .transfer .kept .1 .1 .1 .0), p .before .seen-bytes .ensures)
 
 returns : tie.Need-returns Inv-loop μ-loop
 unfolding stateAfterAll
-returns c = ?
+returns c = let p = c .before .before in
+    let log = p .before .before .before .before .args .log .now in
+    let over = none-left (seenBytes log) log (p .loop .cursor .at) (c .before .read .result) (read-at (c .before)) (c .match .keys2) in
+    ap (λ (s : State). s .ram) (rw over at (p .loop .inv .0 .state))
 
 pub carry-out-spec : {M : Type 1} → statement M
-carry-out-spec = ?
+carry-out-spec =
+    tie.close
+    (tie.spec
+    Inv-loop μ-loop (λ c κs. search needs) (λ c. (record { state = refl; long = refl }, c .seen-bytes .ensures))
+    (λ c κs. search needs) (λ c. search needs) add-end add-from (λ c. omega (arith, seen-few (c .before .before))) (λ c. omega (arith, seen-few (c .before .before))) part-transfer-end
+    (λ c κs. search needs) loop-less loop-again (λ c. c .before .before .loop .inv .0 .long) returns)
