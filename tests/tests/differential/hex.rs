@@ -14,8 +14,7 @@ use humtrellis_tests::random::Random;
 use std::collections::BTreeSet;
 
 const PCA85133: u8 = 1;
-/// Columns of a chip, and the most chips of a group, by part.
-const COLUMNS: [usize; 2] = [160, 80];
+/// The most chips of a group, by part.
 const MOST: [u8; 2] = [4, 8];
 
 #[derive(Clone, Copy, Debug, PartialEq)]
@@ -244,14 +243,14 @@ fn damaged_reading(random: &mut Random, faults: usize) -> Exchange {
 
 #[test]
 fn hex_one_fault() {
-    for_seeds(6000, |random| {
+    for_seeds(4000, |random| {
         damaged_reading(random, 1).compare();
     });
 }
 
 #[test]
 fn hex_several_faults() {
-    for_seeds(6000, |random| {
+    for_seeds(4000, |random| {
         let faults = random.between(2, 6);
         damaged_reading(random, faults).compare();
     });
@@ -260,7 +259,7 @@ fn hex_several_faults() {
 /// Every refusal is among those that are drawn, but 14.
 #[test]
 fn hex_every_refusal() {
-    let drawn = (0..3000).map(|seed| damaged_reading(&mut Random::new(seed), 1).compare());
+    let drawn = (0..1500).map(|seed| damaged_reading(&mut Random::new(seed), 1).compare());
     let met: BTreeSet<u8> = drawn.collect();
     let numbers = [0, 3, 4, 5, 16, 21, 22, 23, 24, 25, 26, 27, SIZE];
     assert_eq!(met, BTreeSet::from(numbers));
@@ -536,7 +535,8 @@ fn hex_parts() {
 
 #[test]
 fn hex_chip_counts() {
-    for (part, chips) in (0..=255).flat_map(|chips| [(0, chips), (1, chips)]) {
+    let counts = (0..=20).chain([64, 127, 128, 254, 255]);
+    for (part, chips) in counts.flat_map(|chips| [(0, chips), (1, chips)]) {
         let ram = steps(columns_of(part, chips));
         let too_many = chips > MOST[part as usize];
         let file = file_of(&[records_of(&ram, 200), vec![Record::end()]].concat());
@@ -563,14 +563,15 @@ fn hex_ram_lengths() {
     }
 }
 
-/// Every room up to some bytes more than the file has.
+/// Every room up to some bytes more than the file has, and for more chips than one those about its length.
 #[test]
 fn hex_every_room() {
     for (part, chips) in every_group() {
-        let ram = steps(COLUMNS[part as usize] * chips as usize);
+        let ram = steps(columns_of(part, chips));
         let mut writing = Exchange::write(part, chips, &ram);
         let length = writing.out.len();
-        for room in 0..=length + 3 {
+        let least = if chips > 1 { length - 3 } else { 0 };
+        for room in (0..1).chain(least..=length + 3) {
             writing.out = vec![0xEE; room];
             match room < length {
                 true => writing.clone().refused([9, 0]),
