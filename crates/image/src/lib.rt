@@ -63,7 +63,7 @@ pub fn write(part: u8, chips: u8, ram: &[u8], out: &mut [u8]) -> Written
     ensures { λ r. ⌜ record { result = r; out = now (out .exit) } ≡ hexWritePart part chips (now (ram .entry)) (now (out .entry)) ⌝ }
     ensures { λ r. ⌜ writtenNumbers r ≡ writtenNumbers (hexWritePart part chips (now (ram .entry)) (now (out .entry)) .result) ⌝ }
 {
-    match refused::check_power_on(part, one_group(chips), ram) {
+    match refused::check_power_on(part, one_group(chips), ram, false) {
         Check::Refused(refusal) => Written::Refused(refusal),
         Check::Passed => {
             let size = file_size(ram.len());
