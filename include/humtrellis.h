@@ -17,6 +17,7 @@
  *             acknowledged, counted or checked for 7 and 17, and does nothing; but a cut data byte that chips hear makes their pointer and counter unknown.
  * Wanted rows the part's columns for each chip of one group, a byte a column as in the RAM.
  * Picture     the part's columns for each chip of the group shown. A byte is a column; bit r is the element on backplane r.
+ * RAM image   one group's RAM as Intel HEX: data records (type 00) and an end record (01), addresses from 0, a byte a column.
  * Answer      six numbers, in the order of enum humtrellis_answer.
  *
  * Every call but humtrellis_replay returns its answer's first number: 0 for taken, else the refusal.
@@ -33,7 +34,7 @@
 #include <stddef.h>
 #include <stdint.h>
 
-#define HUMTRELLIS_VERSION 7 /* of these sizes and calls; docs/C.md says what changed */
+#define HUMTRELLIS_VERSION 8 /* of these sizes and calls; docs/C.md says what changed */
 #define HUMTRELLIS_PCF8532 0 /* the parts */
 #define HUMTRELLIS_PCA85133 1
 #define HUMTRELLIS_COLUMNS 160         /* of a chip: its bytes in the RAM and in a picture */
@@ -47,6 +48,7 @@
 #define HUMTRELLIS_SIZE 255
 #define HUMTRELLIS_ROWS 332    /* bytes that hold any transfer of humtrellis_write_rows */
 #define HUMTRELLIS_THREE 2563  /* and of humtrellis_write_three */
+#define HUMTRELLIS_HEX 1772    /* bytes that hold any file of humtrellis_hex_write; humtrellis_hex_read takes up to 65,536 */
 #define HUMTRELLIS_TEXT 700000 /* bytes that hold the text of any log */
 
 #define HUMTRELLIS_CHIP 174
@@ -78,7 +80,7 @@ enum humtrellis_answer {
     HUMTRELLIS_PLACE = 1,        /* of a refusal; 0 unless said */
     HUMTRELLIS_ACKNOWLEDGED = 2, /* bytes; a transfer and a plain transfer */
     HUMTRELLIS_LIT = 2,          /* elements; a picture */
-    HUMTRELLIS_WRITTEN = 2,      /* bytes; a writer */
+    HUMTRELLIS_WRITTEN = 2,      /* bytes; a writer; columns of a RAM image that is read */
     HUMTRELLIS_STORED = 3,       /* bits; a transfer */
     HUMTRELLIS_DISCARDED = 4,    /* bits past the group's last chip; a transfer */
     HUMTRELLIS_RECORDS_KEPT = 2,   /* a rescue */
@@ -94,22 +96,29 @@ enum humtrellis_refusal {
     HUMTRELLIS_REFUSED_EMPTY_TRANSFER = 1,
     HUMTRELLIS_REFUSED_LONG_TRANSFER = 2, /* over 4,096 bytes */
     HUMTRELLIS_REFUSED_CHIP_COUNT = 3,    /* over 4 in a group; PCA85133: over 8 */
-    HUMTRELLIS_REFUSED_RAM_LENGTH = 4,    /* not the part's columns for each chip of both groups, packed half of them; of wanted rows, those of the group */
-    HUMTRELLIS_REFUSED_COLUMN = 5,        /* a byte of the RAM or of wanted rows over 15; place: the first */
+    HUMTRELLIS_REFUSED_RAM_LENGTH = 4,    /* not the part's columns for each chip of both groups, packed half of them; of wanted rows and of a RAM image, those of the group */
+    HUMTRELLIS_REFUSED_COLUMN = 5,        /* a byte of the RAM or of wanted rows over 15; place: the first; in a RAM image, place: the record's offset */
     HUMTRELLIS_REFUSED_REGISTER = 6,      /* out of range, in either group; also a wanted mode over 3 or bank over 1 */
     HUMTRELLIS_REFUSED_COMMAND = 7,       /* undefined, in a transfer that a chip hears; place: the first, the address is byte 0 */
     HUMTRELLIS_REFUSED_VIEW = 8,          /* group or phase over 1 */
-    HUMTRELLIS_REFUSED_OUT_LENGTH = 9,    /* not the part's columns for each chip shown; of a rescue, shorter than the log; of a writer, than its transfer */
+    HUMTRELLIS_REFUSED_OUT_LENGTH = 9,    /* not the part's columns for each chip shown; of a rescue, shorter than the log; of a writer, than its transfer or file */
     HUMTRELLIS_REFUSED_CHIP_LIST = 10,    /* more than 8 plain chips; PCA85133: more than 16 */
     HUMTRELLIS_REFUSED_CHIP = 11,         /* a field or column of a plain chip out of range; place: the first such chip */
     HUMTRELLIS_REFUSED_LOG = 12,          /* under 3 bytes or version not 1 or 2; this, the next two and 20 stand in a log's text */
     HUMTRELLIS_REFUSED_RECORD = 13,       /* cut short; place: the offset of its length field */
-    HUMTRELLIS_REFUSED_LOG_LENGTH = 14,   /* over 65,536 bytes */
+    HUMTRELLIS_REFUSED_LOG_LENGTH = 14,   /* over 65,536 bytes; of a RAM image too */
     HUMTRELLIS_REFUSED_PART = 16,         /* neither HUMTRELLIS_PCF8532 nor HUMTRELLIS_PCA85133; before every other refusal */
     HUMTRELLIS_REFUSED_CONTROL = 17,      /* stray bits 5 to 0 of a control byte, in a transfer that a chip hears; place: the first */
     HUMTRELLIS_REFUSED_UNKNOWN = 18,      /* a data byte, whole or cut, while a mark of a hearing chip is 1; place: the byte; 7, 17 or 18, whichever byte comes first */
     HUMTRELLIS_REFUSED_BITS = 19,         /* not 1 to 8, in a transfer that a chip hears or not */
-    HUMTRELLIS_REFUSED_BODY = 20          /* a version 2 record's body under two bytes; place: the offset of its length field */
+    HUMTRELLIS_REFUSED_BODY = 20,         /* a version 2 record's body under two bytes; place: the offset of its length field */
+    HUMTRELLIS_REFUSED_FORM = 21,         /* of a RAM image, a character or a record that is none, small letters too, or an end record's length or address not 0; place of 21 to 25: the record's offset */
+    HUMTRELLIS_REFUSED_CHECKSUM = 22,
+    HUMTRELLIS_REFUSED_TYPE = 23,         /* neither 00 nor 01 */
+    HUMTRELLIS_REFUSED_ADDRESS = 24,      /* of a data byte, outside the group's columns */
+    HUMTRELLIS_REFUSED_TWICE = 25,        /* an address given before */
+    HUMTRELLIS_REFUSED_MISSING = 26,      /* an address that no record gave; place: the first */
+    HUMTRELLIS_REFUSED_END = 27           /* no end record, or bytes after it, which are not read */
 };
 
 #ifdef __cplusplus
@@ -171,6 +180,17 @@ uint8_t humtrellis_write_rows(uint8_t part, uint8_t chips0, uint8_t chips1, cons
 uint8_t humtrellis_write_three(uint8_t part, uint8_t chips0, uint8_t chips1, const uint8_t *registers, size_t registers_length,
                                uint8_t group, const uint8_t *wanted, size_t wanted_length,
                                uint8_t *out, size_t out_length, size_t *answer, size_t answer_length);
+
+/* A group's RAM, `chips` of the part, as Intel HEX at the front of `out`; the bytes behind it stay. Data records of 16 columns from address 0, then the end record, capitals and
+ * LF: 12 bytes and 44 for each 16 columns. No chip: the end record alone. Answer: number, place, written, 0, 0, 0. Refusals: 16, 3, 4, 5, then 9 for `out` shorter than the file. */
+uint8_t humtrellis_hex_write(uint8_t part, uint8_t chips, const uint8_t *ram, size_t ram_length,
+                             uint8_t *out, size_t out_length, size_t *answer, size_t answer_length);
+
+/* A group's RAM from Intel HEX: data records of any length and order, lines that end in LF or CR LF, each address exactly once, an end record last. What humtrellis_hex_write wrote
+ * comes back as it was. Answer: number, place, columns, 0, 0, 0. Refusals: 16, 3, 14, 4 (`ram_length`), then 21, 22, 23, 24, 25 or 5, in that order, of the first faulty record,
+ * then 27, then 26. A refused file changes no byte of `ram`. */
+uint8_t humtrellis_hex_read(uint8_t part, uint8_t chips, const uint8_t *file, size_t file_length,
+                            uint8_t *ram, size_t ram_length, size_t *answer, size_t answer_length);
 
 /* What is whole of a torn bus log, its head and the records before the first tear, at the front of `out`; the bytes behind it stay.
  * Answer: number, place, records kept, bytes kept, bytes dropped, offset of the tear. Refusals: 14, 12, 3, then 9 for `out` shorter than `log`. */

@@ -96,7 +96,7 @@ static void answers(void) {
     EXPECT(power_on() == HUMTRELLIS_TAKEN);
     EXPECT(send(past_the_end, sizeof past_the_end) == HUMTRELLIS_TAKEN);
     EXPECT(answer[HUMTRELLIS_ACKNOWLEDGED] == 8 && answer[HUMTRELLIS_STORED] == 3 && answer[HUMTRELLIS_DISCARDED] == 5);
-    EXPECT(answer[HUMTRELLIS_ACKNOWLEDGED_BY] == HUMTRELLIS_NONE && HUMTRELLIS_NONE == 4 && HUMTRELLIS_VERSION == 7);
+    EXPECT(answer[HUMTRELLIS_ACKNOWLEDGED_BY] == HUMTRELLIS_NONE && HUMTRELLIS_NONE == 4 && HUMTRELLIS_VERSION == 8);
     EXPECT(ram[HUMTRELLIS_COLUMNS - 1] == 7 && ram[HUMTRELLIS_COLUMNS] == 0);
     EXPECT(send(group1, sizeof group1) == HUMTRELLIS_TAKEN && answer[HUMTRELLIS_ACKNOWLEDGED_BY] == 0);
     EXPECT(ram[HUMTRELLIS_COLUMNS] == 5 && ram[HUMTRELLIS_COLUMNS + 1] == 10);
@@ -295,6 +295,35 @@ static void every_element(void) {
     EXPECT(write_three(HUMTRELLIS_PCF8532, 1, HUMTRELLIS_COLUMNS, 642) == HUMTRELLIS_REFUSED_OUT_LENGTH && write_three(HUMTRELLIS_PCF8532, 2, HUMTRELLIS_COLUMNS, 643) == HUMTRELLIS_REFUSED_VIEW);
 }
 
+static uint8_t read_image(const char *file, size_t length) {
+    return humtrellis_hex_read(HUMTRELLIS_PCA85133, 1, (const uint8_t *)file, strlen(file), ram, length, answer, HUMTRELLIS_ANSWER);
+}
+
+static int refused_image(const char *file, int number, size_t place) {
+    return read_image(file, HUMTRELLIS_PCA85133_COLUMNS) == number && answer[HUMTRELLIS_NUMBER] == (size_t)number && answer[HUMTRELLIS_PLACE] == place && ram[0] == 7;
+}
+
+/* One PCA85133's RAM as Intel HEX and back; files that are refused change nothing. */
+static void images(void) {
+    const char *first = ":1000000007000000000000000000000000000000E9\n";
+    memset(wanted, 0, sizeof wanted);
+    wanted[0] = 7;
+    memset(written, 0xEE, sizeof written);
+    EXPECT(humtrellis_hex_write(HUMTRELLIS_PCA85133, 1, wanted, HUMTRELLIS_PCA85133_COLUMNS, written, 232, answer, HUMTRELLIS_ANSWER) == HUMTRELLIS_TAKEN);
+    EXPECT(answer[HUMTRELLIS_WRITTEN] == 232 && written[232] == 0xEE && HUMTRELLIS_HEX == 12 + 44 * 40);
+    EXPECT(memcmp(written, first, strlen(first)) == 0 && memcmp(written + 220, ":00000001FF\n", 12) == 0);
+    EXPECT(humtrellis_hex_write(HUMTRELLIS_PCA85133, 1, wanted, HUMTRELLIS_PCA85133_COLUMNS, written, 231, answer, HUMTRELLIS_ANSWER) == HUMTRELLIS_REFUSED_OUT_LENGTH);
+    EXPECT(humtrellis_hex_write(HUMTRELLIS_PCA85133, 1, wanted, HUMTRELLIS_PCA85133_COLUMNS, written, 232, answer, HUMTRELLIS_ANSWER - 1) == HUMTRELLIS_SIZE);
+    memset(ram, 9, sizeof ram);
+    EXPECT(humtrellis_hex_read(HUMTRELLIS_PCA85133, 1, written, 232, ram, HUMTRELLIS_PCA85133_COLUMNS, answer, HUMTRELLIS_ANSWER) == HUMTRELLIS_TAKEN);
+    EXPECT(answer[HUMTRELLIS_WRITTEN] == HUMTRELLIS_PCA85133_COLUMNS && memcmp(ram, wanted, HUMTRELLIS_PCA85133_COLUMNS) == 0 && ram[HUMTRELLIS_PCA85133_COLUMNS] == 9);
+    EXPECT(read_image("", HUMTRELLIS_PCA85133_COLUMNS - 1) == HUMTRELLIS_REFUSED_RAM_LENGTH && refused_image("", HUMTRELLIS_REFUSED_END, 0));
+    EXPECT(refused_image(":00000001ff\n", HUMTRELLIS_REFUSED_FORM, 0) && refused_image(":0000000100\n", HUMTRELLIS_REFUSED_CHECKSUM, 0));
+    EXPECT(refused_image(":00000000 00\n", HUMTRELLIS_REFUSED_FORM, 0) && refused_image(":0000000000\n:00000004FC\n", HUMTRELLIS_REFUSED_TYPE, 12));
+    EXPECT(refused_image(":0100500000AF\n", HUMTRELLIS_REFUSED_ADDRESS, 0) && refused_image(":0100000000FF\n:0100000000FF\n", HUMTRELLIS_REFUSED_TWICE, 14));
+    EXPECT(refused_image(":0100000010EF\n", HUMTRELLIS_REFUSED_COLUMN, 0) && refused_image(":0100000000FF\n:00000001FF\n", HUMTRELLIS_REFUSED_MISSING, 1));
+}
+
 /* An unknown part comes before every refusal, but not before a wrong size; both power-ons still give power-on registers. */
 static void unknown_part(void) {
     registers[HUMTRELLIS_E] = 9;
@@ -369,6 +398,7 @@ int main(void) {
     wanted_rows();
     every_element();
     packed();
+    images();
     unknown_part();
     logs();
     rescues();

@@ -40,6 +40,11 @@ extern "C" {
         out: *mut u8, out_length: usize, answer: *mut usize, answer_length: usize,
     ) -> u8;
 
+    fn humtrellis_hex_read(
+        part: u8, chips: u8, file: *const u8, file_length: usize,
+        ram: *mut u8, ram_length: usize, answer: *mut usize, answer_length: usize,
+    ) -> u8;
+
     fn humtrellis_replay(log: *const u8, log_length: usize, out: *mut u8, out_length: usize) -> usize;
 }
 
@@ -131,4 +136,22 @@ pub fn write_rows(asked: Asked, out: &mut [u8]) -> Numbers {
 pub fn replay(log: &[u8], out: &mut [u8]) -> usize {
     // Safety: each pointer goes with the length of the buffer that it points to.
     unsafe { humtrellis_replay(log.as_ptr(), log.len(), out.as_mut_ptr(), out.len()) }
+}
+
+pub fn hex_read(part: u8, chips: u8, file: &[u8], ram: &mut [u8]) -> Numbers {
+    let mut answer = [0; ANSWER];
+    // Safety: each pointer goes with the length of the buffer that it points to.
+    unsafe {
+        humtrellis_hex_read(
+            part,
+            chips,
+            file.as_ptr(),
+            file.len(),
+            ram.as_mut_ptr(),
+            ram.len(),
+            answer.as_mut_ptr(),
+            answer.len(),
+        )
+    };
+    answer
 }

@@ -1,6 +1,7 @@
 //! Times the proved library, the independent model and a table loop side by side; docs/SPEED.md says what is printed.
 
 mod agree;
+mod images;
 mod library;
 mod measure;
 mod replay;
@@ -31,6 +32,7 @@ fn run() -> Result<(), String> {
     let shown = measure::all(&samples::shown(), measure::packed_pictures);
     report::packed("a picture, a column", &shown);
     replay::run()?;
+    images::run()?;
     report::targets(&transfers, &pictures, &writings);
     report::packed_targets("from column 0", &even);
     report::packed_targets("from column 1", &odd);

@@ -128,6 +128,18 @@ pub fn packed(what: &str, rows: &[Row<3>]) {
     println!();
 }
 
+/// The most that reading a RAM image is to take, in milliseconds.
+const IMAGE_LIMIT: f64 = 2.0;
+
+pub fn image(length: usize, figure: Figure) {
+    let milliseconds = figure.per(1_000_000);
+    let (median, spread) = (milliseconds.median, spread(&milliseconds));
+    let verdict = if median <= IMAGE_LIMIT { "met" } else { "missed" };
+    println!("A RAM image of {length} bytes read: ms, median of {SAMPLES} samples, lowest and highest; under {IMAGE_LIMIT}");
+    println!("library | {median:7.3} | {spread} | {verdict}");
+    println!();
+}
+
 fn print_target(target: &str, value: f64, limit: f64) {
     let verdict = if value <= limit { "met" } else { "missed" };
     println!("{verdict:6} | {value:6.2} | {limit:5} | {target}");

@@ -1,4 +1,4 @@
--- The first of an answer's numbers fits a byte: a refusal's is at most 20.
+-- The first of an answer's numbers fits a byte: a refusal's is at most 27.
 -- Assumes nothing.
 use mathlib.Core.Path.{_≡_}
 use mathlib.Core.List.{List}
@@ -12,7 +12,7 @@ use Rattle.sheet.specs.declared.Rescued.{Rescued}
 use Rattle.sheet.specs.declared.Written.{Written}
 use Rattle.sheet.specs.declared.Check.{Check}
 use Rattle.sheet.specs.declared.Refusal.{Refusal}
-use Rattle.sheet.specs.declared.Refusal.the-variants.{EmptyTransfer, LongTransfer, ChipCount, RamLength, RamByte, Register, UndefinedCommand, GroupOrPhase, OutputLength, ManyChips, ChipField, LogHead, CutRecord, LongLog, UnknownPart, StrayBits, UnknownPlace, BitCount, ShortBody}
+use Rattle.sheet.specs.declared.Refusal.the-variants.{EmptyTransfer, LongTransfer, ChipCount, RamLength, RamByte, Register, UndefinedCommand, GroupOrPhase, OutputLength, ManyChips, ChipField, LogHead, CutRecord, LongLog, UnknownPart, StrayBits, UnknownPlace, BitCount, ShortBody, RecordForm, Checksum, RecordType, AddressOutside, AddressTwice, AddressMissing, NoEnd}
 use Rattle.sheet.specs.Parts.{Part}
 use Rattle.sheet.specs.Refusals.{numberOf, numbers, plainNumbers, pictureNumbers, rescuedNumbers, checkNumbers, writtenNumbers}
 
@@ -36,6 +36,13 @@ small (StrayBits at) = omega arith
 small (UnknownPlace at) = omega arith
 small BitCount = omega arith
 small (ShortBody at) = omega arith
+small (RecordForm at) = omega arith
+small (Checksum at) = omega arith
+small (RecordType at) = omega arith
+small (AddressOutside at) = omega arith
+small (AddressTwice at) = omega arith
+small (AddressMissing at) = omega arith
+small NoEnd = omega arith
 
 module _ {l : List ℕ} where
   pub answer-small : (K : Part) (a : Answer) → l ≡ numbers K a → getD l 0 0 < 256

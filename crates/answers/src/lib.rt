@@ -36,6 +36,13 @@ pub fn number_of(refusal: Refusal) -> usize
         Refusal::UnknownPlace(_) => 18,
         Refusal::BitCount => 19,
         Refusal::ShortBody(_) => 20,
+        Refusal::RecordForm(_) => 21,
+        Refusal::Checksum(_) => 22,
+        Refusal::RecordType(_) => 23,
+        Refusal::AddressOutside(_) => 24,
+        Refusal::AddressTwice(_) => 25,
+        Refusal::AddressMissing(_) => 26,
+        Refusal::NoEnd => 27,
     }
 }
 
@@ -51,6 +58,12 @@ pub fn place_of(refusal: Refusal) -> usize
         Refusal::StrayBits(at) => at,
         Refusal::UnknownPlace(at) => at,
         Refusal::ShortBody(at) => at,
+        Refusal::RecordForm(at) => at,
+        Refusal::Checksum(at) => at,
+        Refusal::RecordType(at) => at,
+        Refusal::AddressOutside(at) => at,
+        Refusal::AddressTwice(at) => at,
+        Refusal::AddressMissing(at) => at,
         Refusal::EmptyTransfer => 0,
         Refusal::LongTransfer => 0,
         Refusal::ChipCount => 0,
@@ -63,6 +76,7 @@ pub fn place_of(refusal: Refusal) -> usize
         Refusal::LongLog => 0,
         Refusal::UnknownPart => 0,
         Refusal::BitCount => 0,
+        Refusal::NoEnd => 0,
     }
 }
 

@@ -21,7 +21,7 @@ ghost use Rattle.buslog.specs.Replays.{replayCall, Inside};
 // ---- the log
 
 // A log is checked whole before its first line is written: 14, 12, 3, then 13 and 20.
-fn check_log(log: &[u8]) -> Check
+pub fn check_log(log: &[u8]) -> Check
     ensures { λ r. ⌜ r ≡ checkLog (now (log .entry)) ⌝ }
     ensures { λ r. ⌜ (r ≡ Check.Passed → AllCounted (logRecords (now (log .entry)) .bodies)) ⌝ }
 {

@@ -14,6 +14,8 @@ use Rattle.sheet.specs.Plain.{chipPowerOnPart, chipPicturePart}
 use Rattle.sheet.specs.Rescue.{rescueCall}
 use Rattle.sheet.specs.Writer.{writeRowsPart}
 use Rattle.sheet.specs.Three.{writeThreePart}
+use Rattle.sheet.specs.Hex.{hexWritePart}
+use Rattle.sheet.specs.Images.{hexReadPart}
 use Rattle.buslog.specs.declared.Replayed.{Replayed}
 use Rattle.lent.specs.Lent.{lentCall}
 use Rattle.wire.specs.Bytes.{bothOf, bothBytes, chipIn, chipBytes}
@@ -108,6 +110,17 @@ unfoldable pub writeThreeC : ℕ → ℕ → ℕ → List ℕ → ℕ → List �
 writeThreeC part z o registers group wanted out answer =
     let s = writeThreePart part (chipsOf z o) (bothOf registers) group wanted out in
     saidC (eqb (length registers) 24) (writtenNumbers (s .result)) (s .out) out answer
+
+-- a RAM image, written and read
+unfoldable pub hexWriteC : ℕ → ℕ → List ℕ → List ℕ → List ℕ → Filled
+hexWriteC part n ram out answer =
+    let s = hexWritePart part n ram out in
+    saidC true (writtenNumbers (s .result)) (s .out) out answer
+
+unfoldable pub hexReadC : ℕ → ℕ → List ℕ → List ℕ → List ℕ → Filled
+hexReadC part n file ram answer =
+    let s = hexReadPart part n file ram in
+    saidC true (writtenNumbers (s .result)) (s .out) ram answer
 
 -- what is whole of a torn log
 unfoldable pub rescueC : List ℕ → List ℕ → List ℕ → Filled

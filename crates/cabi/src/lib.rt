@@ -6,7 +6,7 @@ ghost use mathlib.Core.Path.{_≡_};
 ghost use Rattle.sheet.specs.Protocol.{sent};
 ghost use Rattle.sheet.specs.Packed.{columnsIn};
 ghost use Rattle.buslog.specs.Replays.{replayCall};
-ghost use Rattle.cabi.specs.Calls.{powerOnC, transferC, pictureC, packedPowerOnC, packedTransferC, packedPictureC, chipPowerOnC, chipPictureC, plainC, writeRowsC, writeThreeC, rescueC, replayNumber};
+ghost use Rattle.cabi.specs.Calls.{powerOnC, transferC, pictureC, packedPowerOnC, packedTransferC, packedPictureC, chipPowerOnC, chipPictureC, plainC, writeRowsC, writeThreeC, hexWriteC, hexReadC, rescueC, replayNumber};
 
 // ---- the long account, over columns that are a byte each or packed
 
@@ -343,6 +343,44 @@ pub extern "C" fn humtrellis_write_three(
         };
         let before = wire::both_of(registers);
         let written = three::write_three(part, chips, before, group, wanted, out);
+        wire::put_numbers(answers::written_numbers(written), answer)
+    } else {
+        255
+    }
+}
+
+// A group's RAM as Intel HEX to the start of `out`, or a refusal by 16, 3, 4, 5, 9.
+#[no_mangle]
+pub extern "C" fn humtrellis_hex_write(
+    part: u8,
+    chips: u8,
+    ram: &[u8],
+    out: &mut [u8],
+    answer: &mut [usize],
+) -> u8
+    ensures { λ r. ⌜ hexWriteC part chips (now (ram .entry)) (now (out .entry)) (now (answer .entry)) ≡ record { number = r; buffer = now (out .exit); answer = now (answer .exit) } ⌝ }
+{
+    if answer.len() == 6 {
+        let written = image::write(part, chips, ram, out);
+        wire::put_numbers(answers::written_numbers(written), answer)
+    } else {
+        255
+    }
+}
+
+// A group's RAM from Intel HEX, or a refusal by 16, 3, 14, 4, 21 to 25 or 5 by the first faulty record, 27, 26.
+#[no_mangle]
+pub extern "C" fn humtrellis_hex_read(
+    part: u8,
+    chips: u8,
+    file: &[u8],
+    ram: &mut [u8],
+    answer: &mut [usize],
+) -> u8
+    ensures { λ r. ⌜ hexReadC part chips (now (file .entry)) (now (ram .entry)) (now (answer .entry)) ≡ record { number = r; buffer = now (ram .exit); answer = now (answer .exit) } ⌝ }
+{
+    if answer.len() == 6 {
+        let written = image::read(part, chips, file, ram);
         wire::put_numbers(answers::written_numbers(written), answer)
     } else {
         255

@@ -20,6 +20,9 @@ pub mod Either
 pub mod Writer
 pub mod Puts
 pub mod Three
+pub mod Hex
+pub mod Images
+pub mod Covered
 pub mod Pointing
 pub mod Packed
 pub mod Starred
@@ -36,3 +39,4 @@ pub mod Merging
 pub mod Writings
 pub mod Threes
 pub mod Packing
+pub mod Imaging

@@ -78,6 +78,13 @@ pub enum Refusal {
     UnknownPlace(usize),
     BitCount,
     ShortBody(usize),
+    RecordForm(usize),
+    Checksum(usize),
+    RecordType(usize),
+    AddressOutside(usize),
+    AddressTwice(usize),
+    AddressMissing(usize),
+    NoEnd,
 }
 
 pub enum Check {

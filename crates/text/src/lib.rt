@@ -5,7 +5,7 @@ ghost use lib.ListN.{length};
 ghost use Rattle.sheet.specs.Logs.{decimal, spaced, line};
 ghost use Rattle.text.specs.Texts.{Puts};
 
-fn put_byte(out: &mut [u8], at: usize, byte: u8) -> usize
+pub fn put_byte(out: &mut [u8], at: usize, byte: u8) -> usize
     requires { ⌜ at + 1 ≤ length (now out) ⌝ }
     ensures { λ r. ⌜ Puts at (byte ∷ []) (now (out .entry)) (now (out .exit)) r ⌝ }
 {

@@ -65,6 +65,16 @@ extern "C" {
         out: *mut u8, out_length: usize, answer: *mut usize, answer_length: usize,
     ) -> u8;
 
+    pub fn humtrellis_hex_write(
+        part: u8, chips: u8, ram: *const u8, ram_length: usize, out: *mut u8, out_length: usize,
+        answer: *mut usize, answer_length: usize,
+    ) -> u8;
+
+    pub fn humtrellis_hex_read(
+        part: u8, chips: u8, file: *const u8, file_length: usize, ram: *mut u8, ram_length: usize,
+        answer: *mut usize, answer_length: usize,
+    ) -> u8;
+
     pub fn humtrellis_rescue(
         log: *const u8, log_length: usize, out: *mut u8, out_length: usize,
         answer: *mut usize, answer_length: usize,
@@ -363,6 +373,48 @@ pub fn write_three(
     s.back(registers);
     w.back(wanted);
     o.back(out);
+    a.back(answer);
+    number
+}
+
+pub fn hex_write(part: u8, chips: u8, ram: &mut [u8], out: &mut [u8], answer: &mut [usize]) -> u8 {
+    let (mut r, mut o, mut a) = (bytes(ram), bytes(out), numbers(answer));
+    // Safety: each pointer goes with the length of the buffer that it points to.
+    let number = unsafe {
+        humtrellis_hex_write(
+            part,
+            chips,
+            r.pointer(),
+            r.length(),
+            o.pointer(),
+            o.length(),
+            a.pointer(),
+            a.length(),
+        )
+    };
+    r.back(ram);
+    o.back(out);
+    a.back(answer);
+    number
+}
+
+pub fn hex_read(part: u8, chips: u8, file: &mut [u8], ram: &mut [u8], answer: &mut [usize]) -> u8 {
+    let (mut f, mut r, mut a) = (bytes(file), bytes(ram), numbers(answer));
+    // Safety: each pointer goes with the length of the buffer that it points to.
+    let number = unsafe {
+        humtrellis_hex_read(
+            part,
+            chips,
+            f.pointer(),
+            f.length(),
+            r.pointer(),
+            r.length(),
+            a.pointer(),
+            a.length(),
+        )
+    };
+    f.back(file);
+    r.back(ram);
     a.back(answer);
     number
 }

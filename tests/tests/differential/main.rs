@@ -9,6 +9,7 @@ mod chip;
 mod control;
 mod cut;
 mod fault;
+mod hex;
 mod last_chip;
 mod library;
 mod merge;

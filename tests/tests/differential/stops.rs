@@ -11,6 +11,18 @@ use humtrellis_tests::model::{none, ANSWER, COLUMNS, REGISTERS, WHOLE};
 /// More than is mapped behind any buffer here.
 const FALSE: usize = 1 << 44;
 
+/// Either call of request 13.
+type Hex = unsafe extern "C" fn(
+    part: u8,
+    chips: u8,
+    given: *const u8,
+    given_length: usize,
+    out: *mut u8,
+    out_length: usize,
+    answer: *mut usize,
+    answer_length: usize,
+) -> u8;
+
 /// One chip, and the lengths that are told of its buffers.
 struct Bus {
     form: Form,
@@ -178,6 +190,26 @@ impl Bus {
         self.refused(number, expected, 0);
         assert_eq!(out, [0xEE; COLUMNS]);
     }
+
+    /// Reading is refused by 14 for the file's length or by 4 for the RAM's, writing by 4 for the RAM's; the chip count comes before each.
+    fn hex(&mut self, call: Hex, [given, out]: [usize; 2], expected: u8) {
+        let (buffer, mut written) = ([0; COLUMNS], [0xEE; COLUMNS]);
+        let (g, o, a) = (buffer.as_ptr(), written.as_mut_ptr(), &mut self.answer);
+        let number = unsafe {
+            call(
+                self.part,
+                self.chips,
+                g,
+                given,
+                o,
+                out,
+                a.as_mut_ptr(),
+                ANSWER,
+            )
+        };
+        self.refused(number, expected, 0);
+        assert_eq!(written, [0xEE; COLUMNS]);
+    }
 }
 
 /// Every part over RAM of either form.
@@ -234,6 +266,21 @@ fn stops_at_wanted_length_of_three() {
         bus.write_three(6);
         bus.chips = 9;
         bus.write_three(3);
+    }
+}
+
+#[test]
+fn stops_at_lengths_of_hex() {
+    for mut bus in PARTS.map(Bus::new) {
+        let columns = bus.ram_length;
+        bus.hex(humtrellis_hex_write, [FALSE, COLUMNS], 4);
+        bus.hex(humtrellis_hex_write, [FALSE, FALSE], 4);
+        bus.hex(humtrellis_hex_read, [FALSE, columns], 14);
+        bus.hex(humtrellis_hex_read, [FALSE, FALSE], 14);
+        bus.hex(humtrellis_hex_read, [0, FALSE], 4);
+        bus.chips = 9;
+        bus.hex(humtrellis_hex_write, [FALSE, FALSE], 3);
+        bus.hex(humtrellis_hex_read, [FALSE, FALSE], 3);
     }
 }
 
