@@ -24,6 +24,14 @@ textOf Space = 0x20 ∷ []
 textOf Minus = 0x2D ∷ []
 textOf LongMinus = 0xE2 ∷ 0x88 ∷ 0x92 ∷ []
 
+-- a symbol that has one: its digit is at most 9
+abbrev pub isSymbol : Symbol → Bool
+isSymbol (Digit n) = ltb n 10
+isSymbol (Pointed n) = ltb n 10
+isSymbol Space = true
+isSymbol Minus = true
+isSymbol LongMinus = true
+
 -- a text is its symbols' texts
 abbrev pub textsOf : List Symbol → List ℕ
 textsOf [] = []
@@ -42,18 +50,25 @@ plain LongMinus = Minus
 -- the segments by their letters
 abbrev pub a : ℕ
 a = 0
+
 abbrev pub b : ℕ
 b = 1
+
 abbrev pub c : ℕ
 c = 2
+
 abbrev pub d : ℕ
 d = 3
+
 abbrev pub e : ℕ
 e = 4
+
 abbrev pub f : ℕ
 f = 5
+
 abbrev pub g : ℕ
 g = 6
+
 abbrev pub DP : ℕ
 DP = 7
 

@@ -1,0 +1,1 @@
+// Write a price on the glass.
