@@ -1,5 +1,5 @@
 -- Write a price on the glass (paper 02, request 1): a text as symbols, each symbol's text, segments and data byte; the two calls, text to bytes and bytes to text.
-use Prim.Native.Nat.{ℕ, zero, suc, _+_, _-_, _*_}
+use Prim.Native.Nat.{ℕ, zero, suc, _+_, _-_, _*_, _≤_, _<_}
 use mathlib.Core.Bool.{Bool, true, cond, _&&_, _||_}
 use mathlib.Core.List.{List, [], _∷_, _++_, map}
 use lib.Dec.{eqb, ltb, leb}
@@ -118,6 +118,10 @@ begun x y z =
     (cond (eqb x 0xE2 && (eqb y 0x88 && eqb z 0x92)) (Found.Symbol LongMinus)
     Found.None)))
 
+-- at a place of a text
+abbrev pub begunAt : ℕ → List ℕ → Found
+begunAt i text = begun (getD text i 0) (getD text (i + 1) 0) (getD text (i + 2) 0)
+
 -- the symbols up to the first byte that begins none; 15 at its place
 pub record Spelled : Type 0 where
   pub symbols : List Symbol
@@ -137,7 +141,7 @@ moreOf Found.None = 0
 unfoldable pub spelledFrom : ℕ → ℕ → List ℕ → Spelled
 spelledFrom at left [] = record { symbols = []; fault = Passed }
 spelledFrom at (suc left) (x ∷ rest) = spelledFrom (suc at) left rest
-spelledFrom at zero (x ∷ rest) = let found = begun x (getD rest 0 0) (getD rest 1 0) in andThen at found (spelledFrom (suc at) (moreOf found) rest)
+spelledFrom at zero (x ∷ rest) = let found = begunAt 0 (x ∷ rest) in andThen at found (spelledFrom (suc at) (moreOf found) rest)
 
 abbrev pub spelled : List ℕ → Spelled
 spelled text = spelledFrom 0 0 text
@@ -165,6 +169,12 @@ readFrom mode at (x ∷ rest) = andThen at (shown mode x) (readFrom mode (suc at
 -- 2 for more than 80 bytes, 6 for an M over 3, 9 for an output under its fixed length, however short the text is
 unfoldable pub checkPrice : ℕ → ℕ → ℕ → ℕ → Check
 checkPrice size mode room out = orElse (unless (leb size 80) LongTransfer) (orElse (unless (ltb mode 4) Register) (unless (leb room out) OutputLength))
+
+-- what has passed them
+pub record Sizes (size mode room out : ℕ) : Type 0 where
+  pub bytes : size ≤ 80
+  pub four : mode < 4
+  pub enough : room ≤ out
 
 -- then 15; output past the bytes stays
 abbrev pub priceBy : Check → Spelled → List ℕ → List ℕ → WrittenAfter

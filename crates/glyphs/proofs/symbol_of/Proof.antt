@@ -10,7 +10,7 @@ use borrow.Author.Tests.{eq-eqb, ne-eqb}
 use Rattle.sheet.specs.declared.Symbol.{Symbol}
 use Rattle.sheet.specs.declared.Found.{Found}
 use Rattle.sheet.specs.Price.{isSymbol, byteOf, shownAs, shownBelow}
-use Rattle.laws.proofs.Symbols.{shown-symbol}
+use Rattle.laws.proofs.Symbols.{shown-plain}
 use Rattle.glyphs.proofs.symbol_of.Statement.{statement}
 use Rattle.glyphs.proofs.symbol_of.Tie as tie
 
@@ -26,7 +26,7 @@ abbrev μ-loop : tie.MeasureT-loop
 μ-loop mode byte left₀ left = left
 
 byte-of-requires : tie.Need-byte-of-requires Inv-loop μ-loop
-byte-of-requires c κs = (c .before .before .before .pre, ap isSymbol (c .shown-as .ensures) ∙ shown-symbol (c .before .before .loop .left - 1))
+byte-of-requires c κs = (c .before .before .before .pre, ap isSymbol (c .shown-as .ensures) ∙ shown-plain (c .before .before .loop .left - 1) .symbol)
 
 -- the byte of the symbol that is tried
 byte-is : (c : tie.After-byte-of Inv-loop μ-loop) → let p = c .before .before .before in c .byte-of .result ≡ byteOf (p .before .args .mode) (shownAs (p .loop .left - 1))
