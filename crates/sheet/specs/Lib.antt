@@ -24,6 +24,7 @@ pub mod Hex
 pub mod Images
 pub mod Covered
 pub mod Price
+pub mod Prices
 pub mod Pointing
 pub mod Packed
 pub mod Starred
