@@ -8,7 +8,7 @@ ghost use mathlib.Core.Bool.{true};
 ghost use mathlib.Core.Path.{_≡_};
 ghost use mathlib.Core.List.{map};
 ghost use Prim.Native.Nat.{_+_, _≤_, _<_};
-ghost use lib.ListN.{length, getD};
+ghost use lib.ListN.{length};
 ghost use Rattle.sheet.specs.Refusals.{writtenNumbers};
 ghost use Rattle.sheet.specs.Price.{isSymbol, textOf, textsOf, plain, byteOf, begun, begunAt, spelled, readFrom, checkPrice, Sizes, priceWrite, priceRead};
 ghost use Rattle.text.specs.Texts.{Puts};
@@ -36,22 +36,15 @@ fn begun(x: u8, y: u8, z: u8) -> Found
     }
 }
 
-// A byte of a text; 0 past its end.
-fn byte_at(text: &[u8], at: usize) -> u8
-    ensures { λ r. ⌜ r ≡ getD (now (text .entry)) at 0 ⌝ }
-{
-    if at < text.len() { text[at] } else { 0 }
-}
-
 // What begins at a place of a text.
 fn begun_at(text: &[u8], at: usize) -> Found
     requires { ⌜ at < 80 ⌝ }
     ensures { λ r. ⌜ r ≡ begunAt at (now (text .entry)) ⌝ }
 {
     begun(
-        byte_at(text, at),
-        byte_at(text, at + 1),
-        byte_at(text, at + 2),
+        checks::byte_at(text, at),
+        checks::byte_at(text, at + 1),
+        checks::byte_at(text, at + 2),
     )
 }
 
