@@ -18,6 +18,7 @@
  * Wanted rows the part's columns for each chip of one group, a byte a column as in the RAM.
  * Picture     the part's columns for each chip of the group shown. A byte is a column; bit r is the element on backplane r.
  * RAM image   one group's RAM as Intel HEX: data records (type 00) and an end record (01), addresses from 0, a byte a column.
+ * Price       a text of digits, space, minus (ASCII, or the typographic E2 88 92) and a point joined to the digit before it; its data bytes, one a symbol.
  * Answer      six numbers, in the order of enum humtrellis_answer.
  *
  * Every call but humtrellis_replay returns its answer's first number: 0 for taken, else the refusal.
@@ -34,7 +35,7 @@
 #include <stddef.h>
 #include <stdint.h>
 
-#define HUMTRELLIS_VERSION 8 /* of these sizes and calls; docs/C.md says what changed */
+#define HUMTRELLIS_VERSION 9 /* of these sizes and calls; docs/C.md says what changed */
 #define HUMTRELLIS_PCF8532 0 /* the parts */
 #define HUMTRELLIS_PCA85133 1
 #define HUMTRELLIS_COLUMNS 160         /* of a chip: its bytes in the RAM and in a picture */
@@ -49,6 +50,8 @@
 #define HUMTRELLIS_ROWS 332    /* bytes that hold any transfer of humtrellis_write_rows */
 #define HUMTRELLIS_THREE 2563  /* and of humtrellis_write_three */
 #define HUMTRELLIS_HEX 1772    /* bytes that hold any file of humtrellis_hex_write; humtrellis_hex_read takes up to 65,536 */
+#define HUMTRELLIS_PRICE 80        /* bytes that a price may have, as text and on the glass; `out` of humtrellis_price_write has at least as many */
+#define HUMTRELLIS_PRICE_TEXT 160  /* the least of `out` of humtrellis_price_read */
 #define HUMTRELLIS_TEXT 700000 /* bytes that hold the text of any log */
 
 #define HUMTRELLIS_CHIP 174
@@ -94,19 +97,20 @@ enum humtrellis_answer {
 enum humtrellis_refusal {
     HUMTRELLIS_TAKEN = 0,
     HUMTRELLIS_REFUSED_EMPTY_TRANSFER = 1,
-    HUMTRELLIS_REFUSED_LONG_TRANSFER = 2, /* over 4,096 bytes */
+    HUMTRELLIS_REFUSED_LONG_TRANSFER = 2, /* over 4,096 bytes; a price: over HUMTRELLIS_PRICE */
     HUMTRELLIS_REFUSED_CHIP_COUNT = 3,    /* over 4 in a group; PCA85133: over 8 */
     HUMTRELLIS_REFUSED_RAM_LENGTH = 4,    /* not the part's columns for each chip of both groups, packed half of them; of wanted rows and of a RAM image, those of the group */
     HUMTRELLIS_REFUSED_COLUMN = 5,        /* a byte of the RAM or of wanted rows over 15; place: the first; in a RAM image, place: the record's offset */
-    HUMTRELLIS_REFUSED_REGISTER = 6,      /* out of range, in either group; also a wanted mode over 3 or bank over 1 */
+    HUMTRELLIS_REFUSED_REGISTER = 6,      /* out of range, in either group; also a wanted mode over 3 or bank over 1, a price's mode over 3 */
     HUMTRELLIS_REFUSED_COMMAND = 7,       /* undefined, in a transfer that a chip hears; place: the first, the address is byte 0 */
     HUMTRELLIS_REFUSED_VIEW = 8,          /* group or phase over 1 */
-    HUMTRELLIS_REFUSED_OUT_LENGTH = 9,    /* not the part's columns for each chip shown; of a rescue, shorter than the log; of a writer, than its transfer or file */
+    HUMTRELLIS_REFUSED_OUT_LENGTH = 9,    /* not the part's columns for each chip shown; of a rescue, shorter than the log; of a writer, than its transfer or file; of a price, than its fixed length */
     HUMTRELLIS_REFUSED_CHIP_LIST = 10,    /* more than 8 plain chips; PCA85133: more than 16 */
     HUMTRELLIS_REFUSED_CHIP = 11,         /* a field or column of a plain chip out of range; place: the first such chip */
     HUMTRELLIS_REFUSED_LOG = 12,          /* under 3 bytes or version not 1 or 2; this, the next two and 20 stand in a log's text */
     HUMTRELLIS_REFUSED_RECORD = 13,       /* cut short; place: the offset of its length field */
     HUMTRELLIS_REFUSED_LOG_LENGTH = 14,   /* over 65,536 bytes; of a RAM image too */
+    HUMTRELLIS_REFUSED_SYMBOL = 15,       /* of a price, the first byte that begins no symbol, or is none's, or a point not directly after a digit; place: the byte */
     HUMTRELLIS_REFUSED_PART = 16,         /* neither HUMTRELLIS_PCF8532 nor HUMTRELLIS_PCA85133; before every other refusal */
     HUMTRELLIS_REFUSED_CONTROL = 17,      /* stray bits 5 to 0 of a control byte, in a transfer that a chip hears; place: the first */
     HUMTRELLIS_REFUSED_UNKNOWN = 18,      /* a data byte, whole or cut, while a mark of a hearing chip is 1; place: the byte; 7, 17 or 18, whichever byte comes first */
@@ -191,6 +195,18 @@ uint8_t humtrellis_hex_write(uint8_t part, uint8_t chips, const uint8_t *ram, si
  * then 27, then 26. A refused file changes no byte of `ram`. */
 uint8_t humtrellis_hex_read(uint8_t part, uint8_t chips, const uint8_t *file, size_t file_length,
                             uint8_t *ram, size_t ram_length, size_t *answer, size_t answer_length);
+
+/* A price on the glass: the 7-segment data byte of each symbol of `text` in a mode (M as in the registers), in the order of sheet 003's figure 13, at the front of `out`; the bytes
+ * behind them stay. A minus of either kind lights segment g alone; a point is in the byte of the digit before it. An empty text gives 0 bytes. Answer: number, place, written, 0, 0, 0.
+ * Refusals: 2 for over HUMTRELLIS_PRICE bytes of text, 6, 9 for `out` under HUMTRELLIS_PRICE bytes, however short the text is, 15; a broken E2 88 92 has its place at the E2. */
+uint8_t humtrellis_price_write(uint8_t mode, const uint8_t *text, size_t text_length,
+                               uint8_t *out, size_t out_length, size_t *answer, size_t answer_length);
+
+/* A price from the glass: the text of such data bytes, with the ASCII minus, at the front of `out`; the bytes behind it stay. What humtrellis_price_write wrote comes back as its text
+ * with the ASCII minus. Answer: number, place, written, 0, 0, 0. Refusals: 2 for over HUMTRELLIS_PRICE bytes, 6, 9 for `out` under HUMTRELLIS_PRICE_TEXT bytes, 15; the point
+ * alone, or with a minus, is no symbol. */
+uint8_t humtrellis_price_read(uint8_t mode, const uint8_t *segments, size_t segments_length,
+                              uint8_t *out, size_t out_length, size_t *answer, size_t answer_length);
 
 /* What is whole of a torn bus log, its head and the records before the first tear, at the front of `out`; the bytes behind it stay.
  * Answer: number, place, records kept, bytes kept, bytes dropped, offset of the tear. Refusals: 14, 12, 3, then 9 for `out` shorter than `log`. */

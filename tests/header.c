@@ -96,7 +96,7 @@ static void answers(void) {
     EXPECT(power_on() == HUMTRELLIS_TAKEN);
     EXPECT(send(past_the_end, sizeof past_the_end) == HUMTRELLIS_TAKEN);
     EXPECT(answer[HUMTRELLIS_ACKNOWLEDGED] == 8 && answer[HUMTRELLIS_STORED] == 3 && answer[HUMTRELLIS_DISCARDED] == 5);
-    EXPECT(answer[HUMTRELLIS_ACKNOWLEDGED_BY] == HUMTRELLIS_NONE && HUMTRELLIS_NONE == 4 && HUMTRELLIS_VERSION == 8);
+    EXPECT(answer[HUMTRELLIS_ACKNOWLEDGED_BY] == HUMTRELLIS_NONE && HUMTRELLIS_NONE == 4 && HUMTRELLIS_VERSION == 9);
     EXPECT(ram[HUMTRELLIS_COLUMNS - 1] == 7 && ram[HUMTRELLIS_COLUMNS] == 0);
     EXPECT(send(group1, sizeof group1) == HUMTRELLIS_TAKEN && answer[HUMTRELLIS_ACKNOWLEDGED_BY] == 0);
     EXPECT(ram[HUMTRELLIS_COLUMNS] == 5 && ram[HUMTRELLIS_COLUMNS + 1] == 10);
@@ -324,6 +324,45 @@ static void images(void) {
     EXPECT(refused_image(":0100000010EF\n", HUMTRELLIS_REFUSED_COLUMN, 0) && refused_image(":0100000000FF\n:00000001FF\n", HUMTRELLIS_REFUSED_MISSING, 1));
 }
 
+static uint8_t write_price(uint8_t mode, const char *price, size_t length, size_t room) {
+    return humtrellis_price_write(mode, (const uint8_t *)price, length, written, room, answer, HUMTRELLIS_ANSWER);
+}
+
+static uint8_t read_price(uint8_t mode, const char *segments, size_t length, size_t room) {
+    return humtrellis_price_read(mode, (const uint8_t *)segments, length, written, room, answer, HUMTRELLIS_ANSWER);
+}
+
+static int refused_price(uint8_t refused, int number, size_t place) {
+    return refused == number && answer[HUMTRELLIS_NUMBER] == (size_t)number && answer[HUMTRELLIS_PLACE] == place && answer[HUMTRELLIS_WRITTEN] == 0 && written[0] == 0xEE;
+}
+
+/* A price to data bytes and back, in each mode, with either minus; each refusal at its edge. */
+static void prices(void) {
+    const char *minus_four[] = {"\x02\x6A", "\x08\xD8", "\x10\x74", "\x04\xA6"}; /* by M: 1:4, static, 1:2, 1:3 */
+    char long_price[81];
+    for (uint8_t mode = 0; mode < 4; mode++) {
+        memset(written, 0xEE, sizeof written);
+        EXPECT(write_price(mode, "-4", 2, HUMTRELLIS_PRICE) == HUMTRELLIS_TAKEN && answer[HUMTRELLIS_WRITTEN] == 2);
+        EXPECT(memcmp(written, minus_four[mode], 2) == 0 && written[2] == 0xEE);
+        EXPECT(write_price(mode, "\xE2\x88\x92" "4", 4, HUMTRELLIS_PRICE) == HUMTRELLIS_TAKEN && answer[HUMTRELLIS_WRITTEN] == 2 && memcmp(written, minus_four[mode], 2) == 0);
+        memset(written, 0xEE, sizeof written);
+        EXPECT(read_price(mode, minus_four[mode], 2, HUMTRELLIS_PRICE_TEXT) == HUMTRELLIS_TAKEN && answer[HUMTRELLIS_WRITTEN] == 2 && memcmp(written, "-4\xEE", 3) == 0);
+        EXPECT(read_price(mode, "\xFF", 1, HUMTRELLIS_PRICE_TEXT) == HUMTRELLIS_TAKEN && memcmp(written, "8.", 2) == 0);
+    }
+    EXPECT(write_price(3, "1.5 ", 4, HUMTRELLIS_PRICE) == HUMTRELLIS_TAKEN && answer[HUMTRELLIS_WRITTEN] == 3 && memcmp(written, "\xE0\x3E\x00", 3) == 0);
+    EXPECT(write_price(3, "", 0, HUMTRELLIS_PRICE) == HUMTRELLIS_TAKEN && answer[HUMTRELLIS_WRITTEN] == 0);
+    memset(long_price, '8', sizeof long_price);
+    memset(written, 0xEE, sizeof written);
+    EXPECT(refused_price(write_price(4, long_price, 81, 79), HUMTRELLIS_REFUSED_LONG_TRANSFER, 0) && refused_price(write_price(4, ".", 1, 79), HUMTRELLIS_REFUSED_REGISTER, 0));
+    EXPECT(refused_price(write_price(3, ".", 1, 79), HUMTRELLIS_REFUSED_OUT_LENGTH, 0) && refused_price(write_price(3, "1..", 3, HUMTRELLIS_PRICE), HUMTRELLIS_REFUSED_SYMBOL, 2));
+    EXPECT(refused_price(write_price(3, "4\xE2\x88", 3, HUMTRELLIS_PRICE), HUMTRELLIS_REFUSED_SYMBOL, 1) && refused_price(write_price(3, "-.", 2, HUMTRELLIS_PRICE), HUMTRELLIS_REFUSED_SYMBOL, 1));
+    EXPECT(refused_price(read_price(4, long_price, 81, 159), HUMTRELLIS_REFUSED_LONG_TRANSFER, 0) && refused_price(read_price(4, "\x40", 1, 159), HUMTRELLIS_REFUSED_REGISTER, 0));
+    EXPECT(refused_price(read_price(3, "\x40", 1, 159), HUMTRELLIS_REFUSED_OUT_LENGTH, 0) && refused_price(read_price(3, "\x04\x44", 2, HUMTRELLIS_PRICE_TEXT), HUMTRELLIS_REFUSED_SYMBOL, 1));
+    EXPECT(write_price(3, long_price, 80, HUMTRELLIS_PRICE) == HUMTRELLIS_TAKEN && answer[HUMTRELLIS_WRITTEN] == 80 && written[79] == 0xBF && written[80] == 0xEE);
+    EXPECT(humtrellis_price_write(3, (const uint8_t *)"", 0, written, HUMTRELLIS_PRICE, answer, HUMTRELLIS_ANSWER - 1) == HUMTRELLIS_SIZE);
+    EXPECT(humtrellis_price_read(3, (const uint8_t *)"", 0, written, HUMTRELLIS_PRICE_TEXT, answer, HUMTRELLIS_ANSWER - 1) == HUMTRELLIS_SIZE);
+}
+
 /* An unknown part comes before every refusal, but not before a wrong size; both power-ons still give power-on registers. */
 static void unknown_part(void) {
     registers[HUMTRELLIS_E] = 9;
@@ -399,6 +438,7 @@ int main(void) {
     every_element();
     packed();
     images();
+    prices();
     unknown_part();
     logs();
     rescues();

@@ -12,7 +12,7 @@ use Rattle.sheet.specs.declared.Rescued.{Rescued}
 use Rattle.sheet.specs.declared.Written.{Written}
 use Rattle.sheet.specs.declared.Check.{Check}
 use Rattle.sheet.specs.declared.Refusal.{Refusal}
-use Rattle.sheet.specs.declared.Refusal.the-variants.{EmptyTransfer, LongTransfer, ChipCount, RamLength, RamByte, Register, UndefinedCommand, GroupOrPhase, OutputLength, ManyChips, ChipField, LogHead, CutRecord, LongLog, UnknownPart, StrayBits, UnknownPlace, BitCount, ShortBody, RecordForm, Checksum, RecordType, AddressOutside, AddressTwice, AddressMissing, NoEnd}
+use Rattle.sheet.specs.declared.Refusal.the-variants.{EmptyTransfer, LongTransfer, ChipCount, RamLength, RamByte, Register, UndefinedCommand, GroupOrPhase, OutputLength, ManyChips, ChipField, LogHead, CutRecord, LongLog, NoSymbol, UnknownPart, StrayBits, UnknownPlace, BitCount, ShortBody, RecordForm, Checksum, RecordType, AddressOutside, AddressTwice, AddressMissing, NoEnd}
 use Rattle.sheet.specs.Parts.{Part}
 use Rattle.sheet.specs.Refusals.{numberOf, numbers, plainNumbers, pictureNumbers, rescuedNumbers, checkNumbers, writtenNumbers}
 
@@ -31,6 +31,7 @@ small (ChipField at) = omega arith
 small LogHead = omega arith
 small (CutRecord at) = omega arith
 small LongLog = omega arith
+small (NoSymbol at) = omega arith
 small UnknownPart = omega arith
 small (StrayBits at) = omega arith
 small (UnknownPlace at) = omega arith

@@ -16,6 +16,7 @@ use Rattle.sheet.specs.Writer.{writeRowsPart}
 use Rattle.sheet.specs.Three.{writeThreePart}
 use Rattle.sheet.specs.Hex.{hexWritePart}
 use Rattle.sheet.specs.Images.{hexReadPart}
+use Rattle.sheet.specs.Price.{priceWrite, priceRead}
 use Rattle.buslog.specs.declared.Replayed.{Replayed}
 use Rattle.lent.specs.Lent.{lentCall}
 use Rattle.wire.specs.Bytes.{bothOf, bothBytes, chipIn, chipBytes}
@@ -121,6 +122,17 @@ unfoldable pub hexReadC : ℕ → ℕ → List ℕ → List ℕ → List ℕ →
 hexReadC part n file ram answer =
     let s = hexReadPart part n file ram in
     saidC true (writtenNumbers (s .result)) (s .out) ram answer
+
+-- a price's text to data bytes, and back
+unfoldable pub priceWriteC : ℕ → List ℕ → List ℕ → List ℕ → Filled
+priceWriteC mode text out answer =
+    let s = priceWrite mode text out in
+    saidC true (writtenNumbers (s .result)) (s .out) out answer
+
+unfoldable pub priceReadC : ℕ → List ℕ → List ℕ → List ℕ → Filled
+priceReadC mode segments out answer =
+    let s = priceRead mode segments out in
+    saidC true (writtenNumbers (s .result)) (s .out) out answer
 
 -- what is whole of a torn log
 unfoldable pub rescueC : List ℕ → List ℕ → List ℕ → Filled

@@ -6,7 +6,7 @@ ghost use mathlib.Core.Path.{_≡_};
 ghost use Rattle.sheet.specs.Protocol.{sent};
 ghost use Rattle.sheet.specs.Packed.{columnsIn};
 ghost use Rattle.buslog.specs.Replays.{replayCall};
-ghost use Rattle.cabi.specs.Calls.{powerOnC, transferC, pictureC, packedPowerOnC, packedTransferC, packedPictureC, chipPowerOnC, chipPictureC, plainC, writeRowsC, writeThreeC, hexWriteC, hexReadC, rescueC, replayNumber};
+ghost use Rattle.cabi.specs.Calls.{powerOnC, transferC, pictureC, packedPowerOnC, packedTransferC, packedPictureC, chipPowerOnC, chipPictureC, plainC, writeRowsC, writeThreeC, hexWriteC, hexReadC, priceWriteC, priceReadC, rescueC, replayNumber};
 
 // ---- the long account, over columns that are a byte each or packed
 
@@ -381,6 +381,42 @@ pub extern "C" fn humtrellis_hex_read(
 {
     if answer.len() == 6 {
         let written = image::read(part, chips, file, ram);
+        wire::put_numbers(answers::written_numbers(written), answer)
+    } else {
+        255
+    }
+}
+
+// A price's text to data bytes for an M at the start of `out`, or a refusal by 2, 6, 9 (under 80 bytes), 15.
+#[no_mangle]
+pub extern "C" fn humtrellis_price_write(
+    mode: u8,
+    text: &[u8],
+    out: &mut [u8],
+    answer: &mut [usize],
+) -> u8
+    ensures { λ r. ⌜ priceWriteC mode (now (text .entry)) (now (out .entry)) (now (answer .entry)) ≡ record { number = r; buffer = now (out .exit); answer = now (answer .exit) } ⌝ }
+{
+    if answer.len() == 6 {
+        let written = price::write(mode, text, out);
+        wire::put_numbers(answers::written_numbers(written), answer)
+    } else {
+        255
+    }
+}
+
+// Data bytes to the text that they show at the start of `out`, or a refusal by 2, 6, 9 (under 160 bytes), 15.
+#[no_mangle]
+pub extern "C" fn humtrellis_price_read(
+    mode: u8,
+    segments: &[u8],
+    out: &mut [u8],
+    answer: &mut [usize],
+) -> u8
+    ensures { λ r. ⌜ priceReadC mode (now (segments .entry)) (now (out .entry)) (now (answer .entry)) ≡ record { number = r; buffer = now (out .exit); answer = now (answer .exit) } ⌝ }
+{
+    if answer.len() == 6 {
+        let written = price::read(mode, segments, out);
         wire::put_numbers(answers::written_numbers(written), answer)
     } else {
         255

@@ -23,6 +23,8 @@ pub mod Three
 pub mod Hex
 pub mod Images
 pub mod Covered
+pub mod Price
+pub mod Prices
 pub mod Pointing
 pub mod Packed
 pub mod Starred
@@ -40,3 +42,4 @@ pub mod Writings
 pub mod Threes
 pub mod Packing
 pub mod Imaging
+pub mod Priced

@@ -3,10 +3,10 @@
 use mathlib.Core.Path.{_≡_, refl, sym, ap, subst, _∙_}
 use mathlib.Core.List.{List, [], _∷_, _++_}
 use Prim.Native.Nat.{ℕ, suc, _+_, _≤_}
-use native.Mathlib.Nat.{add-zero}
+use native.Mathlib.Nat.{add-zero, zero-add}
 use native.Mathlib.Omega.{arith}
-use lib.ListN.{length, set, length-append}
-use lib.Seq.{sets, length-sets}
+use lib.ListN.{length, set, drop, length-append}
+use lib.Seq.{sets, sets-eq, length-sets}
 use Rattle.text.specs.Texts.{written, Puts}
 
 -- a text after another
@@ -29,6 +29,11 @@ puts-byte at byte out = record { out = refl; place = refl }
 pub puts-nothing : (at : ℕ) (out : List ℕ) → Puts at [] out out at
 unfolding written
 puts-nothing at out = record { out = refl; place = sym (add-zero at) }
+
+-- at the start of a buffer
+pub at-start : (text out : List ℕ) → length text ≤ length out → written 0 text out ≡ text ++ drop (length text) out
+unfolding written
+at-start text out h = sets-eq text out 0 (omega arith) ∙ ap (λ (k : ℕ). text ++ drop k out) (zero-add (length text))
 
 -- ---- while a text is written: writing the rest of it from here on gives the whole, and there is room for it
 

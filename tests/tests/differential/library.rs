@@ -65,6 +65,16 @@ extern "C" {
         out: *mut u8, out_length: usize, answer: *mut usize, answer_length: usize,
     ) -> u8;
 
+    pub fn humtrellis_price_write(
+        mode: u8, text: *const u8, text_length: usize, out: *mut u8, out_length: usize,
+        answer: *mut usize, answer_length: usize,
+    ) -> u8;
+
+    pub fn humtrellis_price_read(
+        mode: u8, segments: *const u8, segments_length: usize, out: *mut u8, out_length: usize,
+        answer: *mut usize, answer_length: usize,
+    ) -> u8;
+
     pub fn humtrellis_hex_write(
         part: u8, chips: u8, ram: *const u8, ram_length: usize, out: *mut u8, out_length: usize,
         answer: *mut usize, answer_length: usize,
@@ -372,6 +382,46 @@ pub fn write_three(
     };
     s.back(registers);
     w.back(wanted);
+    o.back(out);
+    a.back(answer);
+    number
+}
+
+pub fn price_write(mode: u8, text: &mut [u8], out: &mut [u8], answer: &mut [usize]) -> u8 {
+    let (mut t, mut o, mut a) = (bytes(text), bytes(out), numbers(answer));
+    // Safety: each pointer goes with the length of the buffer that it points to.
+    let number = unsafe {
+        humtrellis_price_write(
+            mode,
+            t.pointer(),
+            t.length(),
+            o.pointer(),
+            o.length(),
+            a.pointer(),
+            a.length(),
+        )
+    };
+    t.back(text);
+    o.back(out);
+    a.back(answer);
+    number
+}
+
+pub fn price_read(mode: u8, segments: &mut [u8], out: &mut [u8], answer: &mut [usize]) -> u8 {
+    let (mut s, mut o, mut a) = (bytes(segments), bytes(out), numbers(answer));
+    // Safety: each pointer goes with the length of the buffer that it points to.
+    let number = unsafe {
+        humtrellis_price_read(
+            mode,
+            s.pointer(),
+            s.length(),
+            o.pointer(),
+            o.length(),
+            a.pointer(),
+            a.length(),
+        )
+    };
+    s.back(segments);
     o.back(out);
     a.back(answer);
     number

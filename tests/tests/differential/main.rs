@@ -17,6 +17,7 @@ mod orders;
 mod packed;
 mod part;
 mod plain;
+mod price;
 mod replay;
 mod rescue;
 mod seen;

@@ -336,3 +336,27 @@ fn stops_at_length_of_a_torn_log() {
     bus.refused(number, 14, 0);
     assert_eq!(out, [0xEE; 3]);
 }
+
+/// The text's length, and that of the segments, comes before the mode and the output's length.
+#[test]
+fn stops_at_lengths_of_a_price() {
+    for call in [humtrellis_price_write, humtrellis_price_read] {
+        for (mode, room) in [(0, FALSE), (0, 0), (4, FALSE), (255, 0)] {
+            let (mut bus, mut out) = (Bus::new(0), [0xEE; COLUMNS]);
+            let (given, a) = ([b'8'; 3], bus.answer.as_mut_ptr());
+            let number = unsafe {
+                call(
+                    mode,
+                    given.as_ptr(),
+                    FALSE,
+                    out.as_mut_ptr(),
+                    room,
+                    a,
+                    ANSWER,
+                )
+            };
+            bus.refused(number, 2, 0);
+            assert_eq!(out, [0xEE; COLUMNS]);
+        }
+    }
+}

@@ -1,12 +1,10 @@
 -- `image::write` meets its contract: refused, too short an output, or the file at its start.
 -- Assumes nothing.
 use mathlib.Core.Path.{_≡_, sym, ap, ap₂, _∙_}
-use mathlib.Core.List.{List, _++_}
-use Prim.Native.Nat.{ℕ, _+_, _≤_}
-use native.Mathlib.Nat.{zero-add}
+use mathlib.Core.List.{List}
+use Prim.Native.Nat.{ℕ, _≤_}
 use native.Mathlib.Omega.{arith}
-use lib.ListN.{length, drop}
-use lib.Seq.{sets-eq}
+use lib.ListN.{length}
 use denote.Ref.{now}
 use Rattle.sheet.specs.declared.Chips.{Chips}
 use Rattle.sheet.specs.declared.Written.{Written}
@@ -15,17 +13,12 @@ use Rattle.sheet.specs.declared.Check.the-variants.{Passed}
 use Rattle.sheet.specs.Parts.{partOf}
 use Rattle.sheet.specs.Checks.{orElse, checkPart, checkPowerOn}
 use Rattle.sheet.specs.Hex.{fileOf, oneGroup, hexWritePart}
-use Rattle.text.specs.Texts.{written}
+use Rattle.text.proofs.Writing.{at-start}
 use Rattle.laws.proofs.Written as calls
 use Rattle.imagelaws.proofs.Sizes.{Group, group-of, length-file}
 use borrow.Author.Needs.{needs}
 use Rattle.image.proofs.write.Statement.{statement}
 use Rattle.image.proofs.write.Tie as tie
-
--- a text at the start of a buffer
-at-start : (text out : List ℕ) → length text ≤ length out → written 0 text out ≡ text ++ drop (length text) out
-unfolding written
-at-start text out h = sets-eq text out 0 (omega arith) ∙ ap (λ (k : ℕ). text ++ drop k out) (zero-add (length text))
 
 -- what the checks found, of this group alone
 checked : (c : tie.After-check-power-on) (k : Check) → c .check-power-on .result ≡ k → let a = c .before .before .before .before .args in

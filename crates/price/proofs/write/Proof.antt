@@ -1,0 +1,56 @@
+-- `price::write` meets its contract: refused by its sizes, by 15, or the data bytes.
+-- Assumes nothing.
+use mathlib.Core.Path.{_≡_, sym, _∙_}
+use mathlib.Core.List.{map}
+use lib.ListN.{length}
+use denote.Ref.{now}
+use borrow.Author.Needs.{needs}
+use Rattle.sheet.specs.declared.Check.the-variants.{Passed}
+use Rattle.sheet.specs.Price.{byteOf, spelled, checkPrice, Sizes, priceWrite}
+use Rattle.laws.proofs.Written.{numbered}
+use Rattle.laws.proofs.Spelling.{sizes, bytes-fit}
+use Rattle.text.proofs.Writing.{puts-length}
+use Rattle.price.proofs.Calls as calls
+use Rattle.price.proofs.write.Statement.{statement}
+use Rattle.price.proofs.write.Tie as tie
+
+passed : (c : tie.After-enum-told) → let a = c .before .before .before .before .before .args in checkPrice (length (now (a .text))) (a .mode) 80 (length (now (a .out))) ≡ Passed
+passed c = sym (c .before .before .check-sizes .ensures) ∙ c .enum-told .given .1
+
+fits : (c : tie.After-enum-told) → let a = c .before .before .before .before .before .args in Sizes (length (now (a .text))) (a .mode) 80 (length (now (a .out)))
+fits c = sizes _ _ _ _ (passed c)
+
+returns : tie.Need-returns
+unfolding priceWrite
+returns c = let k = c .before .before .before in
+    let a = k .before .before .before .args in
+    let p = spelled (now (a .text)) in
+    numbered (calls.by-sizes (checkPrice (length (now (a .text))) (a .mode) 80 (length (now (a .out)))) p (map (byteOf (a .mode)) (p .symbols)) (now (a .out)) _ (sym (k .check-sizes .ensures) ∙ c .before .refusal .given .1))
+
+returns-2 : tie.Need-returns-2
+unfolding priceWrite
+returns-2 c = let f = c .before .before .before in
+    let t = f .before in
+    let a = t .before .before .before .before .before .args in
+    let p = spelled (now (a .text)) in
+    numbered (calls.refused (checkPrice (length (now (a .text))) (a .mode) 80 (length (now (a .out)))) p (map (byteOf (a .mode)) (p .symbols)) (now (a .out)) _ (passed t) (sym (f .text-fault .ensures) ∙ c .before .refusal2 .given .1))
+
+returns-3 : tie.Need-returns-3
+unfolding priceWrite
+returns-3 c = let put = c .before .before in
+    let told = put .before .before in
+    let f = told .before .before in
+    let t = f .before in
+    let a = t .before .before .before .before .before .args in
+    let p = spelled (now (a .text)) in
+    numbered
+    (calls.written (checkPrice (length (now (a .text))) (a .mode) 80 (length (now (a .out)))) p (map (byteOf (a .mode)) (p .symbols)) (now (a .out)) (passed t) (sym (f .text-fault .ensures) ∙ told .enum-told2 .given .1)
+    (bytes-fit (a .mode) (now (a .text)) (length (now (a .out))) (fits t)) (put .put-bytes .ensures))
+
+pub write-spec : {M : Type 1} → statement M
+write-spec =
+    tie.close
+    (tie.spec
+    (λ c κs. search needs) (λ c. search needs) (λ c. search needs) (λ c κs. fits c .bytes) (λ c. search needs) (λ c. search needs)
+    (λ c κs. fits (c .before .before .before .before))
+    returns returns-2 (λ c. puts-length (c .before .before .put-bytes .ensures)) returns-3)
