@@ -1,3 +1,2 @@
-pub mod Placed
-pub mod Tested
 pub mod Bytes
+pub mod Stream

@@ -1,154 +1,134 @@
-// Data bytes into a group's packed columns, two a byte, the even column in the low four bits (paper 02, request 6).
-// A byte's columns are made side by side in a word, four bits each; from an odd column on the word begins one column later.
+// Data bytes into a group's packed columns, two a byte (paper 02, request 6). Every run goes from an even column on: from an odd one its bits are a stream that begins one column earlier.
 ghost use mathlib.Core.Path.{_≡_};
-ghost use Prim.Native.Nat.{ℕ, _+_, _-_, _*_, _≤_, _<_, _^_};
+ghost use mathlib.Core.Logic.{_≢_};
+ghost use Prim.Native.Nat.{_-_, _*_, _%_, _≤_, _<_};
 ghost use lib.ListN.{length};
 ghost use Rattle.sheet.specs.declared.Check.the-variants.{Passed};
 ghost use Rattle.sheet.specs.Registers.{bankRow};
 ghost use Rattle.sheet.specs.Checks.{overIn};
-ghost use Rattle.sheet.specs.Data.{changed};
 ghost use Rattle.sheet.specs.Runs.{putRun};
 ghost use Rattle.sheet.specs.Packed.{unpacked};
-ghost use Rattle.words.specs.Fields.{columnOf, mixed, merged};
 ghost use Rattle.ram.specs.Writes.{Whole, Cut};
-ghost use Rattle.packed_ram.specs.Placed.{placed, RowsWord, Word};
+ghost use Rattle.packed_ram.specs.Stream.{earlier, stream, ending};
 
-// ---- two columns a byte
-
-// The rows in `rows` of two columns become those of t.
-fn put(ram: &mut [u8], at: usize, rows: u8, t: u8)
-    requires { ⌜ at < length (now ram) ⌝ }
-    ensures { λ _. ⌜ now (ram .exit) ≡ changed (mixed rows t) at (now (ram .entry)) ⌝ }
+// The eight bits that begin `shift` bits before byte x.
+fn earlier_byte(last: u8, x: u8, shift: usize) -> u8
+    requires { ⌜ shift < 8 ⌝ }
+    ensures { λ r. ⌜ r ≡ earlier shift last x ⌝ }
 {
-    ram[at] = ((ram[at] | rows) ^ rows) | (t & rows);
+    let both = words::wide(last) * 256 + words::wide(x);
+    ((both >> shift) % 256) as u8
 }
 
-// Two columns of a word.
-fn two_of(w: u64, j: usize) -> u8
-    requires { ⌜ j < 8 ⌝ }
-    ensures { λ r. ⌜ r ≡ columnOf w j ⌝ }
+// Static from an even column on: a byte of the stream is four packed bytes.
+fn static_run(ram: &mut [u8], at: usize, bank: u8, shift: usize, before: u8, bytes: &[u8])
+    requires { ⌜ (bank < 2) × (shift < 8) × (4 * length (now bytes) ≤ length (now ram) - at) × (overIn 0 (unpacked (now ram)) ≡ Passed) ⌝ }
+    ensures { λ _. ⌜ unpacked (now (ram .exit)) ≡ putRun 1 (bankRow 1 bank) (2 * at) (stream shift before (now (bytes .entry))) (unpacked (now (ram .entry))) ⌝ }
 {
-    ((w >> (8 * j)) % 256) as u8
-}
-
-// The rows in `rows` of n bytes, two columns each, become those of t.
-fn put_bytes(ram: &mut [u8], at: usize, n: usize, rows: u64, t: u64)
-    requires { ⌜ (at + n ≤ length (now ram)) × (n ≤ 8) ⌝ }
-    ensures { λ _. ⌜ now (ram .exit) ≡ merged n rows t at (now (ram .entry)) ⌝ }
-{
-    let mut j: usize = 0;
-    while j < n {
-        put(ram, at + j, two_of(rows, j), two_of(t, j));
-        j += 1;
+    let rows = packed_words::rows_of(1, bank) as u32;
+    let mut last = before;
+    let mut i: usize = 0;
+    while i < bytes.len() {
+        let x = bytes[i];
+        let t = packed_words::eight_columns(earlier_byte(last, x, shift));
+        words::put_four(ram, at + 4 * i, rows, t as u32);
+        last = x;
+        i += 1;
     }
 }
 
-// ---- a byte's columns
-
-// Columns from v on, all of them there. From an odd column on the word begins one column later.
-fn put_columns(ram: &mut [u8], v: usize, w: usize, rows: u64, t: u64)
-    requires { ⌜ (v + w ≤ 2 * length (now ram)) × (w ≤ 8) × (rows < 2 ^ (4 * w)) × (t < 2 ^ 32) ⌝ }
-    ensures { λ _. ⌜ unpacked (now (ram .exit)) ≡ placed w rows t v (unpacked (now (ram .entry))) ⌝ }
+// 1:2 from an even column on: two packed bytes.
+fn two_run(ram: &mut [u8], at: usize, bank: u8, shift: usize, before: u8, bytes: &[u8])
+    requires { ⌜ (bank < 2) × (shift < 8) × (2 * length (now bytes) ≤ length (now ram) - at) × (overIn 0 (unpacked (now ram)) ≡ Passed) ⌝ }
+    ensures { λ _. ⌜ unpacked (now (ram .exit)) ≡ putRun 2 (bankRow 2 bank) (2 * at) (stream shift before (now (bytes .entry))) (unpacked (now (ram .entry))) ⌝ }
 {
-    if v % 2 == 0 {
-        put_bytes(ram, v / 2, (w + 1) / 2, rows, t);
-    } else {
-        put_bytes(ram, v / 2, w / 2 + 1, 16 * rows, 16 * t);
+    let rows = packed_words::rows_of(2, bank) as u32;
+    let mut last = before;
+    let mut i: usize = 0;
+    while i < bytes.len() {
+        let x = bytes[i];
+        let t = packed_words::four_columns(earlier_byte(last, x, shift));
+        words::put_two(ram, at + 2 * i, rows, t as u32);
+        last = x;
+        i += 1;
     }
 }
 
-// Those of at most eight columns that are there, at the end of the RAM.
-fn cut_columns(ram: &mut [u8], v: usize, rows: u64, t: u64)
-    requires { ⌜ (v < 2 * length (now ram)) × (2 * length (now ram) ≤ v + 8) × (rows < 2 ^ 32) × (t < 2 ^ 32) ⌝ }
-    ensures { λ _. ⌜ ((w : ℕ) → 2 * length (now (ram .entry)) ≤ v + w → unpacked (now (ram .exit)) ≡ placed w rows t v (unpacked (now (ram .entry)))) ⌝ }
+// 1:4 from an even column on: one packed byte.
+fn four_run(ram: &mut [u8], at: usize, shift: usize, before: u8, bytes: &[u8])
+    requires { ⌜ (shift < 8) × (length (now bytes) ≤ length (now ram) - at) × (overIn 0 (unpacked (now ram)) ≡ Passed) ⌝ }
+    ensures { λ _. ⌜ unpacked (now (ram .exit)) ≡ putRun 4 0 (2 * at) (stream shift before (now (bytes .entry))) (unpacked (now (ram .entry))) ⌝ }
 {
-    let at = v / 2;
-    let left = ram.len() - at;
-    if v % 2 == 0 {
-        put_bytes(ram, at, left, rows, t);
-    } else {
-        put_bytes(ram, at, left, 16 * rows, 16 * t);
+    let mut last = before;
+    let mut i: usize = 0;
+    while i < bytes.len() {
+        let x = bytes[i];
+        ram[at + i] = words::reversed(earlier_byte(last, x, shift));
+        last = x;
+        i += 1;
     }
 }
 
-// The rows that a byte sets in its columns; in 1:3 the last column gets rows 0 and 1 only.
-fn rows_of(m: usize, bank: u8) -> u64
-    requires { ⌜ (0 < m) × (m < 5) × (bank < 2) ⌝ }
-    ensures { λ r. ⌜ RowsWord m bank r ⌝ }
+// 1:3: two bytes are six columns, which from an even column on are three packed bytes.
+fn three_run(ram: &mut [u8], v: usize, bytes: &[u8])
+    requires { ⌜ (3 * length (now bytes) ≤ 2 * length (now ram) - v) × (overIn 0 (unpacked (now ram)) ≡ Passed) × (length (now ram) < 65536) ⌝ }
+    ensures { λ _. ⌜ unpacked (now (ram .exit)) ≡ putRun 3 0 v (now (bytes .entry)) (unpacked (now (ram .entry))) ⌝ }
+{
+    let mut i: usize = 0;
+    while i < bytes.len() {
+        let c = v + 3 * i;
+        let t = packed_words::three_columns(bytes[i]);
+        if (c % 2 == 0) & (i + 1 < bytes.len()) {
+            let both = t + 4096 * packed_words::three_columns(bytes[i + 1]);
+            packed_words::put_three(ram, c / 2, 0x377377, both as u32);
+            i += 2;
+        } else {
+            packed_words::put_columns(ram, c, 3, 0x377, t);
+            i += 1;
+        }
+    }
+}
+
+// A stream from an even column on, where a byte covers its columns exactly.
+fn stream_run(ram: &mut [u8], at: usize, m: usize, bank: u8, shift: usize, before: u8, bytes: &[u8])
+    requires { ⌜ Whole (unpacked (now ram)) (2 * at) m bank (now bytes) × (m ≢ 3) × (shift < 8) ⌝ }
+    ensures { λ _. ⌜ unpacked (now (ram .exit)) ≡ putRun m (bankRow m bank) (2 * at) (stream shift before (now (bytes .entry))) (unpacked (now (ram .entry))) ⌝ }
 {
     match m {
-        1 => 0x11111111 * (1 + 3 * (bank as u64)),
-        2 => 0x3333 * (1 + 3 * (bank as u64)),
-        3 => 0x377,
-        _ => 0xFF,
+        1 => static_run(ram, at, bank, shift, before, bytes),
+        2 => two_run(ram, at, bank, shift, before, bytes),
+        _ => four_run(ram, at, shift, before, bytes),
     }
 }
 
-// Static: eight columns of one row, in both banks. The bits are parted by fours, by twos, one by one.
-fn eight_columns(x: u8) -> u64
-    ensures { λ r. ⌜ Word 1 x r ⌝ }
+// A byte whose last column is q, in the rows of the bank.
+fn ending_in(m: usize, bank: u8, q: u8) -> u8
+    requires { ⌜ (0 < m) × (m < 5) × (bank < 2) × (q < 16) ⌝ }
+    ensures { λ r. ⌜ ending m (bankRow m bank) r q ≡ q ⌝ }
 {
-    let fours = 0x1001 * (words::reversed(x) as u64) & 0x000F000F;
-    let twos = 0x41 * fours & 0x03030303;
-    5 * (9 * twos & 0x11111111)
+    let b = arithmetic::bank_row(m, bank);
+    words::reversed(q >> b) >> (8 - m)
 }
 
-// 1:2: four columns of two rows, in both banks.
-fn four_columns(x: u8) -> u64
-    ensures { λ r. ⌜ Word 2 x r ⌝ }
-{
-    let y = words::reversed(x) as u64;
-    let fours = (y | 16 * y) & 0x0F0F;
-    5 * ((fours | 4 * fours) & 0x3333)
-}
-
-// 1:3: two columns of three rows and one of two.
-fn three_columns(x: u8) -> u64
-    ensures { λ r. ⌜ Word 3 x r ⌝ }
-{
-    let y = words::reversed(x) as u64;
-    y % 8 + 16 * (y / 8 % 8) + 256 * (y / 64)
-}
-
-// A byte's columns as a word; in 1:4 they are its bits in the other order.
-fn columns_of(m: usize, x: u8) -> u64
-    requires { ⌜ (0 < m) × (m < 5) ⌝ }
-    ensures { λ r. ⌜ Word m x r ⌝ }
-{
-    match m {
-        1 => eight_columns(x),
-        2 => four_columns(x),
-        3 => three_columns(x),
-        _ => words::reversed(x) as u64,
-    }
-}
-
-// ---- runs
-
-// Bytes whose columns are all there.
-fn run(ram: &mut [u8], v: usize, m: usize, bank: u8, bytes: &[u8])
-    requires { ⌜ Whole (unpacked (now ram)) v m bank (now bytes) × (length (now ram) < 65536) ⌝ }
+// From an odd column on: a stream from the even column before it, which keeps what it has; the last column stands apart.
+fn odd_run(ram: &mut [u8], v: usize, m: usize, bank: u8, bytes: &[u8])
+    requires { ⌜ Whole (unpacked (now ram)) v m bank (now bytes) × (m ≢ 3) × (v % 2 ≢ 0) × (0 < length (now bytes)) × (length (now ram) < 65536) ⌝ }
     ensures { λ _. ⌜ unpacked (now (ram .exit)) ≡ putRun m (bankRow m bank) v (now (bytes .entry)) (unpacked (now (ram .entry))) ⌝ }
 {
+    let at = v / 2;
     let w = arithmetic::width(m);
-    let rows = rows_of(m, bank);
-    let mut i: usize = 0;
-    while i < bytes.len() {
-        put_columns(ram, v + w * i, w, rows, columns_of(m, bytes[i]));
-        i += 1;
-    }
-}
-
-// 1:4 from an even column on: a data byte is one packed byte.
-fn four_run(ram: &mut [u8], at: usize, bytes: &[u8])
-    requires { ⌜ (length (now bytes) ≤ length (now ram) - at) × (overIn 0 (unpacked (now ram)) ≡ Passed) ⌝ }
-    ensures { λ _. ⌜ unpacked (now (ram .exit)) ≡ putRun 4 0 (2 * at) (now (bytes .entry)) (unpacked (now (ram .entry))) ⌝ }
-{
-    let mut i: usize = 0;
-    while i < bytes.len() {
-        ram[at + i] = words::reversed(bytes[i]);
-        i += 1;
-    }
+    let before = ending_in(m, bank, ram[at] % 16);
+    stream_run(ram, at, m, bank, m, before, bytes);
+    let n = bytes.len();
+    let t = packed_words::columns_of(m, bytes[n - 1]);
+    let down = 4 * (w - 1);
+    packed_words::put_columns(
+        ram,
+        v - 1 + w * n,
+        1,
+        packed_words::rows_of(m, bank) >> down,
+        t >> down,
+    );
 }
 
 // Bytes whose columns are all there, by the mode and the column that they begin at.
@@ -156,10 +136,12 @@ pub fn whole_bytes(ram: &mut [u8], v: usize, m: usize, bank: u8, bytes: &[u8])
     requires { ⌜ Whole (unpacked (now ram)) v m bank (now bytes) × (length (now ram) < 65536) ⌝ }
     ensures { λ _. ⌜ unpacked (now (ram .exit)) ≡ putRun m (bankRow m bank) v (now (bytes .entry)) (unpacked (now (ram .entry))) ⌝ }
 {
-    if (m == 4) & (v % 2 == 0) {
-        four_run(ram, v / 2, bytes)
-    } else {
-        run(ram, v, m, bank, bytes)
+    if m == 3 {
+        three_run(ram, v, bytes);
+    } else if v % 2 == 0 {
+        stream_run(ram, v / 2, m, bank, 0, 0, bytes);
+    } else if 0 < bytes.len() {
+        odd_run(ram, v, m, bank, bytes);
     }
 }
 
@@ -170,7 +152,12 @@ pub fn cut_byte(ram: &mut [u8], at: usize, m: usize, bank: u8, rest: &[u8])
 {
     if 0 < rest.len() {
         if at / 2 < ram.len() {
-            cut_columns(ram, at, rows_of(m, bank), columns_of(m, rest[0]));
+            packed_words::cut_columns(
+                ram,
+                at,
+                packed_words::rows_of(m, bank),
+                packed_words::columns_of(m, rest[0]),
+            );
         }
     }
 }

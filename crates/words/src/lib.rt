@@ -81,6 +81,18 @@ pub fn put_four(ram: &mut [u8], at: usize, rows: u32, t: u32)
     ram[at + 3] = (w / 16777216 % 256) as u8;
 }
 
+// Two bytes at once, in the same way.
+pub fn put_two(ram: &mut [u8], at: usize, rows: u32, t: u32)
+    requires { ⌜ at + 2 ≤ length (now ram) ⌝ }
+    ensures { λ _. ⌜ now (ram .exit) ≡ merged 2 rows t at (now (ram .entry)) ⌝ }
+{
+    let old = wide(ram[at]) + 256 * wide(ram[at + 1]);
+    let kept = (old | rows) ^ rows;
+    let w = kept | (t & rows);
+    ram[at] = (w % 256) as u8;
+    ram[at + 1] = (w / 256 % 256) as u8;
+}
+
 // A byte's four columns of two rows as a word, in both banks. The product has bit k of the byte at bit k + 10 j, for j from 0 to 3.
 pub fn spread(x: u8) -> u32
     ensures { λ r. ⌜ Spread 2 x 0 r ⌝ }

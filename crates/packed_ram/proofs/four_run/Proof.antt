@@ -1,40 +1,40 @@
--- `packed_ram::four_run` meets its contract: after i turns the first i bytes are written.
+-- `packed_ram::four_run` meets its contract: after i turns the first i bytes of the stream are written.
 -- Assumes nothing.
-use mathlib.Core.Path.{_≡_, ap, _∙_}
+use mathlib.Core.Path.{_≡_, refl, sym, ap, _∙_}
+use native.Mathlib.Nat.{one-mul}
 use Prim.Native.Nat.{ℕ, _+_, _-_, _*_, _≤_, _<_}
 use native.Mathlib.Omega.{arith}
-use lib.ListN.{length, getD}
+use lib.ListN.{length, set}
 use denote.Ref.{now}
 use Rattle.sheet.specs.Data.{putBits}
 use Rattle.sheet.specs.Packed.{unpacked}
-use Rattle.laws.proofs.Packed.{length-unpacked}
-use Rattle.ram.proofs.Runs.{Running, begun, turn, done, small}
-use Rattle.packed_ram.proofs.Bytes.{four-packed}
+use Rattle.ram.proofs.Runs.{small}
+use Rattle.packed_ram.proofs.Bytes.{four-packed, as-long}
+use Rattle.packed_ram.proofs.Stream.{Streaming, stream-begun, stream-done, packed-turn}
 use borrow.Author.Needs.{needs}
 use Rattle.packed_ram.proofs.four_run.Statement.{statement}
 use Rattle.packed_ram.proofs.four_run.Tie as tie
 
 abbrev Inv-loop : tie.InvT-loop
-Inv-loop ram₀ at bytes i₀ ram i = Running 4 0 (2 * at) bytes (unpacked ram₀) (unpacked ram) i
+Inv-loop ram₀ at shift before bytes last₀ i₀ ram last i = Streaming 4 0 (2 * at) shift before bytes (unpacked ram₀) (unpacked ram) last i
 
 abbrev μ-loop : tie.MeasureT-loop
-μ-loop ram₀ at bytes i₀ ram i = length bytes - i
+μ-loop ram₀ at shift before bytes last₀ i₀ ram last i = length bytes - i
 
 -- the RAM is as long as it was
 long : (p : tie.At-loop Inv-loop μ-loop) → length (p .loop .ram) ≡ length (now (p .before .before .before .args .ram))
-long p = omega (arith, p .loop .inv .long, length-unpacked (p .loop .ram), length-unpacked (now (p .before .before .before .args .ram)))
+long p = as-long (now (p .before .before .before .args .ram)) (p .loop .ram) (p .loop .inv .run)
 
 loop-again : tie.Need-loop-again Inv-loop μ-loop
-loop-again c = let l = c .before .before in
+loop-again c = let z = c .before in
+    let l = z .before .before in
     let p = l .before in
     let s = p .before .before .before in
     let at = s .args .at in
     let i = p .loop .i in
-    let x = getD (now (s .args .bytes)) i 0 in
-    let there : 2 * (at + i) ≡ 2 * at + 2 * i = omega arith in
-    turn (l .loop-test .taken)
-    (four-packed x (at + i) (c .reversed .result) (p .loop .ram) (c .reversed .ensures) (small (omega arith) (omega arith) (s .pre .1) (p .loop .inv))
-    ∙ ap (λ (k : ℕ). putBits 8 4 0 k x (unpacked (p .loop .ram))) there)
+    packed-turn 1 at (p .loop .ram) (set (p .loop .ram) (at + i) (c .reversed .result)) refl (l .loop-test .taken) (z .earlier-byte .ensures)
+    (four-packed (z .earlier-byte .result) (at + i) (c .reversed .result) (p .loop .ram) (c .reversed .ensures) (small (omega arith) (omega arith) (s .pre .2) (p .loop .inv .run))
+    ∙ ap (λ (k : ℕ). putBits 8 4 0 (2 * (at + k)) (z .earlier-byte .result) (unpacked (p .loop .ram))) (sym (one-mul i)))
     (p .loop .inv)
 
 pub four-run-spec : {M : Type 1} → statement M
@@ -43,13 +43,14 @@ four-run-spec =
     (tie.spec
     Inv-loop
     μ-loop
-    (λ c. begun)
+    (λ c. stream-begun)
     (λ c. search needs)
+    (λ c κs. c .before .before .before .before .before .pre .0)
     (λ c κs. search needs)
-    (λ c. omega arith)
-    (λ c. omega (arith, long (c .before .before .before), c .before .before .loop-test .taken))
+    (λ c. omega (arith, long (c .before .before .before .before), c .before .before .before .loop-test .taken))
+    (λ c. omega (arith, long (c .before .before .before .before), c .before .before .before .loop-test .taken, c .before .before .before .before .before .before .before .pre .1))
     (λ c. search needs)
     (λ c. search needs)
     loop-again
     (λ c. long (c .before))
-    (λ c. done (c .loop-test .left) (c .before .loop .inv)))
+    (λ c. stream-done (c .loop-test .left) (c .before .loop .inv)))
