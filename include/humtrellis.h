@@ -1,4 +1,4 @@
-/* PCF8532 or PCA85133 drivers on one I2C bus: the proved model, for C and C++. Link target/staticlib/libcabi.a, made by `rt staticlib cabi`.
+/* PCF8532 or PCA85133 drivers on one I2C bus: the proved model, for C and C++ on x86-64 Linux. docs/C.md has how to link it, and each call with an example.
  *
  * A bus has chips of one part, HUMTRELLIS_PCF8532 or HUMTRELLIS_PCA85133, which every call on registers, chips or RAM names first:
  *

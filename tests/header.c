@@ -2,7 +2,7 @@
 #include <stdio.h>
 #include <string.h>
 
-#include "../include/humtrellis.h"
+#include <humtrellis.h>
 
 static int failures = 0;
 

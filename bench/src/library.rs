@@ -1,52 +1,13 @@
 //! (a): the proved library, through the calls of include/humtrellis.h.
 
 use crate::ways::Asked;
-use humtrellis_tests::model::{View, ANSWER, REGISTERS};
+use humtrellis::raw::*;
+use humtrellis_tests::model::View;
 
 /// Both groups' registers as bytes.
 pub type RegisterBytes = [u8; REGISTERS];
 /// Refusal number, place, three counts and the last chip.
 pub type Numbers = [usize; ANSWER];
-
-#[rustfmt::skip]
-extern "C" {
-    fn humtrellis_transfer(
-        part: u8, chips0: u8, chips1: u8, registers: *mut u8, registers_length: usize,
-        ram: *mut u8, ram_length: usize, bytes: *const u8, bytes_length: usize, bits: u8,
-        answer: *mut usize, answer_length: usize,
-    ) -> u8;
-
-    fn humtrellis_picture(
-        part: u8, chips0: u8, chips1: u8, registers: *const u8, registers_length: usize,
-        ram: *const u8, ram_length: usize, group: u8, phase: u8,
-        out: *mut u8, out_length: usize, answer: *mut usize, answer_length: usize,
-    ) -> u8;
-
-    fn humtrellis_packed_transfer(
-        part: u8, chips0: u8, chips1: u8, registers: *mut u8, registers_length: usize,
-        ram: *mut u8, ram_length: usize, bytes: *const u8, bytes_length: usize, bits: u8,
-        answer: *mut usize, answer_length: usize,
-    ) -> u8;
-
-    fn humtrellis_packed_picture(
-        part: u8, chips0: u8, chips1: u8, registers: *const u8, registers_length: usize,
-        ram: *const u8, ram_length: usize, group: u8, phase: u8,
-        out: *mut u8, out_length: usize, answer: *mut usize, answer_length: usize,
-    ) -> u8;
-
-    fn humtrellis_write_rows(
-        part: u8, chips0: u8, chips1: u8, registers: *const u8, registers_length: usize,
-        group: u8, mode: u8, bank: u8, wanted: *const u8, wanted_length: usize,
-        out: *mut u8, out_length: usize, answer: *mut usize, answer_length: usize,
-    ) -> u8;
-
-    fn humtrellis_hex_read(
-        part: u8, chips: u8, file: *const u8, file_length: usize,
-        ram: *mut u8, ram_length: usize, answer: *mut usize, answer_length: usize,
-    ) -> u8;
-
-    fn humtrellis_replay(log: *const u8, log_length: usize, out: *mut u8, out_length: usize) -> usize;
-}
 
 /// A transfer and a picture in the form that the calls take the RAM in.
 macro_rules! forms {

@@ -1,4 +1,4 @@
-//! Times the proved library, the independent model and a table loop side by side; docs/SPEED.md says what is printed.
+//! Times the proved library, the independent model and a table loop side by side; docs/SPEED.md says what is printed. `agree`: only holds their answers against each other.
 
 mod agree;
 mod images;
@@ -13,8 +13,7 @@ mod ways;
 
 use std::process::ExitCode;
 
-fn run() -> Result<(), String> {
-    agree::check()?;
+fn time() -> Result<(), String> {
     let transfers = measure::all(&samples::filled(), measure::transfers);
     report::transfers(&transfers);
     let pictures = measure::all(&samples::shown(), measure::pictures);
@@ -40,12 +39,21 @@ fn run() -> Result<(), String> {
     Ok(())
 }
 
+fn run() -> Result<(), String> {
+    let differs = |message| format!("{message}; nothing that differs is timed");
+    match std::env::args().nth(1).as_deref() {
+        None => agree::check().and_then(|()| time()).map_err(differs),
+        Some("agree") => agree::check().map_err(differs),
+        Some(other) => Err(format!("bench: {other} is none of its arguments; the one that it takes is agree")),
+    }
+}
+
 /// A missed target is a measurement, not a failure; different answers are one.
 fn main() -> ExitCode {
     match run() {
         Ok(()) => ExitCode::SUCCESS,
         Err(message) => {
-            eprintln!("{message}; nothing that differs is timed");
+            eprintln!("{message}");
             ExitCode::FAILURE
         }
     }

@@ -3,7 +3,7 @@
 use crate::samples::{self, TURNS};
 use crate::timing::{figures, Call, Figure};
 use crate::{library, report};
-use humtrellis_tests::header::text_room;
+use humtrellis::raw::TEXT;
 use humtrellis_tests::model;
 use std::hint::black_box;
 
@@ -30,7 +30,7 @@ fn measure(logs: &[Vec<u8>], out: &mut [u8]) -> [Figure; 2] {
 
 pub fn run() -> Result<(), String> {
     let logs = samples::logs();
-    let mut out = vec![0; text_room()];
+    let mut out = vec![0; TEXT];
     check(&logs, &mut out)?;
     report::replay(logs[0].len(), measure(&logs, &mut out));
     Ok(())

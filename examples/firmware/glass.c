@@ -2,7 +2,7 @@
 #include <stdio.h>
 #include <string.h>
 
-#include "../../include/humtrellis.h"
+#include "refusal.h"
 
 enum { PART = HUMTRELLIS_PCF8532, CHIPS = 2, COLUMNS = CHIPS * HUMTRELLIS_COLUMNS, THREE = 3, FIRST = 159 };
 
@@ -29,11 +29,8 @@ int main(int argc, char **argv) {
     const char *price = argc > 1 ? argv[1] : "\xE2\x88\x92" "4"; /* as the market writes it, with the typographic minus */
 
     /* the text to data bytes */
-    uint8_t refused = humtrellis_price_write(THREE, (const uint8_t *)price, strlen(price), digits, sizeof digits, answer, HUMTRELLIS_ANSWER);
-    if (refused) {
-        printf("FAIL: the price is refused: %u, byte %zu\n", refused, answer[HUMTRELLIS_PLACE]);
-        return 1;
-    }
+    uint8_t number = humtrellis_price_write(THREE, (const uint8_t *)price, strlen(price), digits, sizeof digits, answer, HUMTRELLIS_ANSWER);
+    if (refused("the price", number, answer)) return 1;
     const size_t count = answer[HUMTRELLIS_WRITTEN];
     if (FIRST + 3 * count > COLUMNS) {
         printf("FAIL: no room for the price from column %d on\n", FIRST);
@@ -44,18 +41,15 @@ int main(int argc, char **argv) {
     for (size_t i = 0; i < count; i++) fill(wanted + FIRST + 3 * i, digits[i]);
     humtrellis_power_on(PART, CHIPS, 0, ram, sizeof ram, registers, sizeof registers, answer, HUMTRELLIS_ANSWER);
     send(on, sizeof on);
-    refused = humtrellis_write_rows(PART, CHIPS, 0, registers, sizeof registers, 0, THREE, 0, wanted, sizeof wanted, bytes, sizeof bytes, answer, HUMTRELLIS_ANSWER);
-    if (refused || send(bytes, answer[HUMTRELLIS_WRITTEN]) != HUMTRELLIS_TAKEN) {
-        printf("FAIL: the rows are refused: %u, place %zu\n", refused, answer[HUMTRELLIS_PLACE]);
-        return 1;
-    }
+    number = humtrellis_write_rows(PART, CHIPS, 0, registers, sizeof registers, 0, THREE, 0, wanted, sizeof wanted, bytes, sizeof bytes, answer, HUMTRELLIS_ANSWER);
+    if (refused("the rows", number, answer) || refused("the transfer", send(bytes, answer[HUMTRELLIS_WRITTEN]), answer)) return 1;
 
     /* to the glass, and back to text */
     humtrellis_picture(PART, CHIPS, 0, registers, sizeof registers, ram, sizeof ram, 0, 0, glass, sizeof glass, answer, HUMTRELLIS_ANSWER);
     const size_t lit = answer[HUMTRELLIS_LIT];
     for (size_t i = 0; i < count; i++) digits[i] = shown(glass + FIRST + 3 * i);
-    refused = humtrellis_price_read(THREE, digits, count, text, sizeof text, answer, HUMTRELLIS_ANSWER);
-    if (refused || memcmp(glass, wanted, sizeof wanted) != 0) {
+    number = humtrellis_price_read(THREE, digits, count, text, sizeof text, answer, HUMTRELLIS_ANSWER);
+    if (refused("the glass", number, answer) || memcmp(glass, wanted, sizeof wanted) != 0) {
         printf("FAIL: the glass does not show the price\n");
         return 1;
     }

@@ -1,6 +1,6 @@
 /* A group's RAM to Intel HEX and back, from standard input to standard output: `image write PART CHIPS` or `image read PART CHIPS`, part 0 for the PCF8532 and 1 for the PCA85133.
  * A refusal's number and place stand on standard error, and the status is 1. */
-#include "../../include/humtrellis.h"
+#include <humtrellis.h>
 #include <stdio.h>
 #include <stdlib.h>
 #include <string.h>

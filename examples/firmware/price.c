@@ -1,62 +1,53 @@
-/* A test of panel firmware: it writes the price -4 in 1:3 over a chip edge, and the model says what the glass shows.
- * `price` plays the right firmware. `price faulty` plays the one of the incident, which sends a zero for the minus bar. */
+/* A test of the firmware: it shows -4, and the model says which elements of the glass are lit. */
 #include <stdio.h>
 #include <string.h>
 
-#include "../../include/humtrellis.h"
+#include "firmware.h"
+#include "panel.h"
+#include "refusal.h"
 
-enum { CHIPS = 2, COLUMNS = 160 * CHIPS };
+/* What -4 lights, as the glass's drawing has it. */
+static const char *const lit[] = {"minus bar (g of digit 0)", "b of digit 1", "c of digit 1", "g of digit 1", "f of digit 1"};
 
-/* The firmware under test: one transfer. In 1:3 a digit's byte is b DP c a d g f e, most significant bit first. */
-static size_t firmware(int faulty, uint8_t *out) {
-    const uint8_t minus = 0x04; /* g */
-    const uint8_t four = 0xA6;  /* b c g f */
-    const uint8_t bytes[] = {
-        0x70,       /* group 0 */
-        0x80, 0xCB, /* mode-set: on, 1:3 */
-        0x80, 0xE0, /* device-select 0 */
-        0x80, 0x09, /* pointer 159, the last column of chip 0 */
-        0x80, 0x4F,
-        0x40, (uint8_t)(faulty ? 0 : minus), four,
-    };
-    memcpy(out, bytes, sizeof bytes);
-    return sizeof bytes;
+static uint8_t registers[HUMTRELLIS_REGISTERS], ram[COLUMNS], picture[COLUMNS];
+static size_t answer[HUMTRELLIS_ANSWER];
+static int failures;
+
+/* In the place of the board's I2C driver. A refused transfer acknowledges nothing. */
+static size_t to_the_model(const uint8_t *bytes, size_t length) {
+    failures += refused("the firmware's transfer",
+                        humtrellis_transfer(PART, CHIPS, 0, registers, sizeof registers, ram, sizeof ram, bytes, length, HUMTRELLIS_WHOLE, answer, HUMTRELLIS_ANSWER), answer);
+    return answer[HUMTRELLIS_ACKNOWLEDGED];
 }
 
-/* The elements that the price -4 lights: column and backplane. */
-static const struct { const char *name; int column, backplane; } expected[] = {
-    {"minus bar (g of digit 0)", 160, 2}, {"b of digit 1", 162, 0}, {"c of digit 1", 162, 2}, {"g of digit 1", 163, 2}, {"f of digit 1", 164, 0},
-};
+static int wanted(const char *name) {
+    for (size_t i = 0; i < sizeof lit / sizeof lit[0]; i++)
+        if (strcmp(lit[i], name) == 0) return 1;
+    return 0;
+}
 
-int main(int argc, char **argv) {
-    const int faulty = argc > 1 && strcmp(argv[1], "faulty") == 0;
-    uint8_t ram[COLUMNS] = {0}, registers[HUMTRELLIS_REGISTERS], picture[COLUMNS], bytes[64];
-    size_t answer[HUMTRELLIS_ANSWER];
-    int failures = 0;
-
-    if (humtrellis_power_on(HUMTRELLIS_PCF8532, CHIPS, 0, ram, sizeof ram, registers, sizeof registers, answer, HUMTRELLIS_ANSWER) != 0) return 2;
-    const size_t n = firmware(faulty, bytes);
-    const uint8_t refused = humtrellis_transfer(HUMTRELLIS_PCF8532, CHIPS, 0, registers, sizeof registers, ram, sizeof ram, bytes, n, HUMTRELLIS_WHOLE, answer, HUMTRELLIS_ANSWER);
-    if (refused != 0) {
-        printf("FAIL: the transfer is refused: %u at byte %zu\n", refused, answer[1]);
-        return 1;
-    }
-    if (answer[2] != n) {
-        printf("FAIL: %zu of %zu bytes acknowledged\n", answer[2], n);
+/* Each element of the panel by name; what is lit besides by the count. */
+static void compare(size_t shown) {
+    for (int i = 0; i < ELEMENTS; i++) {
+        const int is_lit = picture[panel[i].column] >> panel[i].backplane & 1;
+        shown -= (size_t)is_lit;
+        if (is_lit == wanted(panel[i].name)) continue;
+        printf("FAIL: %s is %s (column %d, backplane %d)\n", panel[i].name, is_lit ? "lit" : "dark", panel[i].column, panel[i].backplane);
         failures++;
     }
-    if (humtrellis_picture(HUMTRELLIS_PCF8532, CHIPS, 0, registers, sizeof registers, ram, sizeof ram, 0, 0, picture, sizeof picture, answer, HUMTRELLIS_ANSWER) != 0) return 2;
-    const size_t wanted = sizeof expected / sizeof expected[0];
-    for (size_t i = 0; i < wanted; i++) {
-        if (!(picture[expected[i].column] >> expected[i].backplane & 1)) {
-            printf("FAIL: %s is dark (column %d, backplane %d)\n", expected[i].name, expected[i].column, expected[i].backplane);
-            failures++;
-        }
-    }
-    if (failures == 0 && answer[2] != wanted) {
-        printf("FAIL: %zu elements are lit, not %zu\n", answer[2], wanted);
+    if (shown == 0) return;
+    printf("FAIL: %zu elements outside the panel are lit\n", shown);
+    failures++;
+}
+
+int main(void) {
+    if (refused("power-on", humtrellis_power_on(PART, CHIPS, 0, ram, sizeof ram, registers, sizeof registers, answer, HUMTRELLIS_ANSWER), answer)) return 1;
+    if (firmware_show(to_the_model, -4) != 0) {
+        printf("FAIL: the firmware says that the price is not shown: %zu bytes acknowledged\n", answer[HUMTRELLIS_ACKNOWLEDGED]);
         failures++;
     }
+    if (refused("the picture", humtrellis_picture(PART, CHIPS, 0, registers, sizeof registers, ram, sizeof ram, 0, 0, picture, sizeof picture, answer, HUMTRELLIS_ANSWER), answer)) return 1;
+    compare(answer[HUMTRELLIS_LIT]);
     if (failures == 0) printf("ok: the glass shows -4\n");
     return failures != 0;
 }

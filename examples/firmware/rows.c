@@ -2,7 +2,7 @@
 #include <stdio.h>
 #include <string.h>
 
-#include "../../include/humtrellis.h"
+#include "refusal.h"
 
 enum { PART = HUMTRELLIS_PCF8532, CHIPS = 2, COLUMNS = CHIPS * HUMTRELLIS_COLUMNS, THREE = 3 };
 
@@ -26,16 +26,13 @@ int main(void) {
     send(on, sizeof on);
 
     /* to bytes */
-    const uint8_t refused = humtrellis_write_rows(PART, CHIPS, 0, registers, sizeof registers, 0, THREE, 0, wanted, sizeof wanted,
-                                                  bytes, sizeof bytes, answer, HUMTRELLIS_ANSWER);
-    if (refused) {
-        printf("FAIL: the rows are refused: %u, place %zu\n", refused, answer[HUMTRELLIS_PLACE]);
-        return 1;
-    }
+    const uint8_t number = humtrellis_write_rows(PART, CHIPS, 0, registers, sizeof registers, 0, THREE, 0, wanted, sizeof wanted,
+                                                 bytes, sizeof bytes, answer, HUMTRELLIS_ANSWER);
+    if (refused("the rows", number, answer)) return 1;
     const size_t length = answer[HUMTRELLIS_WRITTEN];
 
     /* to the glass */
-    if (send(bytes, length) != HUMTRELLIS_TAKEN) return 1;
+    if (refused("the transfer", send(bytes, length), answer)) return 1;
     printf("%zu bytes, %zu acknowledged\n", length, answer[HUMTRELLIS_ACKNOWLEDGED]);
     humtrellis_picture(PART, CHIPS, 0, registers, sizeof registers, ram, sizeof ram, 0, 0, glass, sizeof glass, answer, HUMTRELLIS_ANSWER);
     if (memcmp(glass, wanted, sizeof wanted) != 0) {

@@ -1,7 +1,7 @@
 //! Request 10 of paper 02: logs of version 2, with the acknowledged bytes that an analyser saw.
 
 use super::*;
-use crate::header::text_room;
+use humtrellis::raw::TEXT;
 
 /// A text without lit columns: these lines and the totals, or a refusal alone.
 fn dark(lines: &str) -> String {
@@ -233,7 +233,7 @@ fn longest_texts() {
     let records = 2 + (log.len() - 3 - 2 * 88) / 4;
     assert_eq!(text(&log).lines().count(), 2 * records + 1280 + 2);
     for log in [log, generate::log_of_long_text()] {
-        assert!(log_text(&log).len() <= text_room());
+        assert!(log_text(&log).len() <= TEXT);
     }
 }
 

@@ -1,9 +1,6 @@
 //! The proved library against the model: every number returned and every byte of every buffer.
 //! Fixed seeds; SOAK=seconds goes on with other seeds.
 
-#[cfg(library_missing)]
-compile_error!("target/staticlib/libcabi.a is missing: run rt staticlib cabi first");
-
 mod case;
 mod chip;
 mod control;

@@ -1,8 +1,8 @@
 //! Logs: the library's text against the model's.
 
 use crate::{for_seeds, library};
+use humtrellis::raw::TEXT;
 use humtrellis_tests::generate;
-use humtrellis_tests::header::text_room;
 use humtrellis_tests::model::{log_text, LOG_LIMIT};
 use humtrellis_tests::random::Random;
 
@@ -13,7 +13,7 @@ pub fn compare(log: &[u8]) {
 
 /// The same, and gives the text.
 pub fn text(log: &[u8]) -> String {
-    let mut out = vec![0xEE; text_room() + 1];
+    let mut out = vec![0xEE; TEXT + 1];
     let mut lent = log.to_vec();
     let length = library::replay(&mut lent, &mut out);
     let expected = log_text(log);
@@ -67,12 +67,12 @@ fn replay_small_buffer() {
         generate::seen_log_of_long_text(),
     ];
     for mut log in logs {
-        for room in [0, 1, 100, text_room() - 1] {
+        for room in [0, 1, 100, TEXT - 1] {
             let mut out = vec![0xEE; room];
             assert_eq!(library::replay(&mut log, &mut out), 0);
             assert!(out.iter().all(|&byte| byte == 0xEE));
         }
-        let mut out = vec![0xEE; text_room()];
+        let mut out = vec![0xEE; TEXT];
         let length = library::replay(&mut log, &mut out);
         assert_eq!(out[..length], log_text(&log));
     }

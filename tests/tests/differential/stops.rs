@@ -5,7 +5,6 @@ use crate::case::{first_refusal, refusal_of, PARTS};
 use crate::library::*;
 use crate::plain::CHIP;
 use humtrellis_tests::generate::shape;
-use humtrellis_tests::header::text_room;
 use humtrellis_tests::model::{none, ANSWER, COLUMNS, REGISTERS, WHOLE};
 
 /// More than is mapped behind any buffer here.
@@ -321,7 +320,7 @@ fn stops_at_picture_of_a_chip() {
 
 #[test]
 fn stops_at_log_length() {
-    let mut out = vec![0xEE; text_room()];
+    let mut out = vec![0xEE; TEXT];
     let length =
         unsafe { humtrellis_replay([1, 0, 0].as_ptr(), FALSE, out.as_mut_ptr(), out.len()) };
     assert_eq!(out[..length], *b"X 14 0\n");
