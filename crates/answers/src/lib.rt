@@ -9,7 +9,7 @@ use sheet::Rescued;
 use sheet::Written;
 ghost use mathlib.Core.Path.{_≡_};
 ghost use Rattle.sheet.specs.Parts.{partOf};
-ghost use Rattle.sheet.specs.Logs.{modelled};
+ghost use Rattle.log_sheet.specs.Logs.{modelled};
 ghost use Rattle.sheet.specs.Refusals.{numberOf, placeOf, lastNumber, refusalNumbers, numbers, plainNumbers, pictureNumbers, rescuedNumbers, checkNumbers, writtenNumbers};
 
 // The paper's number of a refusal.

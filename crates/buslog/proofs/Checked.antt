@@ -8,7 +8,7 @@ use Rattle.sheet.specs.declared.Check.the-variants.{Passed, Refused}
 use Rattle.sheet.specs.declared.Refusal.{Refusal}
 use Rattle.sheet.specs.Parts.{pcf8532}
 use Rattle.sheet.specs.Checks.{checkChips}
-use Rattle.sheet.specs.Logs.{logChips, seenBytes, logRecords, checkHead, checkLog, logLines, refusalLine, textOf}
+use Rattle.log_sheet.specs.Logs.{logChips, seenBytes, logRecords, checkHead, checkLog, logLines, refusalLine, textOf}
 use Rattle.laws.proofs.Fits.{both-pass}
 use Rattle.laws.proofs.Rescued.{headed}
 

@@ -27,8 +27,8 @@ use Rattle.sheet.specs.Commands.{defined}
 use Rattle.sheet.specs.Protocol.{heardBy, chipsIn, next, whole, wholeOf}
 use Rattle.sheet.specs.Checks.{unless, orElse, checkChips, checkLength, checkBits, checkSent, faultOf, fault, marksAfter, faultIn, checkBytes, checkTransfer}
 use Rattle.sheet.specs.Long.{begun, State, Group, heard, taken, answered, transferCall, columnsOf}
-use Rattle.sheet.specs.Records.{Records, lengthOf, sizeOf, readIn, recordsFrom}
-use Rattle.sheet.specs.Logs.{seenBytes, logRecords, checkHead, checkLog}
+use Rattle.log_sheet.specs.Records.{Records, lengthOf, sizeOf, readIn, recordsFrom}
+use Rattle.log_sheet.specs.Logs.{seenBytes, logRecords, checkHead, checkLog}
 use Rattle.sheet.specs.Agree.{Valid}
 use Rattle.laws.proofs.Fits.{fits-of, transfer-passed}
 use Rattle.laws.proofs.Rescued.{headed}

@@ -13,7 +13,7 @@ use Rattle.sheet.specs.declared.Check.the-variants.{Passed}
 use Rattle.sheet.specs.Parts.{pcf8532}
 use Rattle.sheet.specs.Protocol.{whole}
 use Rattle.sheet.specs.Long.{State, After, stateOf, transferCall, stateAfterAll}
-use Rattle.sheet.specs.Logs.{seenBytes, logRecords, transfersIn, logTransfers, recordLines, transferLines}
+use Rattle.log_sheet.specs.Logs.{seenBytes, logRecords, transfersIn, logTransfers, recordLines, transferLines}
 use Rattle.text.specs.Texts.{Puts}
 use Rattle.text.proofs.Writing.{Writing, rest-is, turn}
 use Rattle.records.specs.Found.{recordsAt}

@@ -21,10 +21,10 @@ use Rattle.sheet.specs.Refusals.{numberOf, placeOf, numbers}
 use Rattle.sheet.specs.Parts.{pcf8532}
 use Rattle.sheet.specs.Registers.{backplanes, registersOf}
 use Rattle.sheet.specs.Protocol.{chipsIn, whole}
-use Rattle.sheet.specs.Records.{sizeOf}
+use Rattle.log_sheet.specs.Records.{sizeOf}
 use Rattle.sheet.specs.Pictures.{shown, lit, pictureOf, litIn}
 use Rattle.sheet.specs.Long.{State, stateAfter, transferCall, columnsOf, startOf, stateAfterAll}
-use Rattle.sheet.specs.Logs.{logChips, seenBytes, logRecords, transferIn, logTransfers, checkLog, line, transferLetter, seenLetter, columnLetter, groupLetter, refusalLetter, transferLine, modelled, seenIn, seenLine, recordLines, transferLines, columnLine, columnLines, groupLine, shownAt, endLines, logStart, logLines, textBy, textOf}
+use Rattle.log_sheet.specs.Logs.{logChips, seenBytes, logRecords, transferIn, logTransfers, checkLog, line, transferLetter, seenLetter, columnLetter, groupLetter, refusalLetter, transferLine, modelled, seenIn, seenLine, recordLines, transferLines, columnLine, columnLines, groupLine, shownAt, endLines, logStart, logLines, textBy, textOf}
 use Rattle.sheet.specs.Agree.{Valid}
 use Rattle.laws.proofs.Nibbles.{Nibbles, take-nibbles, drop-nibbles}
 use Rattle.laws.proofs.Fits.{fits-of}

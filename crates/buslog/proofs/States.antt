@@ -15,7 +15,7 @@ use Rattle.sheet.specs.Protocol.{chipsIn}
 use Rattle.sheet.specs.Checks.{checkChips, checkPicture}
 use Rattle.sheet.specs.Pictures.{litIn, Seen}
 use Rattle.sheet.specs.Long.{State, pictureCall}
-use Rattle.sheet.specs.Logs.{shownAt, logStart}
+use Rattle.log_sheet.specs.Logs.{shownAt, logStart}
 use Rattle.sheet.specs.Agree.{Valid}
 use Rattle.laws.proofs.Nibbles.{Nibbles}
 use Rattle.buslog.specs.Asked.{Listable}

@@ -9,7 +9,7 @@ use native.Mathlib.Omega.{arith}
 use lib.ListN.{length, length-append}
 use Rattle.lemmas.proofs.Order.{lt-or-le}
 use Rattle.text.proofs.Decimals.{one-digit, more-digits}
-use Rattle.sheet.specs.Logs.{decimal, spaced, line}
+use Rattle.log_sheet.specs.Logs.{decimal, spaced, line}
 
 -- a number below a power of ten has no more digits than the power
 decimal-few : (k n : ℕ) → n < 10 ^ suc k → length (decimal n) ≤ suc k

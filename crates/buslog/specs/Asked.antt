@@ -10,7 +10,7 @@ use Rattle.sheet.specs.Parts.{pcf8532}
 use Rattle.sheet.specs.Protocol.{chipsIn}
 use Rattle.sheet.specs.Checks.{checkChips}
 use Rattle.sheet.specs.Long.{State}
-use Rattle.sheet.specs.Logs.{seenBytes, logRecords, columnLines, shownAt, logStart, logLines}
+use Rattle.log_sheet.specs.Logs.{seenBytes, logRecords, columnLines, shownAt, logStart, logLines}
 use Rattle.sheet.specs.Agree.{Valid}
 
 -- a group's columns can be listed: no call refuses the state, and there is room

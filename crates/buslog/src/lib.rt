@@ -11,7 +11,7 @@ ghost use lib.ListN.{length, replicate};
 ghost use Rattle.sheet.specs.Parts.{pcf8532};
 ghost use Rattle.sheet.specs.Pictures.{litIn};
 ghost use Rattle.sheet.specs.Long.{stateOf, stateAfterAll};
-ghost use Rattle.sheet.specs.Logs.{seenBytes, logRecords, logTransfers, checkLog, transferLines, columnLines, shownAt, endLines, logLines, textOf};
+ghost use Rattle.log_sheet.specs.Logs.{seenBytes, logRecords, logTransfers, checkLog, transferLines, columnLines, shownAt, endLines, logLines, textOf};
 ghost use Rattle.sheet.specs.Agree.{Valid};
 ghost use Rattle.text.specs.Texts.{Puts};
 ghost use Rattle.records.specs.Found.{AllCounted};

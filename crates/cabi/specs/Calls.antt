@@ -9,14 +9,14 @@ use Rattle.sheet.specs.Refusals.{numbers, plainNumbers, pictureNumbers, rescued
 use Rattle.sheet.specs.Parts.{partOf}
 use Rattle.sheet.specs.Protocol.{Sent}
 use Rattle.sheet.specs.Long.{powerOnPart, transferPart, picturePart}
-use Rattle.sheet.specs.Packed.{unpacked, packed}
+use Rattle.packed_sheet.specs.Packed.{unpacked, packed}
 use Rattle.sheet.specs.Plain.{chipPowerOnPart, chipPicturePart}
-use Rattle.sheet.specs.Rescue.{rescueCall}
-use Rattle.sheet.specs.Writer.{writeRowsPart}
-use Rattle.sheet.specs.Three.{writeThreePart}
-use Rattle.sheet.specs.Hex.{hexWritePart}
-use Rattle.sheet.specs.Images.{hexReadPart}
-use Rattle.sheet.specs.Price.{priceWrite, priceRead}
+use Rattle.log_sheet.specs.Rescue.{rescueCall}
+use Rattle.writer_sheet.specs.Writer.{writeRowsPart}
+use Rattle.writer_sheet.specs.Three.{writeThreePart}
+use Rattle.image_sheet.specs.Hex.{hexWritePart}
+use Rattle.image_sheet.specs.Images.{hexReadPart}
+use Rattle.price_sheet.specs.Price.{priceWrite, priceRead}
 use Rattle.buslog.specs.declared.Replayed.{Replayed}
 use Rattle.lent.specs.Lent.{lentCall}
 use Rattle.wire.specs.Bytes.{bothOf, bothBytes, chipIn, chipBytes}

@@ -4,7 +4,7 @@ use buslog::Replayed;
 use sheet::Chips;
 ghost use mathlib.Core.Path.{_≡_};
 ghost use Rattle.sheet.specs.Protocol.{sent};
-ghost use Rattle.sheet.specs.Packed.{columnsIn};
+ghost use Rattle.packed_sheet.specs.Packed.{columnsIn};
 ghost use Rattle.buslog.specs.Replays.{replayCall};
 ghost use Rattle.cabi.specs.Calls.{powerOnC, transferC, pictureC, packedPowerOnC, packedTransferC, packedPictureC, chipPowerOnC, chipPictureC, plainC, writeRowsC, writeThreeC, hexWriteC, hexReadC, priceWriteC, priceReadC, rescueC, replayNumber};
 

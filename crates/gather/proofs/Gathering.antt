@@ -8,7 +8,7 @@ use native.Mathlib.Omega.{arith}
 use lib.ListN.{length, set, take, length-set}
 use lib.Seq.{take-all, take-suc-set}
 use Rattle.sheet.specs.Data.{widthOf}
-use Rattle.sheet.specs.Writer.{bitsFrom, dataFrom}
+use Rattle.writer_sheet.specs.Writer.{bitsFrom, dataFrom}
 
 pub record Gathering (m b : ℕ) (columns before out : List ℕ) (j : ℕ) : Type 0 where
   pub size : length out ≡ length before

@@ -14,7 +14,7 @@ use lib.Pow.{pow-pos, pow-mono, pow-add, shr-shr}
 use borrow.Author.Tests.{lt-ltb, le-ltb}
 use Rattle.lemmas.proofs.Order.{equal-or-not, lt-or-le}
 use Rattle.sheet.specs.Data.{rowOf}
-use Rattle.sheet.specs.Writer.{bitFrom, bitsFrom}
+use Rattle.writer_sheet.specs.Writer.{bitFrom, bitsFrom}
 use Rattle.laws.proofs.Rows.{row-of-low}
 use Rattle.laws.proofs.Wanted.{bit-lt}
 use Rattle.words.specs.Fields.{field}

@@ -4,7 +4,7 @@ use mathlib.Core.Path.{_≡_}
 use mathlib.Core.List.{List}
 use lib.ListN.{length}
 use Rattle.sheet.specs.Data.{widthOf}
-use Rattle.sheet.specs.Writer.{bitFrom, bytesFor}
+use Rattle.writer_sheet.specs.Writer.{bitFrom, bytesFor}
 
 -- the first n bits of the data byte that begins at column v, the first of them lowest
 unfoldable pub lowBits : ℕ → ℕ → ℕ → ℕ → List ℕ → ℕ

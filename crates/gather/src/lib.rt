@@ -5,8 +5,8 @@ ghost use Prim.Native.Nat.{_+_, _*_, _≤_, _<_, _^_};
 ghost use lib.ListN.{length};
 ghost use Rattle.sheet.specs.Registers.{bankRow};
 ghost use Rattle.sheet.specs.Data.{widthOf};
-ghost use Rattle.sheet.specs.Writer.{bitsFrom, dataFrom, bytesFor};
-ghost use Rattle.sheet.specs.Three.{pairOf};
+ghost use Rattle.writer_sheet.specs.Writer.{bitsFrom, dataFrom, bytesFor};
+ghost use Rattle.writer_sheet.specs.Three.{pairOf};
 ghost use Rattle.gather.specs.Lows.{lowBits, Gathered, Whole};
 
 // ---- a byte whose columns are all there: its bits with the first lowest, and then in the other order

@@ -6,9 +6,9 @@ use Prim.Native.Nat.{ℕ, _<_}
 use lib.Dec.{T, eqb, eqb→eq}
 use borrow.Author.Tests.{ltb-true}
 use Rattle.lemmas.proofs.Tests.{all, all-at, and-left, and-right}
-use Rattle.sheet.specs.declared.Symbol.{Symbol}
-use Rattle.sheet.specs.declared.Symbol.the-variants.{Digit, Pointed, Space, Minus, LongMinus}
-use Rattle.sheet.specs.Price.{isSymbol, segmentsOf, byteOf}
+use Rattle.price_sheet.specs.declared.Symbol.{Symbol}
+use Rattle.price_sheet.specs.declared.Symbol.the-variants.{Digit, Pointed, Space, Minus, LongMinus}
+use Rattle.price_sheet.specs.Price.{isSymbol, segmentsOf, byteOf}
 use Rattle.glyphs.specs.Tables.{orderOf, litOf, arranged}
 
 abbrev same : ℕ → Symbol → Bool

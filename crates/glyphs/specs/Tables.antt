@@ -6,7 +6,7 @@ use mathlib.Core.List.{List, [], _∷_, map}
 use lib.Bits.{bitAnd}
 use lib.Dec.{eqb}
 use lib.ListN.{getD}
-use Rattle.sheet.specs.Price.{orders}
+use Rattle.price_sheet.specs.Price.{orders}
 
 abbrev pub weightOf : ℕ → ℕ
 weightOf s = 2 ^ s

@@ -1,11 +1,11 @@
 // What each symbol lights, and its data byte in each mode, by tables; and back (paper 02, request 1).
-use sheet::Found;
-use sheet::Symbol;
+use price_sheet::Found;
+use price_sheet::Symbol;
 ghost use mathlib.Core.Bool.{true};
 ghost use mathlib.Core.Path.{_≡_};
 ghost use Prim.Native.Nat.{_≤_, _<_};
 ghost use lib.ListN.{drop};
-ghost use Rattle.sheet.specs.Price.{isSymbol, segmentsOf, byteOf, shownAs, shown};
+ghost use Rattle.price_sheet.specs.Price.{isSymbol, segmentsOf, byteOf, shownAs, shown};
 ghost use Rattle.glyphs.specs.Tables.{orderOf, litOf, lightOf, arranged};
 
 // The segments, a bit each.

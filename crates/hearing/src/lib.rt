@@ -7,7 +7,7 @@ ghost use Rattle.sheet.specs.declared.Expect.the-variants.{Control};
 ghost use Rattle.sheet.specs.Parts.{partOf};
 ghost use Rattle.sheet.specs.Protocol.{nextAfter, sent};
 ghost use Rattle.sheet.specs.Long.{begun, heard, heardWhole};
-ghost use Rattle.sheet.specs.Packed.{columnsIn};
+ghost use Rattle.packed_sheet.specs.Packed.{columnsIn};
 ghost use Rattle.protocol.specs.Listeners.{groupOf};
 ghost use Rattle.hearing.specs.Hears.{Hears};
 

@@ -7,7 +7,7 @@ use sheet::Refusal;
 use sheet::Written;
 ghost use mathlib.Core.Path.{_≡_};
 ghost use lib.ListN.{length};
-ghost use Rattle.sheet.specs.Logs.{checkLog};
+ghost use Rattle.log_sheet.specs.Logs.{checkLog};
 
 // Which group the argument names: 0, 1, or 2 for none.
 fn group_named() -> u8 {

@@ -11,7 +11,7 @@ use borrow.Author.Tests.{ltb-true, leb-true}
 use Rattle.lemmas.proofs.Tests.{both-true}
 use Rattle.lemmas.proofs.Lists.{next}
 use Rattle.sheet.specs.Parts.{within}
-use Rattle.sheet.specs.Images.{valueOf, pairOf, areDigits, bytesOf}
+use Rattle.image_sheet.specs.Images.{valueOf, pairOf, areDigits, bytesOf}
 
 by-tests : (s t : Bool) (c : ℕ) → within 48 57 c ≡ s → within 65 70 c ≡ t → cond s (c - 48) (cond t (c - 55) 16) ≤ 16
 unfolding within

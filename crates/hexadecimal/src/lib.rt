@@ -3,8 +3,8 @@ ghost use mathlib.Core.Bool.{true};
 ghost use mathlib.Core.Path.{_≡_};
 ghost use Prim.Native.Nat.{_+_, _*_, _%_, _≤_, _<_};
 ghost use lib.ListN.{length};
-ghost use Rattle.sheet.specs.Hex.{digitOf, textOf, sumOf};
-ghost use Rattle.sheet.specs.Images.{valueOf, pairOf, areDigits, bytesOf};
+ghost use Rattle.image_sheet.specs.Hex.{digitOf, textOf, sumOf};
+ghost use Rattle.image_sheet.specs.Images.{valueOf, pairOf, areDigits, bytesOf};
 ghost use Rattle.text.specs.Texts.{Puts};
 
 // ---- bytes to text

@@ -13,7 +13,7 @@ use borrow.Author.Tests.{leb-true, lt-ltb, ne-eqb, le-leb, lt-leb}
 use Rattle.sheet.specs.declared.Check.the-variants.{Passed, Refused}
 use Rattle.sheet.specs.declared.Refusal.the-variants.{RamByte, AddressOutside, AddressTwice}
 use Rattle.sheet.specs.Checks.{unless, passed, overIn}
-use Rattle.sheet.specs.Images.{countOf, addressOf, dataOf, inside, noneGiven, headFault, dataFault, faultOf, stored}
+use Rattle.image_sheet.specs.Images.{countOf, addressOf, dataOf, inside, noneGiven, headFault, dataFault, faultOf, stored}
 use Rattle.laws.proofs.Fits.{both-pass, unless-passes}
 use Rattle.hexrecord.specs.Lines.{Whole}
 

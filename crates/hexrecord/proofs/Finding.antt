@@ -15,7 +15,7 @@ use Rattle.lemmas.proofs.Tests.{both-true}
 use Rattle.lemmas.proofs.Order.{lt-or-le}
 use Rattle.sheet.specs.declared.Check.the-variants.{Refused}
 use Rattle.sheet.specs.declared.Refusal.the-variants.{RecordForm}
-use Rattle.sheet.specs.Images.{pairOf, areDigits, bytesOf, countIn, digitsIn, lineEnd, endIn, isLine, sizeIn, countOf, faultOf, faultIn}
+use Rattle.image_sheet.specs.Images.{pairOf, areDigits, bytesOf, countIn, digitsIn, lineEnd, endIn, isLine, sizeIn, countOf, faultOf, faultIn}
 use Rattle.hexadecimal.proofs.Digits.{digit-at, one-pair}
 use Rattle.hexrecord.specs.declared.Line.{Line}
 use Rattle.hexrecord.specs.declared.Line.the-variants.{Of, None}

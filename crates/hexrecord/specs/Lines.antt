@@ -8,8 +8,8 @@ use lib.Dec.{eqb}
 use lib.ListN.{length}
 use Rattle.sheet.specs.declared.Check.{Check}
 use Rattle.sheet.specs.declared.Check.the-variants.{Passed, Refused}
-use Rattle.sheet.specs.Hex.{lineOf, recordOf}
-use Rattle.sheet.specs.Images.{countIn, isLine, sizeIn, countOf, stored}
+use Rattle.image_sheet.specs.Hex.{lineOf, recordOf}
+use Rattle.image_sheet.specs.Images.{countIn, isLine, sizeIn, countOf, stored}
 use Rattle.hexrecord.specs.declared.Line.{Line}
 use Rattle.hexrecord.specs.declared.Line.the-variants.{Of, None}
 use Rattle.hexrecord.specs.declared.Step.{Step}

@@ -6,8 +6,8 @@ ghost use mathlib.Core.Path.{_≡_};
 ghost use mathlib.Core.List.{_++_};
 ghost use Prim.Native.Nat.{_+_, _≤_, _<_};
 ghost use lib.ListN.{length, drop};
-ghost use Rattle.sheet.specs.Hex.{checksumOf, recordOf, lineOf};
-ghost use Rattle.sheet.specs.Images.{lineEnd, addressOf, kindOf, inside, noneGiven, headFault, dataFault, faultOf, stored, faultIn, sizeIn, bytesOf, digitsIn};
+ghost use Rattle.image_sheet.specs.Hex.{checksumOf, recordOf, lineOf};
+ghost use Rattle.image_sheet.specs.Images.{lineEnd, addressOf, kindOf, inside, noneGiven, headFault, dataFault, faultOf, stored, faultIn, sizeIn, bytesOf, digitsIn};
 ghost use Rattle.text.specs.Texts.{Puts};
 ghost use Rattle.hexrecord.specs.Lines.{lineAt, stepOf, givenAfter, Whole, Room};
 

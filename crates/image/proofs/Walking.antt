@@ -12,7 +12,7 @@ use Rattle.lemmas.proofs.Lists.{next}
 use Rattle.sheet.specs.declared.Check.{Check}
 use Rattle.sheet.specs.declared.Check.the-variants.{Passed, Refused}
 use Rattle.sheet.specs.declared.Refusal.the-variants.{NoEnd}
-use Rattle.sheet.specs.Images.{bytesOf, digitsIn, sizeIn, kindOf, stored, Image, image, ended, orFault, faultIn, imageFrom, no-records, a-record}
+use Rattle.image_sheet.specs.Images.{bytesOf, digitsIn, sizeIn, kindOf, stored, Image, image, ended, orFault, faultIn, imageFrom, no-records, a-record}
 use Rattle.hexrecord.specs.declared.Step.{Step}
 use Rattle.hexrecord.specs.declared.Step.the-variants.{Next, Last}
 use Rattle.hexrecord.specs.Lines.{stepOf, givenAfter}

@@ -8,8 +8,8 @@ ghost use mathlib.Core.Path.{_≡_};
 ghost use Prim.Native.Nat.{_+_, _*_, _%_, _/_, _≤_, _<_};
 ghost use lib.ListN.{length, drop, replicate};
 ghost use Rattle.sheet.specs.Refusals.{writtenNumbers};
-ghost use Rattle.sheet.specs.Hex.{dataLines, fileOf, oneGroup, hexWritePart};
-ghost use Rattle.sheet.specs.Images.{image, missingIn, ended, imageFrom, checkFile, hexReadPart};
+ghost use Rattle.image_sheet.specs.Hex.{dataLines, fileOf, oneGroup, hexWritePart};
+ghost use Rattle.image_sheet.specs.Images.{image, missingIn, ended, imageFrom, checkFile, hexReadPart};
 ghost use Rattle.text.specs.Texts.{Puts};
 ghost use Rattle.image.specs.Room.{Room};
 

@@ -12,8 +12,8 @@ use Rattle.sheet.specs.declared.Check.{Check}
 use Rattle.sheet.specs.declared.Check.the-variants.{Passed, Refused}
 use Rattle.sheet.specs.Parts.{partOf}
 use Rattle.sheet.specs.Checks.{orElse}
-use Rattle.sheet.specs.Writer.{WrittenAfter, writtenBy}
-use Rattle.sheet.specs.Images.{Image, image, imageOf, checkFile, hexReadPart}
+use Rattle.sheet.specs.Written.{WrittenAfter, writtenBy}
+use Rattle.image_sheet.specs.Images.{Image, image, imageOf, checkFile, hexReadPart}
 
 pub take-replicate : (n m : ℕ) (a : ℕ) → n ≤ m → take n (replicate m a) ≡ replicate n a
 take-replicate zero m a h = refl

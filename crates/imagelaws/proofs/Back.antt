@@ -14,8 +14,8 @@ use Rattle.sheet.specs.declared.Check.the-variants.{Passed, Refused}
 use Rattle.sheet.specs.declared.Refusal.the-variants.{RamByte, AddressOutside, AddressTwice}
 use Rattle.sheet.specs.Parts.{within}
 use Rattle.sheet.specs.Checks.{unless, orElse, passed, overIn}
-use Rattle.sheet.specs.Hex.{textOf, sumOf, checksumOf, headOf, recordOf, lineOf, dataLines, fileOf}
-use Rattle.sheet.specs.Images.{valueOf, areDigits, bytesOf, digitsIn, lineEnd, endIn, isLine, sizeIn, countOf, addressOf, kindOf, dataOf, inside, noneGiven, headFault, dataFault, faultOf, faultIn, stored, Image, image, missingIn, ended, orFault, imageFrom, imageOf, a-record}
+use Rattle.image_sheet.specs.Hex.{textOf, sumOf, checksumOf, headOf, recordOf, lineOf, dataLines, fileOf}
+use Rattle.image_sheet.specs.Images.{valueOf, areDigits, bytesOf, digitsIn, lineEnd, endIn, isLine, sizeIn, countOf, addressOf, kindOf, dataOf, inside, noneGiven, headFault, dataFault, faultOf, faultIn, stored, Image, image, missingIn, ended, orFault, imageFrom, imageOf, a-record}
 use Rattle.laws.proofs.Nibbles.{Nibbles, check-nibbles, take-nibbles, drop-nibbles, join-nibbles}
 use Rattle.imagelaws.proofs.Lines.{Bytes, bytes-append, is-line, its-bytes, then-rest, sum-zero}
 use Rattle.imagelaws.proofs.Answers.{take-replicate}

@@ -15,10 +15,10 @@ use Rattle.sheet.specs.declared.Check.{Check}
 use Rattle.sheet.specs.declared.Check.the-variants.{Passed, Refused}
 use Rattle.sheet.specs.Parts.{partOf}
 use Rattle.sheet.specs.Checks.{orElse, checkPart, checkPowerOn}
-use Rattle.sheet.specs.Writer.{WrittenAfter, writtenBy, checkRoom}
-use Rattle.sheet.specs.Hex.{fileOf, oneGroup, hexWritePart}
-use Rattle.sheet.specs.Images.{image, imageOf, checkFile, hexReadPart}
-use Rattle.sheet.specs.Covered.{GivesBack, Untouched}
+use Rattle.sheet.specs.Written.{WrittenAfter, writtenBy, checkRoom}
+use Rattle.image_sheet.specs.Hex.{fileOf, oneGroup, hexWritePart}
+use Rattle.image_sheet.specs.Images.{image, imageOf, checkFile, hexReadPart}
+use Rattle.image_sheet.specs.Covered.{GivesBack, Untouched}
 use Rattle.laws.proofs.Fits.{both-pass, unless-passes}
 use Rattle.laws.proofs.First.{or-else}
 use Rattle.imagelaws.proofs.Sizes.{Group, group-of, length-file}

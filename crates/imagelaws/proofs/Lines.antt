@@ -12,8 +12,8 @@ use borrow.Author.Tests.{eqb-true, lt-ltb}
 use lib.Dec.{T}
 use Rattle.lemmas.proofs.Tests.{all, all-at}
 use Rattle.sheet.specs.Parts.{within}
-use Rattle.sheet.specs.Hex.{digitOf, textOf, sumOf, checksumOf, headOf, recordOf, lineOf}
-use Rattle.sheet.specs.Images.{valueOf, pairOf, areDigits, bytesOf, countIn, digitsIn, lineEnd, endIn, isLine, sizeIn}
+use Rattle.image_sheet.specs.Hex.{digitOf, textOf, sumOf, checksumOf, headOf, recordOf, lineOf}
+use Rattle.image_sheet.specs.Images.{valueOf, pairOf, areDigits, bytesOf, countIn, digitsIn, lineEnd, endIn, isLine, sizeIn}
 use Rattle.laws.proofs.Hexadecimal.{length-text, length-line, sum-append}
 
 -- every number of a list is a byte

@@ -17,8 +17,8 @@ use Rattle.sheet.specs.declared.Check.the-variants.{Passed, Refused}
 use Rattle.sheet.specs.declared.Refusal.{Refusal}
 use Rattle.sheet.specs.declared.Refusal.the-variants.{RamByte, RecordForm, AddressOutside, AddressTwice, AddressMissing, NoEnd}
 use Rattle.sheet.specs.Checks.{unless, orElse, passed, overIn}
-use Rattle.sheet.specs.Images.{bytesOf, digitsIn, sizeIn, countOf, addressOf, kindOf, dataOf, isLine, inside, noneGiven, headFault, dataFault, faultOf, faultIn, stored, Image, image, missingIn, ended, orFault, imageIn, imageFrom, imageOf}
-use Rattle.sheet.specs.Covered.{valuesAt, valuesIn, valuesOf, Covered, Accepted}
+use Rattle.image_sheet.specs.Images.{bytesOf, digitsIn, sizeIn, countOf, addressOf, kindOf, dataOf, isLine, inside, noneGiven, headFault, dataFault, faultOf, faultIn, stored, Image, image, missingIn, ended, orFault, imageIn, imageFrom, imageOf}
+use Rattle.image_sheet.specs.Covered.{valuesAt, valuesIn, valuesOf, Covered, Accepted}
 use Rattle.laws.proofs.Fits.{both-pass, unless-passes}
 use Rattle.laws.proofs.Nibbles.{nibbles-of}
 

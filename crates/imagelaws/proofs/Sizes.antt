@@ -13,8 +13,8 @@ use Rattle.sheet.specs.declared.Check.the-variants.{Passed}
 use Rattle.sheet.specs.declared.Refusal.the-variants.{RamLength, LongLog}
 use Rattle.sheet.specs.Parts.{Part, partOf}
 use Rattle.sheet.specs.Checks.{unless, orElse, overIn, checkPart, checkChips, checkRam, checkPowerOn}
-use Rattle.sheet.specs.Hex.{recordOf, lineOf, dataLines, fileOf, oneGroup}
-use Rattle.sheet.specs.Images.{checkFile}
+use Rattle.image_sheet.specs.Hex.{recordOf, lineOf, dataLines, fileOf, oneGroup}
+use Rattle.image_sheet.specs.Images.{checkFile}
 use Rattle.laws.proofs.Fits.{both-pass, unless-passes, few-chips}
 use Rattle.laws.proofs.Named.{of-both, ram-small}
 use Rattle.laws.proofs.Nibbles.{Nibbles, nibbles-of}

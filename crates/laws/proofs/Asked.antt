@@ -16,7 +16,7 @@ use Rattle.sheet.specs.Parts.{Part, partOf}
 use Rattle.sheet.specs.Registers.{inRange, registersOf}
 use Rattle.sheet.specs.Protocol.{chipsIn}
 use Rattle.sheet.specs.Checks.{unless, checkChips, checkRegisters, overIn}
-use Rattle.sheet.specs.Writer.{checkWanted}
+use Rattle.writer_sheet.specs.Writer.{checkWanted}
 use Rattle.laws.proofs.Ranges.{InRange, range-of}
 use Rattle.laws.proofs.Named.{ram-small}
 use Rattle.laws.proofs.Fits.{both-pass, unless-passes, few-chips}

@@ -19,7 +19,7 @@ use Rattle.sheet.specs.Commands.{defined, obeyed, obeyedAll, allDefined}
 use Rattle.sheet.specs.Protocol.{controlOf}
 use Rattle.sheet.specs.Checks.{faultIn}
 use Rattle.sheet.specs.Long.{Group, control, command, heard}
-use Rattle.sheet.specs.Writer.{eachAfter80}
+use Rattle.writer_sheet.specs.Writer.{eachAfter80}
 
 -- ---- heard
 

@@ -12,8 +12,8 @@ use Rattle.sheet.specs.declared.Acknowledger.{Acknowledger}
 use Rattle.sheet.specs.Parts.{Part}
 use Rattle.sheet.specs.Data.{widthOf, acknowledger}
 use Rattle.sheet.specs.Runs.{lastRun, countedRun}
-use Rattle.sheet.specs.Writer.{bytesFor}
-use Rattle.sheet.specs.Puts.{putCounts, putLast}
+use Rattle.writer_sheet.specs.Writer.{bytesFor}
+use Rattle.writer_sheet.specs.Puts.{putCounts, putLast}
 use Rattle.laws.proofs.Counts.{counted-at-once, counts-alike, width-less}
 use Rattle.laws.proofs.Runs.{last-at-once}
 use Rattle.laws.proofs.Wanted.{byte-there}

@@ -20,7 +20,7 @@ use Rattle.sheet.specs.Protocol.{heardBy, chipsIn, Sent, addressByte}
 use Rattle.sheet.specs.Checks.{unless, orElse, checkRam, checkTransfer}
 use Rattle.sheet.specs.Long.{begun, heardWhole, startOf, endOf, columnsOf, withColumns, taken, answered, transferCall}
 use Rattle.sheet.specs.Agree.{Keeps}
-use Rattle.sheet.specs.Packed.{unpacked, packed, Bytes, Halves}
+use Rattle.packed_sheet.specs.Packed.{unpacked, packed, Bytes, Halves}
 use Rattle.laws.proofs.Nibbles.{take-nibbles, drop-nibbles, join-nibbles}
 use Rattle.laws.proofs.Kept.{whole-keeps, part-keeps}
 use Rattle.laws.proofs.Fits.{Fits, fits-of, transfer-passed}

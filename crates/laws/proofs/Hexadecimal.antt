@@ -5,7 +5,7 @@ use mathlib.Core.List.{List, [], _∷_, _++_, append-assoc}
 use Prim.Native.Nat.{ℕ, _+_, _*_, _/_, _%_}
 use native.Mathlib.Omega.{arith}
 use lib.ListN.{length, length-append}
-use Rattle.sheet.specs.Hex.{digitOf, textOf, sumOf, checksumOf, headOf, recordOf, lineOf}
+use Rattle.image_sheet.specs.Hex.{digitOf, textOf, sumOf, checksumOf, headOf, recordOf, lineOf}
 
 pub length-text : (bytes : List ℕ) → length (textOf bytes) ≡ 2 * length bytes
 unfolding textOf

@@ -20,7 +20,7 @@ use Rattle.sheet.specs.Protocol.{chipsIn}
 use Rattle.sheet.specs.Checks.{overIn}
 use Rattle.sheet.specs.Data.{changed}
 use Rattle.sheet.specs.Long.{startOf, endOf, columnsOf, withColumns}
-use Rattle.sheet.specs.Packed.{unpacked, packed, columnsIn, Bytes}
+use Rattle.packed_sheet.specs.Packed.{unpacked, packed, columnsIn, Bytes}
 use Rattle.laws.proofs.Nibbles.{Nibbles, check-nibbles}
 
 -- ---- there and back

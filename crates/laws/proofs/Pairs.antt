@@ -10,8 +10,8 @@ use lib.Pow.{shr-shr}
 use Rattle.lemmas.proofs.Order.{lt-or-le}
 use Rattle.sheet.specs.Parts.{Part}
 use Rattle.sheet.specs.Data.{bitOf, rowOf, putBits}
-use Rattle.sheet.specs.Writer.{bitFrom, bitsFrom}
-use Rattle.sheet.specs.Three.{pairOf, byteAt, pairsFrom}
+use Rattle.writer_sheet.specs.Writer.{bitFrom, bitsFrom}
+use Rattle.writer_sheet.specs.Three.{pairOf, byteAt, pairsFrom}
 use Rattle.laws.proofs.Rows.{bits-stay, bits-land}
 use Rattle.laws.proofs.Runs.{length-bits}
 use Rattle.laws.proofs.Wanted.{bits-at}

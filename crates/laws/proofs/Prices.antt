@@ -12,17 +12,17 @@ use lib.ListN.{length, getD, take, drop, length-append, length-map}
 use lib.Seq.{take-at}
 use borrow.Author.Tests.{lt-ltb, le-ltb, ltb-true, ltb-false, eq-eqb, ne-eqb, eqb-true, eqb-false, leb-true, le-leb}
 use Rattle.lemmas.proofs.Tests.{both-true, all, all-at}
-use Rattle.sheet.specs.declared.Symbol.{Symbol}
-use Rattle.sheet.specs.declared.Symbol.the-variants.{Digit, Pointed, Space, Minus, LongMinus}
-use Rattle.sheet.specs.declared.Found.{Found}
+use Rattle.price_sheet.specs.declared.Symbol.{Symbol}
+use Rattle.price_sheet.specs.declared.Symbol.the-variants.{Digit, Pointed, Space, Minus, LongMinus}
+use Rattle.price_sheet.specs.declared.Found.{Found}
 use Rattle.sheet.specs.declared.Written.{Written}
 use Rattle.sheet.specs.declared.Check.{Check}
 use Rattle.sheet.specs.declared.Check.the-variants.{Passed, Refused}
 use Rattle.sheet.specs.Parts.{within}
 use Rattle.sheet.specs.Checks.{orElse, passed}
-use Rattle.sheet.specs.Writer.{WrittenAfter, writtenBy}
-use Rattle.sheet.specs.Price.{isSymbol, textOf, textsOf, plain, segmentsOf, byteOf, begun, begunAt, Spelled, andThen, moreOf, spelledFrom, spelled, shownAs, shownBelow, shown, readFrom, checkPrice, Sizes, priceBy, priceWrite, priceRead}
-use Rattle.sheet.specs.Prices.{areSymbols, whole, Grammar, Bytes, plainText, written, ReadsBack, WritesBack}
+use Rattle.sheet.specs.Written.{WrittenAfter, writtenBy}
+use Rattle.price_sheet.specs.Price.{isSymbol, textOf, textsOf, plain, segmentsOf, byteOf, begun, begunAt, Spelled, andThen, moreOf, spelledFrom, spelled, shownAs, shownBelow, shown, readFrom, checkPrice, Sizes, priceBy, priceWrite, priceRead}
+use Rattle.price_sheet.specs.Prices.{areSymbols, whole, Grammar, Bytes, plainText, written, ReadsBack, WritesBack}
 use Rattle.laws.proofs.Symbols.{Shown, shown-is, shown-plain, nothing, inside, begun-symbol}
 use Rattle.laws.proofs.Spelling.{sizes, bytes-fit, texts-fit}
 

@@ -26,8 +26,8 @@ use Rattle.sheet.specs.Places.{position, atPosition}
 use Rattle.sheet.specs.Data.{bitOf, rowOf, widthOf}
 use Rattle.sheet.specs.Runs.{putRun, lastRun, countedRun}
 use Rattle.sheet.specs.Long.{After, replaced, columnsOf, heardIn, transferCall}
-use Rattle.sheet.specs.Writer.{eachAfter80, settings, modeSetOf, bankSelectOf, setTo, bytesFor, dataFrom, dataOf, rowsTransfer, checkWanted}
-use Rattle.sheet.specs.Puts.{Settable, reaches, putCounts, putLast, Puts, AlikeWhere, WritesRows, ClaimRows}
+use Rattle.writer_sheet.specs.Writer.{eachAfter80, settings, modeSetOf, bankSelectOf, setTo, bytesFor, dataFrom, dataOf, rowsTransfer, checkWanted}
+use Rattle.writer_sheet.specs.Puts.{Settable, reaches, putCounts, putLast, Puts, AlikeWhere, WritesRows, ClaimRows}
 use Rattle.laws.proofs.Ranges.{planes-pos}
 use Rattle.laws.proofs.Fits.{Fits, fits-of}
 use Rattle.laws.proofs.Lens.{length-columns, own-columns, other-columns, length-with}

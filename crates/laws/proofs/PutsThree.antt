@@ -23,9 +23,9 @@ use Rattle.sheet.specs.Checks.{faultIn, checkState}
 use Rattle.sheet.specs.Places.{atPosition}
 use Rattle.sheet.specs.Data.{rowOf}
 use Rattle.sheet.specs.Long.{Group, After, heard, replaced, columnsOf, heardIn, transferCall}
-use Rattle.sheet.specs.Writer.{eachAfter80, modeSetOf, setTo, checkWanted}
-use Rattle.sheet.specs.Puts.{Settable}
-use Rattle.sheet.specs.Three.{pairOf, byteAt, pairsFrom, threeTransfer, PutsThree, WritesThree, ClaimThree}
+use Rattle.writer_sheet.specs.Writer.{eachAfter80, modeSetOf, setTo, checkWanted}
+use Rattle.writer_sheet.specs.Puts.{Settable}
+use Rattle.writer_sheet.specs.Three.{pairOf, byteAt, pairsFrom, threeTransfer, PutsThree, WritesThree, ClaimThree}
 use Rattle.laws.proofs.Fits.{Fits, fits-of}
 use Rattle.laws.proofs.Lens.{length-columns, own-columns, other-columns, length-with}
 use Rattle.laws.proofs.Commanded.{on, heard-commands, fault-commands}

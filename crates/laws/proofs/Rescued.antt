@@ -20,9 +20,9 @@ use Rattle.sheet.specs.declared.Refusal.the-variants.{LogHead, LongLog, OutputL
 use Rattle.sheet.specs.declared.Rescued.{Rescued}
 use Rattle.sheet.specs.Parts.{pcf8532}
 use Rattle.sheet.specs.Checks.{unless, checkChips}
-use Rattle.sheet.specs.Records.{Records, noRecords, lengthOf, sizeOf, readIn, recordsFrom}
-use Rattle.sheet.specs.Logs.{logChips, seenBytes, logRecords, checkHead, checkLog}
-use Rattle.sheet.specs.Rescue.{keptOf, kept, checkRescue, rescuedBy, rescueCall, TornAt, Rescues}
+use Rattle.log_sheet.specs.Records.{Records, noRecords, lengthOf, sizeOf, readIn, recordsFrom}
+use Rattle.log_sheet.specs.Logs.{logChips, seenBytes, logRecords, checkHead, checkLog}
+use Rattle.log_sheet.specs.Rescue.{keptOf, kept, checkRescue, rescuedBy, rescueCall, TornAt, Rescues}
 use Rattle.laws.proofs.Fits.{both-pass, unless-passes}
 
 -- ---- the records from a place on

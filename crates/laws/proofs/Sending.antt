@@ -20,7 +20,7 @@ use Rattle.sheet.specs.Commands.{obeyedAll, allDefined}
 use Rattle.sheet.specs.Protocol.{addressOf, heardBy, chipsIn, controlOf, whole, wholeOf, cutData}
 use Rattle.sheet.specs.Checks.{checkLength, checkBits, checkSent, faultIn, checkState, checkTransfer}
 use Rattle.sheet.specs.Long.{Group, begun, control, heard, columnsOf, heardIn, transferCall}
-use Rattle.sheet.specs.Writer.{eachAfter80}
+use Rattle.writer_sheet.specs.Writer.{eachAfter80}
 use Rattle.laws.proofs.Commanded.{on, heard-commands, fault-commands, fault-data}
 
 pub hears : (n : Chips) (g : ℕ) → g < 2 → 0 < chipsIn g n → heardBy n (addressOf g) ≡ To g

@@ -8,7 +8,7 @@ use native.Mathlib.Omega.{arith}
 use Rattle.sheet.specs.declared.Command.the-variants.{PointerHigh, PointerLow, Pointer, ModeSet, DeviceSelect, BankSelect}
 use Rattle.sheet.specs.Parts.{within, Range, commandIn, pcf8532Ranges, pcf8532, pca85133Ranges, pca85133, partOf}
 use Rattle.sheet.specs.Registers.{atPlace, withMarks}
-use Rattle.sheet.specs.Puts.{Settable}
+use Rattle.writer_sheet.specs.Puts.{Settable}
 use Rattle.laws.proofs.Stretches.{whole, told, stretch}
 use Rattle.laws.proofs.Named.{of-both}
 

@@ -12,14 +12,14 @@ use lib.ListN.{length, getD, drop, length-append, length-map}
 use lib.Seq.{drop-drop, getD-drop}
 use borrow.Author.Tests.{ltb-true, leb-true}
 use Rattle.lemmas.proofs.Lists.{next}
-use Rattle.sheet.specs.declared.Symbol.{Symbol}
-use Rattle.sheet.specs.declared.Symbol.the-variants.{Digit, Pointed, Space, Minus, LongMinus}
-use Rattle.sheet.specs.declared.Found.{Found}
+use Rattle.price_sheet.specs.declared.Symbol.{Symbol}
+use Rattle.price_sheet.specs.declared.Symbol.the-variants.{Digit, Pointed, Space, Minus, LongMinus}
+use Rattle.price_sheet.specs.declared.Found.{Found}
 use Rattle.sheet.specs.declared.Check.{Check}
 use Rattle.sheet.specs.declared.Check.the-variants.{Passed, Refused}
 use Rattle.sheet.specs.declared.Refusal.the-variants.{LongTransfer, Register, OutputLength}
 use Rattle.sheet.specs.Checks.{unless, orElse, passed}
-use Rattle.sheet.specs.Price.{isSymbol, textOf, textsOf, plain, byteOf, begun, begunAt, Spelled, andThen, moreOf, spelledFrom, spelled, shown, readFrom, checkPrice, Sizes}
+use Rattle.price_sheet.specs.Price.{isSymbol, textOf, textsOf, plain, byteOf, begun, begunAt, Spelled, andThen, moreOf, spelledFrom, spelled, shown, readFrom, checkPrice, Sizes}
 use Rattle.laws.proofs.Symbols.{Shown, shown-is, plain-short}
 
 -- ---- a text

@@ -8,11 +8,11 @@ use lib.Dec.{T, eqb, ltb, leb}
 use lib.ListN.{length}
 use borrow.Author.Tests.{lt-ltb, ltb-true, ltb-false, eqb-true, leb-true}
 use Rattle.lemmas.proofs.Tests.{both-true}
-use Rattle.sheet.specs.declared.Symbol.{Symbol}
-use Rattle.sheet.specs.declared.Symbol.the-variants.{Digit, Pointed, Space, Minus, LongMinus}
-use Rattle.sheet.specs.declared.Found.{Found}
+use Rattle.price_sheet.specs.declared.Symbol.{Symbol}
+use Rattle.price_sheet.specs.declared.Symbol.the-variants.{Digit, Pointed, Space, Minus, LongMinus}
+use Rattle.price_sheet.specs.declared.Found.{Found}
 use Rattle.sheet.specs.Parts.{within}
-use Rattle.sheet.specs.Price.{isSymbol, textOf, plain, byteOf, begun, shownAs, shownBelow, shown}
+use Rattle.price_sheet.specs.Price.{isSymbol, textOf, plain, byteOf, begun, shownAs, shownBelow, shown}
 
 -- ---- what a byte may show
 

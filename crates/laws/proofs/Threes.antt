@@ -23,9 +23,9 @@ use Rattle.sheet.specs.Checks.{faultIn}
 use Rattle.sheet.specs.Places.{position, atPosition}
 use Rattle.sheet.specs.Data.{rowOf, widthOf, putBits, present, storedBits, counted, acknowledger}
 use Rattle.sheet.specs.Long.{Group, control, dataByte, heard}
-use Rattle.sheet.specs.Writer.{eachAfter80, setTo}
-use Rattle.sheet.specs.Puts.{Settable}
-use Rattle.sheet.specs.Three.{pairOf, byteAt, pairsFrom}
+use Rattle.writer_sheet.specs.Writer.{eachAfter80, setTo}
+use Rattle.writer_sheet.specs.Puts.{Settable}
+use Rattle.writer_sheet.specs.Three.{pairOf, byteAt, pairsFrom}
 use Rattle.laws.proofs.Counts.{stored-closed, counts-alike}
 use Rattle.laws.proofs.Runs.{length-bits}
 use Rattle.laws.proofs.Puts.{length-each}

@@ -16,8 +16,8 @@ use borrow.Author.Tests.{le-leb, lt-ltb, leb-true, ltb-true}
 use Rattle.lemmas.proofs.Order.{equal-or-not}
 use Rattle.lemmas.proofs.Tests.{both-true}
 use Rattle.sheet.specs.Data.{bitOf, widthOf}
-use Rattle.sheet.specs.Writer.{bitFrom, bitsFrom, dataFrom, bytesFor}
-use Rattle.sheet.specs.Puts.{reaches, AlikeWhere}
+use Rattle.writer_sheet.specs.Writer.{bitFrom, bitsFrom, dataFrom, bytesFor}
+use Rattle.writer_sheet.specs.Puts.{reaches, AlikeWhere}
 use Rattle.laws.proofs.Rows.{within-width}
 
 -- ---- the bits of a byte

@@ -13,7 +13,7 @@ use Rattle.sheet.specs.declared.Check.{Check}
 use Rattle.sheet.specs.declared.Check.the-variants.{Passed, Refused}
 use Rattle.sheet.specs.Checks.{orElse, checkPart}
 use Rattle.sheet.specs.Refusals.{writtenNumbers}
-use Rattle.sheet.specs.Writer.{checkRoom, WrittenAfter, writtenBy, writtenPart}
+use Rattle.sheet.specs.Written.{checkRoom, WrittenAfter, writtenBy, writtenPart}
 use Rattle.laws.proofs.First.{then-refused, then-passed}
 
 -- a result with the output, and so its numbers

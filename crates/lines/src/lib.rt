@@ -3,7 +3,7 @@ use sheet::Answer;
 use sheet::Refusal;
 ghost use Prim.Native.Nat.{_+_, _≤_};
 ghost use lib.ListN.{length};
-ghost use Rattle.sheet.specs.Logs.{transferLine, seenLine, recordLines, columnLine, columnLines, refusalLine};
+ghost use Rattle.log_sheet.specs.Logs.{transferLine, seenLine, recordLines, columnLine, columnLines, refusalLine};
 ghost use Rattle.text.specs.Texts.{Puts};
 
 // A transfer's line. Logs are the PCF8532's.

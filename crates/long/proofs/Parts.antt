@@ -12,7 +12,7 @@ use Rattle.sheet.specs.declared.Chips.{Chips}
 use Rattle.sheet.specs.Parts.{Part}
 use Rattle.sheet.specs.Protocol.{chipsIn}
 use Rattle.sheet.specs.Long.{startOf, endOf, columnsOf, withColumns}
-use Rattle.sheet.specs.Packed.{unpacked, columnsIn}
+use Rattle.packed_sheet.specs.Packed.{unpacked, columnsIn}
 use Rattle.laws.proofs.Packed.{ordered, end-in-bytes, part-unpacked, back-unpacked}
 
 module _ (K : Part) (half : ℕ) (even : K .columns ≡ 2 * half) (n : Chips) (ram : List ℕ) (g start end : ℕ) where

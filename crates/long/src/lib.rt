@@ -17,7 +17,7 @@ ghost use Rattle.sheet.specs.Parts.{partOf};
 ghost use Rattle.sheet.specs.Protocol.{sent};
 ghost use Rattle.sheet.specs.Checks.{checkState};
 ghost use Rattle.sheet.specs.Long.{noCounts, replaced, taken, powerOnPart, transferPart, picturePart};
-ghost use Rattle.sheet.specs.Packed.{columnsIn, powerOnPacked, transferPacked, picturePacked};
+ghost use Rattle.packed_sheet.specs.Packed.{columnsIn, powerOnPacked, transferPacked, picturePacked};
 
 // ---- over columns that are a byte each, or packed
 

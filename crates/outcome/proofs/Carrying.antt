@@ -11,7 +11,7 @@ use Rattle.sheet.specs.declared.Chips.{Chips}
 use Rattle.sheet.specs.Parts.{pcf8532}
 use Rattle.sheet.specs.Protocol.{whole}
 use Rattle.sheet.specs.Long.{State, After, stateOf, transferCall, stateAfterAll}
-use Rattle.sheet.specs.Logs.{seenBytes, transfersIn, logTransfers}
+use Rattle.log_sheet.specs.Logs.{seenBytes, transfersIn, logTransfers}
 use Rattle.records.specs.Found.{recordsAt}
 use Rattle.records.proofs.Found.{Next}
 

@@ -6,7 +6,7 @@ use sheet::Chips;
 ghost use mathlib.Core.Path.{_≡_};
 ghost use Rattle.sheet.specs.Parts.{pcf8532};
 ghost use Rattle.sheet.specs.Long.{bothOn, stateOf, stateAfterAll};
-ghost use Rattle.sheet.specs.Logs.{logChips, logTransfers};
+ghost use Rattle.log_sheet.specs.Logs.{logChips, logTransfers};
 
 // Carries out the transfers of a log's whole records.
 fn carry_out(log: &[u8], chips: Chips, initial: Both, ram: &mut [u8])

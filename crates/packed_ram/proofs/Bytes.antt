@@ -10,7 +10,7 @@ use lib.Dec.{lit≤}
 use lib.ListN.{length, getD, set}
 use Rattle.sheet.specs.Registers.{bankRow}
 use Rattle.sheet.specs.Data.{changed, putBits, widthOf}
-use Rattle.sheet.specs.Packed.{unpacked}
+use Rattle.packed_sheet.specs.Packed.{unpacked}
 use Rattle.laws.proofs.Ranges.{bank-rows-fit}
 use Rattle.laws.proofs.Runs.{changed-alike}
 use Rattle.laws.proofs.Nibbles.{Nibbles, bits-nibbles}

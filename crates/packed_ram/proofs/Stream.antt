@@ -20,7 +20,7 @@ use Rattle.sheet.specs.declared.Check.the-variants.{Passed}
 use Rattle.sheet.specs.Registers.{bankRow}
 use Rattle.sheet.specs.Checks.{overIn}
 use Rattle.sheet.specs.Runs.{putRun}
-use Rattle.sheet.specs.Packed.{unpacked}
+use Rattle.packed_sheet.specs.Packed.{unpacked}
 use Rattle.laws.proofs.Ranges.{bank-rows-fit}
 use Rattle.words.specs.Fields.{withRows, field, merged}
 use Rattle.words.proofs.Fields.{column}

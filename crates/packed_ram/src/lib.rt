@@ -7,7 +7,7 @@ ghost use Rattle.sheet.specs.declared.Check.the-variants.{Passed};
 ghost use Rattle.sheet.specs.Registers.{bankRow};
 ghost use Rattle.sheet.specs.Checks.{overIn};
 ghost use Rattle.sheet.specs.Runs.{putRun};
-ghost use Rattle.sheet.specs.Packed.{unpacked};
+ghost use Rattle.packed_sheet.specs.Packed.{unpacked};
 ghost use Rattle.ram.specs.Writes.{Whole, Cut};
 ghost use Rattle.packed_ram.specs.Stream.{earlier, stream, ending};
 

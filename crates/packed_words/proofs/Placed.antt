@@ -12,7 +12,7 @@ use lib.ListN.{length, getD}
 use lib.Arith.{digits-div}
 use lib.Pow.{shr-shr, field, mod-mod-pow, pow-add, pow-pos}
 use Rattle.sheet.specs.Data.{changed, putBits, widthOf}
-use Rattle.sheet.specs.Packed.{unpacked}
+use Rattle.packed_sheet.specs.Packed.{unpacked}
 use Rattle.laws.proofs.Runs.{changed-alike, changed-past, unchanged, length-changed}
 use Rattle.laws.proofs.Nibbles.{Nibbles, bits-nibbles}
 use Rattle.laws.proofs.Packed.{columns-changed, length-unpacked}

@@ -3,7 +3,7 @@ ghost use mathlib.Core.Path.{_≡_};
 ghost use Prim.Native.Nat.{ℕ, _+_, _*_, _≤_, _<_, _^_};
 ghost use lib.ListN.{length};
 ghost use Rattle.sheet.specs.Data.{changed};
-ghost use Rattle.sheet.specs.Packed.{unpacked};
+ghost use Rattle.packed_sheet.specs.Packed.{unpacked};
 ghost use Rattle.words.specs.Fields.{columnOf, mixed, merged};
 ghost use Rattle.packed_words.specs.Placed.{placed, RowsWord, Word};
 

@@ -6,7 +6,7 @@ ghost use mathlib.Core.Bool.{cond};
 ghost use Prim.Native.Nat.{_-_, _≤_, _<_};
 ghost use lib.ListN.{length};
 ghost use Rattle.sheet.specs.Pictures.{shown, lit, pictureOf, litIn};
-ghost use Rattle.sheet.specs.Packed.{unpacked, columnsIn};
+ghost use Rattle.packed_sheet.specs.Packed.{unpacked, columnsIn};
 ghost use Rattle.picture.specs.Drawn.{drawn, Few, Drawable};
 
 // The bank that is shown: the group's own, or the other one.

@@ -10,8 +10,8 @@ use Rattle.sheet.specs.declared.Refusal.{Refusal}
 use Rattle.sheet.specs.declared.Check.{Check}
 use Rattle.sheet.specs.declared.Check.the-variants.{Passed, Refused}
 use Rattle.sheet.specs.Checks.{orElse}
-use Rattle.sheet.specs.Writer.{WrittenAfter, writtenBy}
-use Rattle.sheet.specs.Price.{Spelled, priceBy}
+use Rattle.sheet.specs.Written.{WrittenAfter, writtenBy}
+use Rattle.price_sheet.specs.Price.{Spelled, priceBy}
 use Rattle.text.specs.Texts.{Puts}
 use Rattle.text.proofs.Writing.{at-start}
 

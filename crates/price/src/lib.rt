@@ -1,8 +1,8 @@
 // Write a price on the glass: a text to 7-segment data bytes, and back to text (paper 02, request 1).
+use price_sheet::Found;
+use price_sheet::Symbol;
 use sheet::Check;
-use sheet::Found;
 use sheet::Refusal;
-use sheet::Symbol;
 use sheet::Written;
 ghost use mathlib.Core.Bool.{true};
 ghost use mathlib.Core.Path.{_≡_};
@@ -10,7 +10,7 @@ ghost use mathlib.Core.List.{map};
 ghost use Prim.Native.Nat.{_+_, _≤_, _<_};
 ghost use lib.ListN.{length};
 ghost use Rattle.sheet.specs.Refusals.{writtenNumbers};
-ghost use Rattle.sheet.specs.Price.{isSymbol, textOf, textsOf, plain, byteOf, begun, begunAt, spelled, readFrom, checkPrice, Sizes, priceWrite, priceRead};
+ghost use Rattle.price_sheet.specs.Price.{isSymbol, textOf, textsOf, plain, byteOf, begun, begunAt, spelled, readFrom, checkPrice, Sizes, priceWrite, priceRead};
 ghost use Rattle.text.specs.Texts.{Puts};
 
 // ---- the symbols of a text

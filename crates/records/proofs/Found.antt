@@ -11,8 +11,8 @@ use lib.Seq.{drop-drop}
 use borrow.Author.Tests.{leb-true, leb-false}
 use denote.Enum.Declared.{tagOf}
 use types.Run.{OneOf, miss}
-use Rattle.sheet.specs.Records.{Records, lengthOf, noRecords, tornAt, shortAt, withBody, nothing-left, one-byte-left, cut-short, too-short, whole}
-use Rattle.sheet.specs.Logs.{seenIn}
+use Rattle.log_sheet.specs.Records.{Records, lengthOf, noRecords, tornAt, shortAt, withBody, nothing-left, one-byte-left, cut-short, too-short, whole}
+use Rattle.log_sheet.specs.Logs.{seenIn}
 use Rattle.records.specs.declared.Record.{Record}
 use Rattle.records.specs.declared.Record.the-variants.{Body, End, Cut, Short}
 use Rattle.records.specs.Found.{recordIn, recordsAt}

@@ -7,8 +7,8 @@ use native.Mathlib.Omega.{arith}
 use lib.ListN.{length, getD, take, drop, length-drop, drop-of-length-le}
 use borrow.Author.Tests.{le-leb, lt-leb}
 use Rattle.lemmas.proofs.Lists.{next}
-use Rattle.sheet.specs.Records.{lengthOf}
-use Rattle.sheet.specs.Logs.{seenIn}
+use Rattle.log_sheet.specs.Records.{lengthOf}
+use Rattle.log_sheet.specs.Logs.{seenIn}
 use Rattle.records.specs.declared.Record.the-variants.{Body, End, Cut, Short}
 use Rattle.records.specs.Found.{recordIn}
 

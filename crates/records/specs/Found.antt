@@ -5,8 +5,8 @@ use mathlib.Core.List.{List, [], _∷_}
 use Prim.Native.Nat.{ℕ, _+_, _<_}
 use lib.Dec.{leb}
 use lib.ListN.{length, take, drop}
-use Rattle.sheet.specs.Records.{Records, lengthOf, recordsFrom}
-use Rattle.sheet.specs.Logs.{seenIn}
+use Rattle.log_sheet.specs.Records.{Records, lengthOf, recordsFrom}
+use Rattle.log_sheet.specs.Logs.{seenIn}
 use Rattle.records.specs.declared.Record.{Record}
 use Rattle.records.specs.declared.Record.the-variants.{Body, End, Cut, Short}
 

@@ -5,8 +5,8 @@ use sheet::Refusal;
 ghost use mathlib.Core.Path.{_≡_};
 ghost use Prim.Native.Nat.{_<_};
 ghost use lib.ListN.{drop};
-ghost use Rattle.sheet.specs.Records.{lengthOf};
-ghost use Rattle.sheet.specs.Logs.{logChips, seenBytes, logRecords, checkHead, seenIn};
+ghost use Rattle.log_sheet.specs.Records.{lengthOf};
+ghost use Rattle.log_sheet.specs.Logs.{logChips, seenBytes, logRecords, checkHead, seenIn};
 ghost use Rattle.records.specs.Found.{recordIn, Counted, AllCounted};
 
 // ---- the head

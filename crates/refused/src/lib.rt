@@ -13,8 +13,8 @@ ghost use Rattle.sheet.specs.Parts.{partOf};
 ghost use Rattle.sheet.specs.Registers.{inRange};
 ghost use Rattle.sheet.specs.Protocol.{heardBy, chipsIn, sent, addressByte};
 ghost use Rattle.sheet.specs.Checks.{unless, orElse, checkPart, checkChips, checkRegisters, checkColumns, checkRam, checkBytes, checkState, checkPowerOn, checkTransfer, checkPicture};
-ghost use Rattle.sheet.specs.Packed.{unpacked, columnsIn};
-ghost use Rattle.sheet.specs.Writer.{checkWanted};
+ghost use Rattle.packed_sheet.specs.Packed.{unpacked, columnsIn};
+ghost use Rattle.writer_sheet.specs.Writer.{checkWanted};
 
 // Whether every register of both groups is in range.
 fn registers_fit(part: u8, registers: Both) -> bool

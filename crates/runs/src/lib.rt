@@ -6,7 +6,7 @@ ghost use lib.ListN.{length};
 ghost use Rattle.sheet.specs.Parts.{partOf};
 ghost use Rattle.sheet.specs.Registers.{bankRow};
 ghost use Rattle.sheet.specs.Runs.{putRun, writtenBy};
-ghost use Rattle.sheet.specs.Packed.{columnsIn};
+ghost use Rattle.packed_sheet.specs.Packed.{columnsIn};
 ghost use Rattle.ram.specs.Writes.{Whole, Cut};
 ghost use Rattle.runs.specs.Asks.{Run, Writable};
 

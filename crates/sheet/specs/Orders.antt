@@ -17,8 +17,6 @@ use Rattle.sheet.specs.Long.{heard, dataByte, powerOnCall, transferCall,
 use Rattle.sheet.specs.Plain.{putRows, afterColumn, afterColumns, chipData, acknowledgesData, smallest, plainHeard, chipFits, chipPowerOn, checkChipPicture, chipPictureCall, misfitIn, checkPlain, plainCall, chipPowerOnPart, chipPicturePart, plainPart}
 use Rattle.sheet.specs.Places.{advanced, position, atPosition}
 use Rattle.sheet.specs.Data.{putBits, changed, withRow, storedBits, counted, acknowledger}
-use Rattle.sheet.specs.Records.{readIn, recordsFrom}
-use Rattle.sheet.specs.Logs.{checkHead, checkLog}
 use Rattle.sheet.specs.Starred.{same}
 use lib.Count.{ones, onesIn}
 
@@ -126,33 +124,6 @@ plain =
     && inOrder (refusal 16 0 ∷ refusal 11 0 ∷ refusal 8 0 ∷ refusal 9 0 ∷ [])
     (λ f. pictureNumbers (chipPicturePart (part (is f 0)) (chip (cond (is f 1) 4 1)) (cond (is f 2) 2 0) (replicate (160 + cond (is f 3) 1 0) 0) .result))))
 
--- ---- a log: version 1 or 3, one chip or five, an empty record or one cut short, and too many empty records
-
-abbrev log : List Bool → List ℕ
-log f = cond (is f 1) 3 1 ∷ cond (is f 2) 5 1 ∷ 0 ∷ 0 ∷ cond (is f 3) 9 0 ∷ cond (is f 0) (replicate 65532 0) []
-
-abbrev pub logs : Bool
-logs = inOrder (refusal 14 0 ∷ refusal 12 0 ∷ refusal 3 0 ∷ refusal 13 3 ∷ []) (λ f. checkNumbers (checkLog (log f)))
-
--- version 2: the records' bytes, and the refusal
-pub record Recorded : Type 0 where
-  pub bytes : List ℕ
-  pub refused : Fault
-
-abbrev recorded : List ℕ → ℕ → ℕ → Recorded
-recorded bytes number place = record { bytes = bytes; refused = refusal number place }
-
-abbrev pub everyLog : List Recorded → Bool
-everyLog [] = true
-everyLog (r ∷ rs) = same (take 2 (checkNumbers (checkLog (2 ∷ 1 ∷ 0 ∷ r .bytes)))) (r .refused .number ∷ r .refused .place ∷ []) && everyLog rs
-
--- a body of two bytes and of none; of one byte, there and cut off: 13 comes before 20; and a second record, where the first faulty one decides
-abbrev pub bodies : Bool
-bodies =
-    everyLog
-    (recorded [] 0 0 ∷ recorded (0 ∷ 2 ∷ 0 ∷ 0 ∷ []) 0 0 ∷ recorded (0 ∷ 0 ∷ []) 20 3 ∷ recorded (0 ∷ 1 ∷ 0 ∷ []) 20 3 ∷ recorded (0 ∷ 1 ∷ []) 13 3 ∷ recorded (0 ∷ []) 13 3
-    ∷ recorded (0 ∷ 0 ∷ 0 ∷ 9 ∷ []) 20 3 ∷ recorded (0 ∷ 2 ∷ 0 ∷ 0 ∷ 0 ∷ 9 ∷ []) 13 7 ∷ recorded (0 ∷ 2 ∷ 0 ∷ 0 ∷ 0 ∷ 1 ∷ 0 ∷ []) 20 7 ∷ [])
-
 -- ---- an unknown part: its number, place and none are 16, 0 and 4, the registers are the power-on ones after a power-on and else those that were given, and nothing that is lent changes
 
 abbrev given : Both
@@ -171,6 +142,6 @@ unknown (part ∷ parts) =
     && (refusedAs (plainNumbers (partOf part) (list .answer)) (4 ∷ []) && (refusedAs (checkNumbers (on .check)) (0 ∷ []) && (eqb (on .chip .registers .p) 0
     && (refusedAs (checkNumbers (powerOnPart part (chips true) [] .check)) (0 ∷ []) && (same (picturePart part (chips true) given [] 2 2 (7 ∷ []) .out) (7 ∷ []) && unknown parts)))))))
 
-pub orders : T (long && (plain && (logs && (bodies && unknown (2 ∷ 3 ∷ 255 ∷ [])))))
-unfolding partOf checkPart powerOnPart transferPart picturePart chipPowerOnPart chipPicturePart plainPart checkLog checkHead recordsFrom readIn powerOnCall checkPowerOn pictureCall checkPicture chipPowerOn chipPictureCall checkChipPicture litIn ones onesIn plainCall checkPlain misfitIn chipFits plainHeard chipData afterColumn afterColumns putRows advanced acknowledgesData smallest transferCall checkTransfer checkState checkChips checkRegisters checkRam checkLength checkBits checkSent overIn faultIn wholeOf cutData heardBy heard dataByte controlOf commandIn within inRange backplanes bankRow position atPosition putBits changed withRow storedBits counted acknowledger shown pictureOf
+pub orders : T (long && (plain && unknown (2 ∷ 3 ∷ 255 ∷ [])))
+unfolding partOf checkPart powerOnPart transferPart picturePart chipPowerOnPart chipPicturePart plainPart powerOnCall checkPowerOn pictureCall checkPicture chipPowerOn chipPictureCall checkChipPicture litIn ones onesIn plainCall checkPlain misfitIn chipFits plainHeard chipData afterColumn afterColumns putRows advanced acknowledgesData smallest transferCall checkTransfer checkState checkChips checkRegisters checkRam checkLength checkBits checkSent overIn faultIn wholeOf cutData heardBy heard dataByte controlOf commandIn within inRange backplanes bankRow position atPosition putBits changed withRow storedBits counted acknowledger shown pictureOf
 orders = tt

@@ -168,21 +168,6 @@ pub enum Written {
     Refused(Refusal),
 }
 
-// What a 7-segment digit of the glass shows, as a price spells it (paper 02, request 1): a digit, without and with the point joined to it, a space, and a minus, ASCII or typographic.
-pub enum Symbol {
-    Digit(u8),
-    Pointed(u8),
-    Space,
-    Minus,
-    LongMinus,
-}
-
-// The symbol that stands at a place, if one does.
-pub enum Found {
-    Symbol(Symbol),
-    None,
-}
-
 // A chip of the plain account, with its own columns, identity and registers. A part with fewer columns has the first of them.
 pub struct Chip {
     pub columns: [u8; 160],

@@ -7,7 +7,7 @@ use Prim.Native.Nat.{ℕ, zero, suc, _+_, _/_, _%_, _≤_, _<_}
 use native.Mathlib.Omega.{arith}
 use borrow.Author.Tests.{lt-ltb, le-ltb}
 use Rattle.lemmas.proofs.Order.{lt-or-le}
-use Rattle.sheet.specs.Logs.{digitsIn, decimal}
+use Rattle.log_sheet.specs.Logs.{digitsIn, decimal}
 
 -- the bound does not matter if it is over the number
 same-digits : (k j n : ℕ) → n < k → n < j → digitsIn k n ≡ digitsIn j n

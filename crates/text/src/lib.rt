@@ -2,7 +2,7 @@
 ghost use mathlib.Core.List.{[], _∷_};
 ghost use Prim.Native.Nat.{_+_, _≤_, _<_};
 ghost use lib.ListN.{length};
-ghost use Rattle.sheet.specs.Logs.{decimal, spaced, line};
+ghost use Rattle.log_sheet.specs.Logs.{decimal, spaced, line};
 ghost use Rattle.text.specs.Texts.{Puts};
 
 pub fn put_byte(out: &mut [u8], at: usize, byte: u8) -> usize

@@ -8,7 +8,7 @@ use native.Mathlib.Omega.{arith}
 use lib.ListN.{length, take, drop, length-append, length-drop}
 use lib.Seq.{length-take-le, take-all, take-at}
 use Rattle.sheet.specs.Parts.{Part}
-use Rattle.sheet.specs.Three.{pairOf, byteAt, pairsFrom}
+use Rattle.writer_sheet.specs.Three.{pairOf, byteAt, pairsFrom}
 use Rattle.laws.proofs.Pairs.{pairs-more}
 
 pub record Putting (K : Part) (step : ℕ) (wanted before out : List ℕ) (at c : ℕ) : Type 0 where

@@ -12,8 +12,8 @@ ghost use lib.ListN.{length};
 ghost use Rattle.sheet.specs.Parts.{partOf};
 ghost use Rattle.sheet.specs.Refusals.{writtenNumbers};
 ghost use Rattle.sheet.specs.Protocol.{addressOf};
-ghost use Rattle.sheet.specs.Writer.{eachAfter80, modeSetOf};
-ghost use Rattle.sheet.specs.Three.{byteAt, pairsFrom, writeThreePart};
+ghost use Rattle.writer_sheet.specs.Writer.{eachAfter80, modeSetOf};
+ghost use Rattle.writer_sheet.specs.Three.{byteAt, pairsFrom, writeThreePart};
 ghost use Rattle.three.specs.Room.{Pairs, Three};
 
 // How long one data byte is with the commands before it.

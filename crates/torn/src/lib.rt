@@ -7,8 +7,8 @@ use sheet::Rescued;
 ghost use mathlib.Core.Path.{_≡_};
 ghost use lib.ListN.{length};
 ghost use Rattle.sheet.specs.Refusals.{rescuedNumbers};
-ghost use Rattle.sheet.specs.Logs.{logRecords};
-ghost use Rattle.sheet.specs.Rescue.{keptOf, checkRescue, rescueCall};
+ghost use Rattle.log_sheet.specs.Logs.{logRecords};
+ghost use Rattle.log_sheet.specs.Rescue.{keptOf, checkRescue, rescueCall};
 
 // The whole records of a log before the first tear, and where they end.
 struct Whole {

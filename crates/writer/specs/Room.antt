@@ -6,7 +6,7 @@ use lib.ListN.{length}
 use Rattle.sheet.specs.declared.Registers.{Registers}
 use Rattle.sheet.specs.Parts.{Part}
 use Rattle.sheet.specs.Registers.{backplanes}
-use Rattle.sheet.specs.Writer.{setTo, bytesFor}
+use Rattle.writer_sheet.specs.Writer.{setTo, bytesFor}
 
 -- a group, registers, a wanted mode and a wanted bank in range
 pub record Settled (group : ℕ) (registers : Registers) (mode bank : ℕ) : Type 0 where

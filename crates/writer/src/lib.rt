@@ -13,7 +13,7 @@ ghost use Rattle.sheet.specs.Parts.{partOf};
 ghost use Rattle.sheet.specs.Registers.{backplanes};
 ghost use Rattle.sheet.specs.Refusals.{writtenNumbers};
 ghost use Rattle.sheet.specs.Protocol.{addressOf};
-ghost use Rattle.sheet.specs.Writer.{eachAfter80, modeSetOf, bankSelectOf, settings, setTo, bytesFor, dataOf, writeRowsPart};
+ghost use Rattle.writer_sheet.specs.Writer.{eachAfter80, modeSetOf, bankSelectOf, settings, setTo, bytesFor, dataOf, writeRowsPart};
 ghost use Rattle.writer.specs.Room.{Settled, Room};
 
 // ---- the head: the address, the commands each after 80, and the 40 before the data

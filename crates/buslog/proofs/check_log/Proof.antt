@@ -5,7 +5,7 @@ use Prim.Native.Nat.{ℕ}
 use native.Mathlib.Omega.{arith}
 use Rattle.sheet.specs.declared.Refusal.{Refusal}
 use Rattle.sheet.specs.declared.Check.the-variants.{Passed, Refused}
-use Rattle.sheet.specs.Logs.{checkLog}
+use Rattle.log_sheet.specs.Logs.{checkLog}
 use borrow.Author.Needs.{needs}
 use Rattle.buslog.proofs.check_log.Statement.{statement}
 use Rattle.buslog.proofs.check_log.Tie as tie

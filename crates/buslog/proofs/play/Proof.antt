@@ -7,7 +7,7 @@ use native.Mathlib.Omega.{arith}
 use Rattle.sheet.specs.Parts.{pcf8532}
 use Rattle.sheet.specs.Protocol.{Sent}
 use Rattle.sheet.specs.Long.{stateOf, State, powerOnPart, stateAfterAll}
-use Rattle.sheet.specs.Logs.{seenBytes, logRecords, logTransfers, transferLines, endLines, logStart, logLines}
+use Rattle.log_sheet.specs.Logs.{seenBytes, logRecords, logTransfers, transferLines, endLines, logStart, logLines}
 use Rattle.sheet.specs.Agree.{Valid}
 use Rattle.text.proofs.Writing.{Writing, begin, rest-is, turn, last, room-for}
 use Rattle.agreement.proofs.Demand.{demand3}

@@ -6,7 +6,7 @@ use Prim.Native.Nat.{ℕ}
 use native.Mathlib.Omega.{arith}
 use Rattle.sheet.specs.Pictures.{litIn}
 use Rattle.sheet.specs.Long.{stateOf}
-use Rattle.sheet.specs.Logs.{groupLine, columnLines, shownAt, endLines}
+use Rattle.log_sheet.specs.Logs.{groupLine, columnLines, shownAt, endLines}
 use Rattle.text.proofs.Writing.{Writing, begin, rest-is, turn, last, room-for}
 use borrow.Author.Needs.{needs}
 use Rattle.buslog.proofs.put_end.Statement.{statement}

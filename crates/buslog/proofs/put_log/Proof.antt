@@ -10,7 +10,7 @@ use lib.Seq.{length-take-le}
 use Rattle.sheet.specs.declared.Check.the-variants.{Passed}
 use Rattle.sheet.specs.Parts.{pcf8532}
 use Rattle.sheet.specs.Checks.{checkChips}
-use Rattle.sheet.specs.Logs.{seenBytes, logRecords, logLines, textOf}
+use Rattle.log_sheet.specs.Logs.{seenBytes, logRecords, logLines, textOf}
 use Rattle.laws.proofs.Fits.{few-chips}
 use Rattle.buslog.proofs.Checked.{checked, text-passed}
 use borrow.Author.Needs.{needs}

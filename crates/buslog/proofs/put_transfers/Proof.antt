@@ -7,7 +7,7 @@ use lib.ListN.{length, take, drop}
 use Rattle.sheet.specs.Parts.{pcf8532}
 use Rattle.sheet.specs.Protocol.{whole}
 use Rattle.sheet.specs.Long.{After, stateOf, transferCall, stateAfterAll}
-use Rattle.sheet.specs.Logs.{seenBytes, recordLines, transferLines}
+use Rattle.log_sheet.specs.Logs.{seenBytes, recordLines, transferLines}
 use Rattle.records.specs.Found.{recordIn}
 use Rattle.records.proofs.Found.{Next, Found, found, none-left}
 use Rattle.text.proofs.Writing.{begin, rest-is, done, room-for, puts-length}

@@ -8,7 +8,7 @@ use native.Mathlib.Omega.{arith}
 use lib.ListN.{length, drop}
 use lib.Seq.{sets-eq}
 use borrow.Author.Tests.{lt-ltb, le-ltb}
-use Rattle.sheet.specs.Logs.{refusalLine, textOf}
+use Rattle.log_sheet.specs.Logs.{refusalLine, textOf}
 use Rattle.buslog.specs.declared.Replayed.the-variants.{Written}
 use Rattle.text.specs.Texts.{written, Puts}
 use Rattle.buslog.specs.Replays.{room, replayCall}

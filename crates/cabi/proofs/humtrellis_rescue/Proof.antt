@@ -2,7 +2,7 @@
 -- Assumes nothing.
 use mathlib.Core.Path.{refl, ap}
 use borrow.Author.Tests.{eq-eqb, ne-eqb}
-use Rattle.sheet.specs.Rescue.{RescuedAfter}
+use Rattle.log_sheet.specs.Rescue.{RescuedAfter}
 use Rattle.answers.proofs.Small.{rescued-small}
 use Rattle.cabi.specs.Calls.{rescueC}
 use borrow.Author.Needs.{needs}

@@ -5,8 +5,8 @@ use lib.Dec.{eqb}
 use lib.ListN.{length}
 use Rattle.sheet.specs.declared.Both.{Both}
 use Rattle.sheet.specs.Refusals.{writtenNumbers}
-use Rattle.sheet.specs.Writer.{WrittenAfter}
-use Rattle.sheet.specs.Three.{writeThreePart}
+use Rattle.sheet.specs.Written.{WrittenAfter}
+use Rattle.writer_sheet.specs.Three.{writeThreePart}
 use Rattle.answers.proofs.Small.{written-small}
 use Rattle.cabi.specs.Calls.{chipsOf, writeThreeC}
 use Rattle.cabi.proofs.Said.{said}

@@ -6,7 +6,7 @@ use lib.ListN.{length}
 use Rattle.sheet.specs.declared.Both.{Both}
 use Rattle.sheet.specs.Long.{picturePart}
 use Rattle.sheet.specs.Pictures.{Seen}
-use Rattle.sheet.specs.Packed.{columnsIn}
+use Rattle.packed_sheet.specs.Packed.{columnsIn}
 use Rattle.sheet.specs.Refusals.{pictureNumbers}
 use Rattle.answers.proofs.Small.{picture-small}
 use Rattle.cabi.specs.Calls.{chipsOf, pictureC}

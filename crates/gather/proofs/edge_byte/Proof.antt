@@ -7,7 +7,7 @@ use native.Mathlib.Numerals.{add-one}
 use native.Mathlib.Omega.{arith}
 use lib.Pow.{pow-mono}
 use denote.Ref.{now}
-use Rattle.sheet.specs.Writer.{bitsFrom}
+use Rattle.writer_sheet.specs.Writer.{bitsFrom}
 use Rattle.laws.proofs.Wanted.{bits-lt}
 use borrow.Author.Needs.{needs}
 use Rattle.gather.proofs.edge_byte.Statement.{statement}

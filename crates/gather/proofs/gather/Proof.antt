@@ -12,7 +12,7 @@ use denote.Ref.{now}
 use Rattle.lemmas.proofs.Order.{equal-or-not}
 use Rattle.sheet.specs.Registers.{bankRow}
 use Rattle.sheet.specs.Data.{widthOf}
-use Rattle.sheet.specs.Writer.{bitsFrom, dataFrom, bytesFor}
+use Rattle.writer_sheet.specs.Writer.{bitsFrom, dataFrom, bytesFor}
 use Rattle.laws.proofs.Enough.{even-bytes, odd-bytes}
 use Rattle.laws.proofs.Ranges.{bank-rows-fit}
 use Rattle.laws.proofs.Wanted.{length-data}

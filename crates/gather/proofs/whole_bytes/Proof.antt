@@ -7,7 +7,7 @@ use lib.ListN.{length}
 use denote.Ref.{now}
 use Rattle.sheet.specs.Registers.{bankRow}
 use Rattle.sheet.specs.Data.{widthOf}
-use Rattle.sheet.specs.Writer.{dataFrom}
+use Rattle.writer_sheet.specs.Writer.{dataFrom}
 use borrow.Author.Needs.{needs}
 use Rattle.gather.proofs.whole_bytes.Statement.{statement}
 use Rattle.gather.proofs.whole_bytes.Tie as tie

@@ -10,7 +10,7 @@ use lib.ListN.{getD}
 use borrow.Author.Needs.{needs}
 use borrow.Author.Tests.{ltb-true}
 use Rattle.lemmas.proofs.Tests.{all-at, and-left, and-right}
-use Rattle.sheet.specs.Price.{shapes, segmentsOf}
+use Rattle.price_sheet.specs.Price.{shapes, segmentsOf}
 use Rattle.glyphs.specs.Tables.{litOf}
 use Rattle.glyphs.proofs.lit_by.Statement.{statement}
 use Rattle.glyphs.proofs.lit_by.Tie as tie

@@ -7,9 +7,9 @@ use native.Mathlib.Omega.{arith}
 use lib.Dec.{eqb}
 use borrow.Author.Needs.{needs}
 use borrow.Author.Tests.{eq-eqb, ne-eqb}
-use Rattle.sheet.specs.declared.Symbol.{Symbol}
-use Rattle.sheet.specs.declared.Found.{Found}
-use Rattle.sheet.specs.Price.{isSymbol, byteOf, shownAs, shownBelow}
+use Rattle.price_sheet.specs.declared.Symbol.{Symbol}
+use Rattle.price_sheet.specs.declared.Found.{Found}
+use Rattle.price_sheet.specs.Price.{isSymbol, byteOf, shownAs, shownBelow}
 use Rattle.laws.proofs.Symbols.{shown-plain}
 use Rattle.glyphs.proofs.symbol_of.Statement.{statement}
 use Rattle.glyphs.proofs.symbol_of.Tie as tie

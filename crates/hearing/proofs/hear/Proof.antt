@@ -8,7 +8,7 @@ use lib.Seq.{length-take-le}
 use denote.Ref.{now}
 use Rattle.sheet.specs.Parts.{partOf}
 use Rattle.sheet.specs.Long.{begun}
-use Rattle.sheet.specs.Packed.{columnsIn}
+use Rattle.packed_sheet.specs.Packed.{columnsIn}
 use Rattle.laws.proofs.Wholes.{whole-most}
 use Rattle.hearing.proofs.Hearing.{whole-heard}
 use borrow.Author.Needs.{needs}

@@ -8,7 +8,7 @@ use denote.Ref.{now}
 use Rattle.sheet.specs.declared.Expect.the-variants.{Control}
 use Rattle.sheet.specs.Parts.{partOf}
 use Rattle.sheet.specs.Long.{begun, heard}
-use Rattle.sheet.specs.Packed.{columnsIn}
+use Rattle.packed_sheet.specs.Packed.{columnsIn}
 use Rattle.laws.proofs.Ranges.{range-of, in-range}
 use Rattle.laws.proofs.Kept.{part-keeps}
 use Rattle.laws.proofs.Named.{group-columns}

@@ -5,7 +5,7 @@ use Prim.Native.Nat.{_≤_}
 use native.Mathlib.Omega.{arith}
 use lib.ListN.{length}
 use lib.Seq.{length-take-le}
-use Rattle.sheet.specs.Writer.{WrittenAfter}
+use Rattle.sheet.specs.Written.{WrittenAfter}
 use Rattle.imagelaws.proofs.Calls.{written-inside}
 use borrow.Author.Needs.{needs}
 use Rattle.hex.proofs.write_image.Statement.{statement}

@@ -10,7 +10,7 @@ use lib.ListN.{length, getD, drop, drop-of-length-le}
 use borrow.Author.Tests.{lt-ltb, le-ltb}
 use borrow.Author.Needs.{needs}
 use Rattle.lemmas.proofs.Lists.{next}
-use Rattle.sheet.specs.Images.{valueOf, areDigits}
+use Rattle.image_sheet.specs.Images.{valueOf, areDigits}
 use Rattle.hexadecimal.proofs.are_digits.Statement.{statement}
 use Rattle.hexadecimal.proofs.are_digits.Tie as tie
 

@@ -6,7 +6,7 @@ use Prim.Native.Nat.{ℕ, _+_, _-_, _/_, _%_, _<_}
 use native.Mathlib.Omega.{arith}
 use lib.ListN.{length, getD, drop, drop-of-length-le}
 use Rattle.lemmas.proofs.Lists.{next}
-use Rattle.sheet.specs.Hex.{digitOf, textOf}
+use Rattle.image_sheet.specs.Hex.{digitOf, textOf}
 use Rattle.text.proofs.Writing.{Writing, begin, rest-is, turn, done, room-for, puts-length}
 use borrow.Author.Needs.{needs}
 use Rattle.hexadecimal.proofs.put_text.Statement.{statement}

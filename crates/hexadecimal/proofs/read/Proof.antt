@@ -9,7 +9,7 @@ use native.Mathlib.Omega.{arith}
 use lib.ListN.{length, getD, take, drop, set, length-set}
 use lib.Seq.{take-all, take-suc-set}
 use borrow.Author.Needs.{needs}
-use Rattle.sheet.specs.Images.{valueOf, pairOf, areDigits, bytesOf}
+use Rattle.image_sheet.specs.Images.{valueOf, pairOf, areDigits, bytesOf}
 use Rattle.hexadecimal.proofs.Digits.{digit-at, one-pair, no-pair}
 use Rattle.hexadecimal.proofs.read.Statement.{statement}
 use Rattle.hexadecimal.proofs.read.Tie as tie

@@ -7,7 +7,7 @@ use native.Mathlib.Omega.{arith}
 use lib.ListN.{length, getD, drop, drop-of-length-le}
 use borrow.Author.Needs.{needs}
 use Rattle.lemmas.proofs.Lists.{next}
-use Rattle.sheet.specs.Hex.{sumOf}
+use Rattle.image_sheet.specs.Hex.{sumOf}
 use Rattle.hexadecimal.proofs.sum.Statement.{statement}
 use Rattle.hexadecimal.proofs.sum.Tie as tie
 

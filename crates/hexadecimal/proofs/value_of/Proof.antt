@@ -5,7 +5,7 @@ use lib.Dec.{leb}
 use borrow.Author.Tests.{leb-true}
 use Rattle.lemmas.proofs.Tests.{both-true}
 use Rattle.sheet.specs.Parts.{within}
-use Rattle.sheet.specs.Images.{valueOf}
+use Rattle.image_sheet.specs.Images.{valueOf}
 use Rattle.hexadecimal.proofs.value_of.Statement.{statement}
 use Rattle.hexadecimal.proofs.value_of.Tie as tie
 

@@ -4,7 +4,7 @@ use mathlib.Core.Path.{sym, ap, _∙_}
 use denote.Ref.{now}
 use Rattle.sheet.specs.declared.Check.{Check}
 use Rattle.sheet.specs.Checks.{orElse}
-use Rattle.sheet.specs.Images.{dataFault}
+use Rattle.image_sheet.specs.Images.{dataFault}
 use borrow.Author.Needs.{needs}
 use Rattle.hexrecord.proofs.fault.Statement.{statement}
 use Rattle.hexrecord.proofs.fault.Tie as tie

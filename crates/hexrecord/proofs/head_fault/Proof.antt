@@ -8,8 +8,8 @@ use lib.Dec.{eqb, ltb}
 use lib.ListN.{getD}
 use borrow.Author.Tests.{eq-eqb, ne-eqb}
 use denote.Ref.{now}
-use Rattle.sheet.specs.Hex.{sumOf}
-use Rattle.sheet.specs.Images.{addressOf, endForm, headFault}
+use Rattle.image_sheet.specs.Hex.{sumOf}
+use Rattle.image_sheet.specs.Images.{addressOf, endForm, headFault}
 use Rattle.hexrecord.proofs.Faults.{end-form}
 use borrow.Author.Needs.{needs}
 use Rattle.hexrecord.proofs.head_fault.Statement.{statement}

@@ -9,7 +9,7 @@ use lib.ListN.{length, getD}
 use borrow.Author.Tests.{ltb-true}
 use denote.Ref.{now}
 use Rattle.lemmas.proofs.Tests.{both-true}
-use Rattle.sheet.specs.Images.{pairOf, lineEnd}
+use Rattle.image_sheet.specs.Images.{pairOf, lineEnd}
 use Rattle.hexrecord.proofs.Finding.{ends-inside, is-line, no-line}
 use borrow.Author.Needs.{needs}
 use Rattle.hexrecord.proofs.line_at.Statement.{statement}

@@ -8,7 +8,7 @@ use lib.Dec.{eqb}
 use lib.ListN.{getD}
 use borrow.Author.Tests.{eq-eqb, ne-eqb}
 use denote.Ref.{now}
-use Rattle.sheet.specs.Images.{lineEnd}
+use Rattle.image_sheet.specs.Images.{lineEnd}
 use borrow.Author.Needs.{needs}
 use Rattle.hexrecord.proofs.line_end.Statement.{statement}
 use Rattle.hexrecord.proofs.line_end.Tie as tie

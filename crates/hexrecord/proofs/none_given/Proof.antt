@@ -9,7 +9,7 @@ use lib.ListN.{length, getD, drop, drop-of-length-le}
 use borrow.Author.Tests.{lt-ltb, le-ltb}
 use borrow.Author.Needs.{needs}
 use Rattle.lemmas.proofs.Lists.{next}
-use Rattle.sheet.specs.Images.{noneGiven}
+use Rattle.image_sheet.specs.Images.{noneGiven}
 use Rattle.hexrecord.proofs.none_given.Statement.{statement}
 use Rattle.hexrecord.proofs.none_given.Tie as tie
 

@@ -3,7 +3,7 @@
 use mathlib.Core.List.{List, [], _∷_, _++_}
 use Prim.Native.Nat.{ℕ}
 use denote.Ref.{now}
-use Rattle.sheet.specs.Hex.{textOf, headOf, recordOf, lineOf}
+use Rattle.image_sheet.specs.Hex.{textOf, headOf, recordOf, lineOf}
 use Rattle.laws.proofs.Hexadecimal.{line-parts}
 use Rattle.text.proofs.Writing.{Writing, begin, rest-is, turn, last, room-for}
 use borrow.Author.Needs.{needs}

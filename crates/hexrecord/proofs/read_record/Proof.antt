@@ -9,7 +9,7 @@ use lib.ListN.{length, take, drop, length-drop, length-append}
 use lib.Seq.{length-take-le, take-at}
 use denote.Ref.{now}
 use Rattle.sheet.specs.declared.Check.{Check}
-use Rattle.sheet.specs.Images.{areDigits, bytesOf, digitsIn, kindOf, faultOf, faultIn, sizeIn}
+use Rattle.image_sheet.specs.Images.{areDigits, bytesOf, digitsIn, kindOf, faultOf, faultIn, sizeIn}
 use Rattle.hexrecord.specs.declared.Line.the-variants.{None}
 use Rattle.hexrecord.specs.declared.Step.{Step}
 use Rattle.hexrecord.specs.Lines.{stepOf, givenAfter, Whole}

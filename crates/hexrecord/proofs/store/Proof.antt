@@ -6,7 +6,7 @@ use Prim.Native.Nat.{ℕ, _+_, _-_, _≤_}
 use native.Mathlib.Omega.{arith}
 use lib.ListN.{length, getD, take, drop}
 use denote.Ref.{now}
-use Rattle.sheet.specs.Images.{stored}
+use Rattle.image_sheet.specs.Images.{stored}
 use Rattle.hexrecord.proofs.Faults.{inside-of, stored-is}
 use borrow.Author.Needs.{needs}
 use Rattle.hexrecord.proofs.store.Statement.{statement}

@@ -8,7 +8,7 @@ use borrow.Author.Tests.{eq-eqb, ne-eqb}
 use denote.Ref.{now}
 use Rattle.sheet.specs.declared.Check.{Check}
 use Rattle.sheet.specs.declared.Check.the-variants.{Passed}
-use Rattle.sheet.specs.Images.{kindOf, faultOf}
+use Rattle.image_sheet.specs.Images.{kindOf, faultOf}
 use Rattle.hexrecord.specs.declared.Step.{Step}
 use Rattle.hexrecord.specs.declared.Step.the-variants.{Next, Last}
 use Rattle.hexrecord.specs.Lines.{stepOf, givenAfter}

@@ -10,8 +10,8 @@ use Rattle.sheet.specs.declared.Check.the-variants.{Passed}
 use Rattle.sheet.specs.declared.Refusal.the-variants.{RamLength}
 use Rattle.sheet.specs.Parts.{partOf}
 use Rattle.sheet.specs.Checks.{unless, checkPart, checkChips}
-use Rattle.sheet.specs.Hex.{oneGroup}
-use Rattle.sheet.specs.Images.{checkFile}
+use Rattle.image_sheet.specs.Hex.{oneGroup}
+use Rattle.image_sheet.specs.Images.{checkFile}
 use borrow.Author.Needs.{needs}
 use Rattle.image.proofs.check_file.Statement.{statement}
 use Rattle.image.proofs.check_file.Tie as tie

@@ -12,7 +12,7 @@ use borrow.Author.Needs.{needs}
 use Rattle.lemmas.proofs.Lists.{next}
 use Rattle.sheet.specs.declared.Refusal.the-variants.{AddressMissing}
 use Rattle.sheet.specs.declared.Check.the-variants.{Refused}
-use Rattle.sheet.specs.Images.{missingIn}
+use Rattle.image_sheet.specs.Images.{missingIn}
 use Rattle.image.proofs.first_missing.Statement.{statement}
 use Rattle.image.proofs.first_missing.Tie as tie
 

@@ -5,7 +5,7 @@ use mathlib.Core.List.{List, _++_}
 use Prim.Native.Nat.{ℕ, _+_, _-_, _/_, _%_, _<_}
 use native.Mathlib.Omega.{arith}
 use lib.ListN.{length, take, drop, length-take}
-use Rattle.sheet.specs.Hex.{recordOf, lineOf, dataLines}
+use Rattle.image_sheet.specs.Hex.{recordOf, lineOf, dataLines}
 use Rattle.text.proofs.Writing.{Writing, begin, rest-is, turn, done, room-for, puts-length}
 use Rattle.imagelaws.proofs.Sizes.{linesFrom, one-line, no-line}
 use borrow.Author.Needs.{needs}

@@ -5,7 +5,7 @@ use Prim.Native.Nat.{ℕ, _+_, _/_}
 use native.Mathlib.Omega.{arith}
 use lib.ListN.{length}
 use denote.Ref.{now}
-use Rattle.sheet.specs.Hex.{recordOf, lineOf, dataLines, fileOf}
+use Rattle.image_sheet.specs.Hex.{recordOf, lineOf, dataLines, fileOf}
 use Rattle.text.proofs.Writing.{Writing, begin, turn, last, room-for}
 use borrow.Author.Needs.{needs}
 use Rattle.image.proofs.put_file.Statement.{statement}

@@ -11,8 +11,8 @@ use Rattle.sheet.specs.declared.Written.{Written}
 use Rattle.sheet.specs.declared.Check.{Check}
 use Rattle.sheet.specs.declared.Check.the-variants.{Passed}
 use Rattle.sheet.specs.Parts.{partOf}
-use Rattle.sheet.specs.Writer.{WrittenAfter}
-use Rattle.sheet.specs.Images.{Image, image, imageFrom, imageOf, checkFile}
+use Rattle.sheet.specs.Written.{WrittenAfter}
+use Rattle.image_sheet.specs.Images.{Image, image, imageFrom, imageOf, checkFile}
 use Rattle.laws.proofs.Written.{numbered}
 use Rattle.imagelaws.proofs.Sizes.{Asked, asked-of}
 use Rattle.imagelaws.proofs.Answers.{take-replicate, not-read, faulty, all-read}

@@ -6,7 +6,7 @@ use Prim.Native.Nat.{ℕ, _-_, _<_}
 use native.Mathlib.Omega.{arith}
 use lib.ListN.{length, drop, drop-of-length-le}
 use Rattle.sheet.specs.declared.Check.{Check}
-use Rattle.sheet.specs.Images.{Image, image, ended, imageFrom, no-records}
+use Rattle.image_sheet.specs.Images.{Image, image, ended, imageFrom, no-records}
 use Rattle.hexrecord.specs.declared.Step.{Step}
 use Rattle.hexrecord.specs.declared.Step.the-variants.{Next, Last}
 use Rattle.image.proofs.Walking.{Stepped, stepped}

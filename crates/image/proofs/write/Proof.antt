@@ -12,7 +12,7 @@ use Rattle.sheet.specs.declared.Check.{Check}
 use Rattle.sheet.specs.declared.Check.the-variants.{Passed}
 use Rattle.sheet.specs.Parts.{partOf}
 use Rattle.sheet.specs.Checks.{orElse, checkPart, checkPowerOn}
-use Rattle.sheet.specs.Hex.{fileOf, oneGroup, hexWritePart}
+use Rattle.image_sheet.specs.Hex.{fileOf, oneGroup, hexWritePart}
 use Rattle.text.proofs.Writing.{at-start}
 use Rattle.laws.proofs.Written as calls
 use Rattle.imagelaws.proofs.Sizes.{Group, group-of, length-file}

@@ -6,7 +6,7 @@ use Prim.Native.Nat.{ℕ, _+_, _-_, _<_}
 use native.Mathlib.Numerals.{add-one}
 use lib.ListN.{length, getD, drop, drop-of-length-le}
 use Rattle.lemmas.proofs.Lists.{next}
-use Rattle.sheet.specs.Logs.{columnLine, columnLines}
+use Rattle.log_sheet.specs.Logs.{columnLine, columnLines}
 use Rattle.text.proofs.Writing.{Writing, begin, rest-is, turn, done, room-for, puts-length}
 use borrow.Author.Needs.{needs}
 use Rattle.lines.proofs.put_columns.Statement.{statement}

@@ -1,7 +1,7 @@
 -- `lines::put_record` meets its contract: the transfer's line, and the one of what was seen or nothing.
 -- Assumes nothing.
 use borrow.Author.Tests.{eq-eqb, ne-eqb}
-use Rattle.sheet.specs.Logs.{modelled, transferLine, seenLine, recordLines}
+use Rattle.log_sheet.specs.Logs.{modelled, transferLine, seenLine, recordLines}
 use Rattle.text.proofs.Writing.{Writing, begin, rest-is, turn, last, done, room-for}
 use borrow.Author.Needs.{needs}
 use Rattle.lines.proofs.put_record.Statement.{statement}

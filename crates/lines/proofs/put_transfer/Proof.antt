@@ -7,7 +7,7 @@ use lib.ListN.{length, getD}
 use Rattle.sheet.specs.declared.Answer.{Answer}
 use Rattle.sheet.specs.Parts.{partOf, pcf8532}
 use Rattle.sheet.specs.Refusals.{numbers}
-use Rattle.sheet.specs.Logs.{transferLetter, line}
+use Rattle.log_sheet.specs.Logs.{transferLetter, line}
 use Rattle.text.specs.Texts.{Puts}
 use borrow.Author.Needs.{needs}
 use Rattle.lines.proofs.put_transfer.Statement.{statement}

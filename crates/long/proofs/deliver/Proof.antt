@@ -13,7 +13,7 @@ use Rattle.sheet.specs.Parts.{partOf}
 use Rattle.sheet.specs.Protocol.{chipsIn, sent}
 use Rattle.sheet.specs.Checks.{overIn}
 use Rattle.sheet.specs.Long.{Group, oneAcknowledged, noCounts, heardWhole, replaced, columnsOf}
-use Rattle.sheet.specs.Packed.{columnsIn}
+use Rattle.packed_sheet.specs.Packed.{columnsIn}
 use Rattle.laws.proofs.Ranges.{in-range}
 use Rattle.laws.proofs.Named.{columns-even, ram-small}
 use Rattle.laws.proofs.Fits.{Fits, fits-of}

@@ -1,6 +1,6 @@
 -- `long::packed_picture` meets its contract.
 -- Assumes nothing.
-use Rattle.sheet.specs.Packed.{picturePacked}
+use Rattle.packed_sheet.specs.Packed.{picturePacked}
 use Rattle.long.proofs.Numbered.{numbered-picture}
 use borrow.Author.Needs.{needs}
 use Rattle.long.proofs.packed_picture.Statement.{statement}

@@ -1,6 +1,6 @@
 -- `long::packed_power_on` meets its contract.
 -- Assumes nothing.
-use Rattle.sheet.specs.Packed.{powerOnPacked}
+use Rattle.packed_sheet.specs.Packed.{powerOnPacked}
 use Rattle.long.proofs.Numbered.{numbered-power-on}
 use borrow.Author.Needs.{needs}
 use Rattle.long.proofs.packed_power_on.Statement.{statement}

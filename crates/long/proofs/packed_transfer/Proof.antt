@@ -1,7 +1,7 @@
 -- `long::packed_transfer` meets its contract: its RAM packs what the one-byte form leaves.
 -- Assumes nothing.
 use mathlib.Core.Path.{sym, ap, _∙_}
-use Rattle.sheet.specs.Packed.{packedAfter, transferPacked}
+use Rattle.packed_sheet.specs.Packed.{packedAfter, transferPacked}
 use Rattle.laws.proofs.Packed.{packed-unpacked}
 use Rattle.long.proofs.Numbered.{numbered}
 use borrow.Author.Needs.{needs}

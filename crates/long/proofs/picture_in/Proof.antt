@@ -18,7 +18,7 @@ use Rattle.sheet.specs.Checks.{orElse, checkPart, checkState, checkPicture}
 use Rattle.sheet.specs.Pictures.{pictureOf, litIn, seen}
 use Rattle.sheet.specs.Registers.{registersOf}
 use Rattle.sheet.specs.Long.{columnsOf, pictureCall, picturePart}
-use Rattle.sheet.specs.Packed.{columnsIn}
+use Rattle.packed_sheet.specs.Packed.{columnsIn}
 use Rattle.laws.proofs.Named.{columns-even, ram-small}
 use Rattle.laws.proofs.First.{seen-first}
 use Rattle.laws.proofs.Fits.{Fits, both-pass, fits-of, picture-passed}

@@ -12,7 +12,7 @@ use Rattle.sheet.specs.Parts.{partOf}
 use Rattle.sheet.specs.Protocol.{heardBy, Sent, sent, addressByte}
 use Rattle.sheet.specs.Checks.{orElse, checkPart, checkTransfer}
 use Rattle.sheet.specs.Long.{taken, answered, transferCall, transferPart}
-use Rattle.sheet.specs.Packed.{columnsIn}
+use Rattle.packed_sheet.specs.Packed.{columnsIn}
 use Rattle.laws.proofs.Fits.{both-pass, transfer-passed}
 use Rattle.laws.proofs.First.{answered-first}
 use borrow.Author.Needs.{needs}

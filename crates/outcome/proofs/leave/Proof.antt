@@ -6,7 +6,7 @@ use Rattle.sheet.specs.declared.Chips.{Chips}
 use denote.Ref.{now}
 use Rattle.sheet.specs.Parts.{pcf8532}
 use Rattle.sheet.specs.Long.{bothOn, stateOf, State, powerOnPart, stateAfterAll}
-use Rattle.sheet.specs.Logs.{logChips, logTransfers}
+use Rattle.log_sheet.specs.Logs.{logChips, logTransfers}
 use borrow.Author.Needs.{needs}
 use Rattle.outcome.proofs.leave.Statement.{statement}
 use Rattle.outcome.proofs.leave.Tie as tie

@@ -11,7 +11,7 @@ use Rattle.lemmas.proofs.Lists.{next}
 use Rattle.sheet.specs.Registers.{bankRow}
 use Rattle.sheet.specs.Data.{widthOf}
 use Rattle.sheet.specs.Runs.{putRun}
-use Rattle.sheet.specs.Packed.{unpacked}
+use Rattle.packed_sheet.specs.Packed.{unpacked}
 use Rattle.laws.proofs.Runs.{run-past}
 use Rattle.laws.proofs.Packed.{length-unpacked, unpacked-nibbles}
 use Rattle.ram.proofs.Runs.{run-cut}

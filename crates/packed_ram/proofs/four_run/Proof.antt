@@ -7,7 +7,7 @@ use native.Mathlib.Omega.{arith}
 use lib.ListN.{length, set}
 use denote.Ref.{now}
 use Rattle.sheet.specs.Data.{putBits}
-use Rattle.sheet.specs.Packed.{unpacked}
+use Rattle.packed_sheet.specs.Packed.{unpacked}
 use Rattle.ram.proofs.Runs.{small}
 use Rattle.packed_ram.proofs.Bytes.{four-packed, as-long}
 use Rattle.packed_ram.proofs.Stream.{Streaming, stream-begun, stream-done, packed-turn}

@@ -12,7 +12,7 @@ use denote.Ref.{now}
 use Rattle.sheet.specs.Registers.{bankRow}
 use Rattle.sheet.specs.Data.{changed, widthOf}
 use Rattle.sheet.specs.Runs.{putRun}
-use Rattle.sheet.specs.Packed.{unpacked}
+use Rattle.packed_sheet.specs.Packed.{unpacked}
 use Rattle.laws.proofs.Ranges.{bank-rows-fit}
 use Rattle.laws.proofs.Runs.{changed-alike, unchanged, length-run}
 use Rattle.laws.proofs.Nibbles.{nibbles-of, run-nibbles}

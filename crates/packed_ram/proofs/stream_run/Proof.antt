@@ -8,7 +8,7 @@ use denote.Ref.{now}
 use Rattle.sheet.specs.Registers.{bankRow}
 use Rattle.sheet.specs.Data.{widthOf}
 use Rattle.sheet.specs.Runs.{putRun}
-use Rattle.sheet.specs.Packed.{unpacked}
+use Rattle.packed_sheet.specs.Packed.{unpacked}
 use Rattle.laws.proofs.Packed.{length-unpacked}
 use Rattle.packed_ram.specs.Stream.{stream}
 use borrow.Author.Needs.{needs}

@@ -11,7 +11,7 @@ use denote.Ref.{now}
 use borrow.Author.Tests.{eqb-true, ltb-true}
 use Rattle.lemmas.proofs.Tests.{both-true}
 use Rattle.sheet.specs.Data.{putBits}
-use Rattle.sheet.specs.Packed.{unpacked}
+use Rattle.packed_sheet.specs.Packed.{unpacked}
 use Rattle.laws.proofs.Nibbles.{Nibbles}
 use Rattle.ram.proofs.Runs.{Running, begun, turn, done, small}
 use Rattle.packed_ram.proofs.Bytes.{three-put, three-pair, as-long}

@@ -10,7 +10,7 @@ use denote.Ref.{now}
 use Rattle.sheet.specs.Registers.{bankRow}
 use Rattle.sheet.specs.Data.{widthOf}
 use Rattle.sheet.specs.Runs.{putRun}
-use Rattle.sheet.specs.Packed.{unpacked}
+use Rattle.packed_sheet.specs.Packed.{unpacked}
 use Rattle.laws.proofs.Packed.{length-unpacked}
 use Rattle.packed_ram.proofs.Stream.{stream-none}
 use borrow.Author.Needs.{needs}

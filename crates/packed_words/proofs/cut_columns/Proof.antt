@@ -6,7 +6,7 @@ use native.Mathlib.Nat.{div-add-mod', mod-lt}
 use native.Mathlib.Omega.{arith}
 use lib.ListN.{length}
 use denote.Ref.{now}
-use Rattle.sheet.specs.Packed.{unpacked}
+use Rattle.packed_sheet.specs.Packed.{unpacked}
 use Rattle.packed_words.proofs.Placed.{even-edge, odd-edge}
 use borrow.Author.Needs.{needs}
 use Rattle.packed_words.proofs.cut_columns.Statement.{statement}

@@ -5,7 +5,7 @@ use Prim.Native.Nat.{_+_, _-_, _*_, _/_}
 use native.Mathlib.Nat.{div-add-mod', mod-lt}
 use native.Mathlib.Omega.{arith}
 use denote.Ref.{now}
-use Rattle.sheet.specs.Packed.{unpacked}
+use Rattle.packed_sheet.specs.Packed.{unpacked}
 use Rattle.packed_words.proofs.Placed.{rows-lt, even-columns, odd-columns}
 use borrow.Author.Needs.{needs}
 use Rattle.packed_words.proofs.put_columns.Statement.{statement}

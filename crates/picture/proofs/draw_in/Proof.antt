@@ -3,7 +3,7 @@
 use mathlib.Core.Path.{subst}
 use mathlib.Core.Bool.{Bool}
 use denote.Ref.{now}
-use Rattle.sheet.specs.Packed.{columnsIn}
+use Rattle.packed_sheet.specs.Packed.{columnsIn}
 use Rattle.picture.specs.Drawn.{Drawable}
 use borrow.Author.Needs.{needs}
 use Rattle.picture.proofs.draw_in.Statement.{statement}

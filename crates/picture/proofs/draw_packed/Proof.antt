@@ -6,7 +6,7 @@ use Prim.Native.Nat.{ℕ, _-_, _*_, _≤_, _<_}
 use native.Mathlib.Nat.{le-of-lt}
 use native.Mathlib.Omega.{arith}
 use lib.ListN.{length, length-take, length-drop}
-use Rattle.sheet.specs.Packed.{unpacked}
+use Rattle.packed_sheet.specs.Packed.{unpacked}
 use Rattle.laws.proofs.Packed.{length-unpacked, unpacked-part}
 use Rattle.picture.specs.Drawn.{drawn}
 use Rattle.picture.proofs.Drawing.{Drawing, begun, few, part-turn, done}

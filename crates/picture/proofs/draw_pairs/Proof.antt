@@ -7,7 +7,7 @@ use lib.Count.{ones}
 use lib.ListN.{length, length-set}
 use Rattle.sheet.specs.declared.Shown.the-variants.{Rows}
 use Rattle.sheet.specs.Pictures.{lit}
-use Rattle.sheet.specs.Packed.{unpacked}
+use Rattle.packed_sheet.specs.Packed.{unpacked}
 use Rattle.laws.proofs.Lit.{rows-lit}
 use Rattle.laws.proofs.Packed.{length-unpacked, even-column, odd-column}
 use Rattle.picture.proofs.Drawing.{Drawing, begun, few, pair-turn, done}

@@ -8,7 +8,7 @@ use lib.Dec.{leb}
 use borrow.Author.Tests.{leb-true, eq-eqb, ne-eqb}
 use Rattle.lemmas.proofs.Tests.{both-true}
 use Rattle.sheet.specs.Parts.{within}
-use Rattle.sheet.specs.Price.{begun}
+use Rattle.price_sheet.specs.Price.{begun}
 use Rattle.price.proofs.begun.Statement.{statement}
 use Rattle.price.proofs.begun.Tie as tie
 

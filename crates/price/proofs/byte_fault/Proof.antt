@@ -6,8 +6,8 @@ use Prim.Native.Nat.{ℕ, _+_, _-_, _<_}
 use native.Mathlib.Omega.{arith}
 use lib.ListN.{length, getD, drop, drop-of-length-le}
 use borrow.Author.Needs.{needs}
-use Rattle.sheet.specs.declared.Found.{Found}
-use Rattle.sheet.specs.Price.{Spelled, andThen, shown, readFrom}
+use Rattle.price_sheet.specs.declared.Found.{Found}
+use Rattle.price_sheet.specs.Price.{Spelled, andThen, shown, readFrom}
 use Rattle.laws.proofs.Spelling.{one-byte}
 use Rattle.price.proofs.byte_fault.Statement.{statement}
 use Rattle.price.proofs.byte_fault.Tie as tie

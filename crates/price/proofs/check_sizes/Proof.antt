@@ -3,7 +3,7 @@
 use mathlib.Core.Path.{refl}
 use borrow.Author.Needs.{needs}
 use borrow.Author.Tests.{le-leb, lt-leb, lt-ltb, le-ltb}
-use Rattle.sheet.specs.Price.{checkPrice}
+use Rattle.price_sheet.specs.Price.{checkPrice}
 use Rattle.price.proofs.check_sizes.Statement.{statement}
 use Rattle.price.proofs.check_sizes.Tie as tie
 

@@ -8,7 +8,7 @@ use lib.ListN.{length}
 use denote.Ref.{now}
 use borrow.Author.Needs.{needs}
 use borrow.Author.Tests.{ltb-true}
-use Rattle.sheet.specs.Price.{textOf, plain}
+use Rattle.price_sheet.specs.Price.{textOf, plain}
 use Rattle.text.proofs.Writing.{begin, turn, last, puts-length}
 use Rattle.price.proofs.put_plain.Statement.{statement}
 use Rattle.price.proofs.put_plain.Tie as tie

@@ -7,9 +7,9 @@ use native.Mathlib.Omega.{arith}
 use lib.ListN.{length, getD, drop, drop-of-length-le}
 use denote.Ref.{now}
 use borrow.Author.Needs.{needs}
-use Rattle.sheet.specs.declared.Symbol.{Symbol}
-use Rattle.sheet.specs.declared.Found.{Found}
-use Rattle.sheet.specs.Price.{textOf, textsOf, plain, Spelled, andThen, shown, readFrom}
+use Rattle.price_sheet.specs.declared.Symbol.{Symbol}
+use Rattle.price_sheet.specs.declared.Found.{Found}
+use Rattle.price_sheet.specs.Price.{textOf, textsOf, plain, Spelled, andThen, shown, readFrom}
 use Rattle.laws.proofs.Symbols.{Shown, shown-is}
 use Rattle.laws.proofs.Spelling.{one-byte, texts-fit}
 use Rattle.text.proofs.Writing.{Writing, begin, rest-is, turn, done, room-for, puts-length}

@@ -5,7 +5,7 @@ use lib.ListN.{length}
 use denote.Ref.{now}
 use borrow.Author.Needs.{needs}
 use Rattle.sheet.specs.declared.Check.the-variants.{Passed}
-use Rattle.sheet.specs.Price.{textsOf, readFrom, checkPrice, Sizes, priceRead}
+use Rattle.price_sheet.specs.Price.{textsOf, readFrom, checkPrice, Sizes, priceRead}
 use Rattle.laws.proofs.Written.{numbered}
 use Rattle.laws.proofs.Spelling.{sizes, texts-fit}
 use Rattle.text.proofs.Writing.{puts-length}

@@ -6,9 +6,9 @@ use Prim.Native.Nat.{ℕ, _+_, _-_, _<_}
 use native.Mathlib.Omega.{arith}
 use lib.ListN.{length, drop, drop-of-length-le}
 use borrow.Author.Needs.{needs}
-use Rattle.sheet.specs.declared.Symbol.{Symbol}
-use Rattle.sheet.specs.declared.Found.{Found}
-use Rattle.sheet.specs.Price.{textOf, begunAt, Spelled, spelledFrom, spelled}
+use Rattle.price_sheet.specs.declared.Symbol.{Symbol}
+use Rattle.price_sheet.specs.declared.Found.{Found}
+use Rattle.price_sheet.specs.Price.{textOf, begunAt, Spelled, spelledFrom, spelled}
 use Rattle.laws.proofs.Spelling.{some-text, one-symbol, no-symbol}
 use Rattle.price.proofs.text_fault.Statement.{statement}
 use Rattle.price.proofs.text_fault.Tie as tie

@@ -6,7 +6,7 @@ use lib.ListN.{length}
 use denote.Ref.{now}
 use borrow.Author.Needs.{needs}
 use Rattle.sheet.specs.declared.Check.the-variants.{Passed}
-use Rattle.sheet.specs.Price.{byteOf, spelled, checkPrice, Sizes, priceWrite}
+use Rattle.price_sheet.specs.Price.{byteOf, spelled, checkPrice, Sizes, priceWrite}
 use Rattle.laws.proofs.Written.{numbered}
 use Rattle.laws.proofs.Spelling.{sizes, bytes-fit}
 use Rattle.text.proofs.Writing.{puts-length}

@@ -7,7 +7,7 @@ use Prim.Native.Nat.{ℕ}
 use lib.Dec.{eqb, leb}
 use lib.ListN.{length, getD}
 use borrow.Author.Tests.{le-leb, lt-leb}
-use Rattle.sheet.specs.Logs.{checkHead}
+use Rattle.log_sheet.specs.Logs.{checkHead}
 use Rattle.sheet.specs.Parts.{partOf}
 use borrow.Author.Needs.{needs}
 use Rattle.records.proofs.check_head.Statement.{statement}

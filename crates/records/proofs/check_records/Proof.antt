@@ -5,7 +5,7 @@ use mathlib.Core.List.{List}
 use Prim.Native.Nat.{ℕ, _-_}
 use native.Mathlib.Omega.{arith}
 use lib.ListN.{length, drop}
-use Rattle.sheet.specs.Logs.{seenBytes, logRecords}
+use Rattle.log_sheet.specs.Logs.{seenBytes, logRecords}
 use Rattle.records.specs.declared.Record.{Record}
 use Rattle.records.specs.declared.Record.the-variants.{End, Cut, Short}
 use Rattle.records.specs.Found.{recordIn, recordsAt, Counted, AllCounted}

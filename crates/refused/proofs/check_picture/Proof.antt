@@ -10,7 +10,7 @@ use Rattle.sheet.specs.declared.Check.{Check}
 use Rattle.sheet.specs.Parts.{partOf}
 use Rattle.sheet.specs.Protocol.{chipsIn}
 use Rattle.sheet.specs.Checks.{unless, orElse, checkPart, checkState, checkPicture}
-use Rattle.sheet.specs.Packed.{columnsIn}
+use Rattle.packed_sheet.specs.Packed.{columnsIn}
 use Rattle.laws.proofs.First.{then-refused, then-passed}
 use borrow.Author.Needs.{needs}
 use Rattle.refused.proofs.check_picture.Statement.{statement}

@@ -4,7 +4,7 @@ use mathlib.Core.Path.{sym, _∙_}
 use denote.Ref.{now}
 use Rattle.sheet.specs.Parts.{partOf}
 use Rattle.sheet.specs.Checks.{checkPart, checkChips, checkRegisters, checkRam, checkState}
-use Rattle.sheet.specs.Packed.{columnsIn}
+use Rattle.packed_sheet.specs.Packed.{columnsIn}
 use Rattle.laws.proofs.First.{three-refused, three-passed}
 use borrow.Author.Needs.{needs}
 use Rattle.refused.proofs.check_state.Statement.{statement}

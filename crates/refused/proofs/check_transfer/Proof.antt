@@ -6,7 +6,7 @@ use Rattle.sheet.specs.declared.Check.{Check}
 use Rattle.sheet.specs.Parts.{partOf}
 use Rattle.sheet.specs.Protocol.{heardBy, sent, addressByte}
 use Rattle.sheet.specs.Checks.{orElse, checkPart, checkSent, checkBytes, checkState, checkTransfer}
-use Rattle.sheet.specs.Packed.{columnsIn}
+use Rattle.packed_sheet.specs.Packed.{columnsIn}
 use Rattle.laws.proofs.First.{then-refused, then-passed}
 use borrow.Author.Needs.{needs}
 use Rattle.refused.proofs.check_transfer.Statement.{statement}

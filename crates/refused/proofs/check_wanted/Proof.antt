@@ -10,7 +10,7 @@ use Rattle.sheet.specs.declared.Refusal.the-variants.{Register, GroupOrPhase}
 use Rattle.sheet.specs.Parts.{partOf}
 use Rattle.sheet.specs.Protocol.{chipsIn}
 use Rattle.sheet.specs.Checks.{unless, orElse, checkPart, checkChips, checkRegisters, checkColumns}
-use Rattle.sheet.specs.Writer.{checkWanted}
+use Rattle.writer_sheet.specs.Writer.{checkWanted}
 use Rattle.laws.proofs.First.{three-refused, three-passed}
 use borrow.Author.Needs.{needs}
 use Rattle.refused.proofs.check_wanted.Statement.{statement}

@@ -5,7 +5,7 @@ use Prim.Native.Nat.{_≤_}
 use native.Mathlib.Omega.{arith}
 use lib.ListN.{length}
 use lib.Seq.{length-take-le}
-use Rattle.sheet.specs.Rescue.{RescuedAfter}
+use Rattle.log_sheet.specs.Rescue.{RescuedAfter}
 use Rattle.laws.proofs.Rescued.{kept-inside}
 use borrow.Author.Needs.{needs}
 use Rattle.rescue.proofs.rescue_log.Statement.{statement}

@@ -11,7 +11,7 @@ use Rattle.lemmas.proofs.Lists.{part-rest}
 use Rattle.sheet.specs.Registers.{bankRow}
 use Rattle.sheet.specs.Data.{widthOf}
 use Rattle.sheet.specs.Runs.{putRun}
-use Rattle.sheet.specs.Packed.{columnsIn}
+use Rattle.packed_sheet.specs.Packed.{columnsIn}
 use Rattle.laws.proofs.Runs.{length-run}
 use Rattle.laws.proofs.Packed.{columns-held, bytes-few}
 use Rattle.runs.proofs.Split.{near, fit, edge, some-left, joined}

@@ -7,7 +7,7 @@ use denote.Ref.{now}
 use Rattle.sheet.specs.Parts.{partOf}
 use Rattle.sheet.specs.Registers.{bankRow}
 use Rattle.sheet.specs.Runs.{putRun}
-use Rattle.sheet.specs.Packed.{columnsIn}
+use Rattle.packed_sheet.specs.Packed.{columnsIn}
 use Rattle.laws.proofs.Ranges.{range-of, rows-fit}
 use Rattle.laws.proofs.Named.{position-small}
 use borrow.Author.Needs.{needs}

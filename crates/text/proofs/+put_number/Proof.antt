@@ -6,7 +6,7 @@ use Prim.Native.Nat.{ℕ, _+_, _/_, _%_, _<_, _≤_}
 use native.Mathlib.Nat.{mod-lt}
 use native.Mathlib.Omega.{arith}
 use lib.ListN.{length}
-use Rattle.sheet.specs.Logs.{decimal}
+use Rattle.log_sheet.specs.Logs.{decimal}
 use Rattle.text.proofs.Writing.{Writing, begin, rest-is, turn, last, room-for, puts-length}
 use Rattle.text.proofs.Decimals.{one-digit, more-digits}
 use borrow.Fn.Kinds.{In}

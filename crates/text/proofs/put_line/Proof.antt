@@ -1,6 +1,6 @@
 -- `text::put_line` meets its contract: the letter, the numbers and LF.
 -- Assumes nothing.
-use Rattle.sheet.specs.Logs.{spaced, line}
+use Rattle.log_sheet.specs.Logs.{spaced, line}
 use Rattle.text.proofs.Writing.{Writing, begin, turn, last, room-for}
 use borrow.Author.Needs.{needs}
 use Rattle.text.proofs.put_line.Statement.{statement}

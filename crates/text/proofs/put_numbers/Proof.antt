@@ -5,7 +5,7 @@ use mathlib.Core.List.{List, [], _∷_, _++_}
 use Prim.Native.Nat.{ℕ, _+_, _-_, _<_}
 use lib.ListN.{length, getD, drop, drop-of-length-le}
 use Rattle.lemmas.proofs.Lists.{next}
-use Rattle.sheet.specs.Logs.{decimal, spaced}
+use Rattle.log_sheet.specs.Logs.{decimal, spaced}
 use Rattle.text.proofs.Writing.{Writing, begin, rest-is, turn, done, room-for, puts-length}
 use borrow.Author.Needs.{needs}
 use Rattle.text.proofs.put_numbers.Statement.{statement}

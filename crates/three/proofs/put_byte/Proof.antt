@@ -9,7 +9,7 @@ use lib.ListN.{length, length-set}
 use denote.Ref.{now}
 use Rattle.lemmas.proofs.Lists.{filled}
 use Rattle.sheet.specs.Parts.{Part, partOf, pcf8532, pca85133}
-use Rattle.sheet.specs.Three.{byteAt}
+use Rattle.writer_sheet.specs.Three.{byteAt}
 use Rattle.laws.proofs.Named.{is-pca85133, is-pcf8532, has-columns, columns-small, limit-small, pointer-bytes}
 use borrow.Author.Needs.{needs}
 use Rattle.three.proofs.put_byte.Statement.{statement}

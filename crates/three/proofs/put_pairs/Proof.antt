@@ -7,7 +7,7 @@ use native.Mathlib.Omega.{arith}
 use lib.ListN.{length, take, drop, length-take, length-drop}
 use denote.Ref.{now}
 use Rattle.sheet.specs.Parts.{partOf}
-use Rattle.sheet.specs.Three.{byteAt}
+use Rattle.writer_sheet.specs.Three.{byteAt}
 use Rattle.laws.proofs.Named.{group-columns}
 use Rattle.laws.proofs.PutsThree.{pairs-small}
 use Rattle.three.proofs.Putting.{Putting, begun, room, turn, done}

@@ -17,8 +17,8 @@ use Rattle.sheet.specs.declared.Check.the-variants.{Passed}
 use Rattle.sheet.specs.Parts.{Part, partOf}
 use Rattle.sheet.specs.Protocol.{addressOf, chipsIn}
 use Rattle.sheet.specs.Checks.{orElse, checkPart}
-use Rattle.sheet.specs.Writer.{eachAfter80, modeSetOf, checkWanted}
-use Rattle.sheet.specs.Three.{pairsFrom, threeTransfer, writeThreePart}
+use Rattle.writer_sheet.specs.Writer.{eachAfter80, modeSetOf, checkWanted}
+use Rattle.writer_sheet.specs.Three.{pairsFrom, threeTransfer, writeThreePart}
 use Rattle.laws.proofs.Written.{numbered, refuses, too-short, written, none}
 use Rattle.laws.proofs.Fits.{both-pass}
 use Rattle.laws.proofs.Named.{of-both}

@@ -1,7 +1,7 @@
 -- `torn::check` meets its contract: the head first, and then the output's length.
 -- Assumes nothing.
 use mathlib.Core.Path.{sym, _∙_}
-use Rattle.sheet.specs.Rescue.{checkRescue}
+use Rattle.log_sheet.specs.Rescue.{checkRescue}
 use borrow.Author.Needs.{needs}
 use Rattle.torn.proofs.check.Statement.{statement}
 use Rattle.torn.proofs.check.Tie as tie

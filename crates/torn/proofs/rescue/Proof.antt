@@ -10,7 +10,7 @@ use Rattle.sheet.specs.declared.Rescued.{Rescued}
 use Rattle.sheet.specs.declared.Check.{Check}
 use Rattle.sheet.specs.declared.Check.the-variants.{Passed}
 use Rattle.sheet.specs.Refusals.{rescuedNumbers}
-use Rattle.sheet.specs.Rescue.{keptOf, checkRescue, RescuedAfter, rescuedBy, rescueCall}
+use Rattle.log_sheet.specs.Rescue.{keptOf, checkRescue, RescuedAfter, rescuedBy, rescueCall}
 use Rattle.torn.specs.declared.Whole.{Whole}
 use Rattle.laws.proofs.Rescued.{fits}
 use borrow.Author.Needs.{needs}

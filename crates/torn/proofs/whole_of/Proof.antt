@@ -6,9 +6,9 @@ use Prim.Native.Nat.{ℕ, _+_, _-_, _≤_}
 use native.Mathlib.Omega.{arith}
 use lib.ListN.{length, drop, length-drop}
 use lib.Seq.{length-take-le}
-use Rattle.sheet.specs.Records.{sizeOf}
-use Rattle.sheet.specs.Logs.{seenBytes, logRecords}
-use Rattle.sheet.specs.Rescue.{keptOf}
+use Rattle.log_sheet.specs.Records.{sizeOf}
+use Rattle.log_sheet.specs.Logs.{seenBytes, logRecords}
+use Rattle.log_sheet.specs.Rescue.{keptOf}
 use Rattle.records.specs.Found.{recordIn, recordsAt}
 use Rattle.records.proofs.Found.{Next, Found, found, none-left}
 use borrow.Author.Needs.{needs}

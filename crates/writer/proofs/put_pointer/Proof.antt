@@ -8,7 +8,7 @@ use lib.ListN.{length, length-set}
 use denote.Ref.{now}
 use Rattle.lemmas.proofs.Lists.{filled}
 use Rattle.sheet.specs.Parts.{Part}
-use Rattle.sheet.specs.Writer.{eachAfter80}
+use Rattle.writer_sheet.specs.Writer.{eachAfter80}
 use Rattle.laws.proofs.Named.{is-pca85133, is-pcf8532, pointer-bytes}
 use borrow.Author.Needs.{needs}
 use Rattle.writer.proofs.put_pointer.Statement.{statement}

@@ -11,7 +11,7 @@ use Rattle.lemmas.proofs.Lists.{part-rest, after-first}
 use Rattle.sheet.specs.Parts.{partOf}
 use Rattle.sheet.specs.Registers.{backplanes, bankRow}
 use Rattle.sheet.specs.Protocol.{addressOf}
-use Rattle.sheet.specs.Writer.{eachAfter80, settings, setTo, bytesFor, dataFrom, dataOf}
+use Rattle.writer_sheet.specs.Writer.{eachAfter80, settings, setTo, bytesFor, dataFrom, dataOf}
 use Rattle.laws.proofs.Ranges.{rows-fit}
 use Rattle.writer.proofs.Planes.{by-mode}
 use borrow.Author.Needs.{needs}

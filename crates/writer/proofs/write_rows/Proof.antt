@@ -17,7 +17,7 @@ use Rattle.sheet.specs.Parts.{Part, partOf}
 use Rattle.sheet.specs.Registers.{backplanes, registersOf}
 use Rattle.sheet.specs.Protocol.{addressOf, chipsIn}
 use Rattle.sheet.specs.Checks.{orElse, checkPart}
-use Rattle.sheet.specs.Writer.{eachAfter80, settings, setTo, bytesFor, dataOf, rowsTransfer, checkWanted, writeRowsPart}
+use Rattle.writer_sheet.specs.Writer.{eachAfter80, settings, setTo, bytesFor, dataOf, rowsTransfer, checkWanted, writeRowsPart}
 use Rattle.laws.proofs.Written.{numbered, refuses, too-short, written, none}
 use Rattle.laws.proofs.Fits.{both-pass}
 use Rattle.laws.proofs.Ranges.{planes-pos}

@@ -5,7 +5,7 @@ use Prim.Native.Nat.{ℕ, _+_}
 use native.Mathlib.Nat.{add-sub-cancel-left}
 use native.Mathlib.Omega.{arith}
 use lib.ListN.{take, drop}
-use Rattle.sheet.specs.Logs.{seenIn}
+use Rattle.log_sheet.specs.Logs.{seenIn}
 use Rattle.records.specs.declared.Record.the-variants.{Body}
 use Rattle.records.proofs.Reading.{finds-end, finds-half, finds-cut, finds-short, finds-whole}
 use borrow.Author.Needs.{needs}

@@ -5,22 +5,22 @@ use mathlib.Core.List.{List, [], _∷_, _++_}
 use lib.Count.{ones, onesIn}
 use lib.Dec.{T, eqb}
 use lib.ListN.{length, replicate}
 use Rattle.sheet.specs.declared.Both.{Both}
 use Rattle.sheet.specs.declared.Chips.{Chips}
 use Rattle.sheet.specs.Refusals.{numbers, pictureNumbers, checkNumbers}
 use Rattle.sheet.specs.Registers.{powerOn, marked, inRange, backplanes, bankRow, registersOf}
 use Rattle.sheet.specs.Parts.{Part, within, commandIn, partOf}
 use Rattle.sheet.specs.Protocol.{heardBy, controlOf, sent, whole, wholeOf, cutData}
 use Rattle.sheet.specs.Checks.{checkPart, checkChips, checkRegisters, overIn, checkRam, checkLength, checkBits, checkSent, faultIn, checkState, checkPowerOn, checkTransfer, checkPicture}
 use Rattle.sheet.specs.Pictures.{shown, pictureOf, litIn}
 use Rattle.sheet.specs.Long.{bothOn, heard, dataByte, columnsOf, powerOnCall, transferCall, pictureCall, powerOnPart, transferPart, picturePart}
 use Rattle.sheet.specs.Places.{position, atPosition}
 use Rattle.sheet.specs.Data.{putBits, changed, withRow, storedBits, counted, acknowledger}
-use Rattle.sheet.specs.Packed.{unpacked, packed, powerOnPacked, transferPacked, picturePacked}
+use Rattle.packed_sheet.specs.Packed.{unpacked, packed, powerOnPacked, transferPacked, picturePacked}
 use Rattle.sheet.specs.Starred.{Column, Row, same, holds, oneCount, chipsOn, columnsOn, col}
 use Rattle.sheet.specs.Starred as larger
 use Rattle.sheet.specs.Smaller as smaller
 use Rattle.sheet.specs.Orders.{Fault, refusal, inOrder, is}
 
 -- ---- columns and bytes: the even column in the low four bits
 

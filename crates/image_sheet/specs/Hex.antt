@@ -5,10 +5,10 @@ use mathlib.Core.Bool.{cond}
 use mathlib.Core.List.{List, [], _∷_, _++_}
 use lib.Dec.{ltb}
 use lib.ListN.{length, take, drop}
 use Rattle.sheet.specs.declared.Chips.{Chips}
 use Rattle.sheet.specs.Parts.{partOf}
 use Rattle.sheet.specs.Checks.{checkPowerOn}
-use Rattle.sheet.specs.Writer.{WrittenAfter, writtenPart}
+use Rattle.sheet.specs.Written.{WrittenAfter, writtenPart}
 
 -- ---- bytes as text: two digits a byte, capitals
 

@@ -5,12 +5,12 @@ use Prim.Native.Nat.{ℕ, _≤_, _<_}
 use mathlib.Core.Bool.{Bool, true, _&&_}
 use mathlib.Core.List.{List, [], _∷_, _++_, map}
 use lib.ListN.{length, take, drop}
-use Rattle.sheet.specs.declared.Symbol.{Symbol}
-use Rattle.sheet.specs.declared.Found.{Found}
+use Rattle.price_sheet.specs.declared.Symbol.{Symbol}
+use Rattle.price_sheet.specs.declared.Found.{Found}
 use Rattle.sheet.specs.declared.Written.{Written}
 use Rattle.sheet.specs.declared.Check.the-variants.{Passed}
-use Rattle.sheet.specs.Writer.{WrittenAfter}
-use Rattle.sheet.specs.Price.{isSymbol, textsOf, plain, byteOf, Spelled, spelled, shown, readFrom, priceWrite, priceRead}
+use Rattle.sheet.specs.Written.{WrittenAfter}
+use Rattle.price_sheet.specs.Price.{isSymbol, textsOf, plain, byteOf, Spelled, spelled, shown, readFrom, priceWrite, priceRead}
 
 abbrev pub areSymbols : List Symbol → Bool
 areSymbols [] = true

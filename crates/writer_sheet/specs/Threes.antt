@@ -4,20 +4,20 @@ use mathlib.Core.Bool.{Bool, cond, _&&_}
 use mathlib.Core.List.{List, [], _∷_, _++_}
 use lib.Dec.{T, eqb}
 use lib.ListN.{length, take, drop, replicate}
 use Rattle.sheet.specs.declared.Chips.{Chips}
 use Rattle.sheet.specs.Refusals.{numbers, writtenNumbers}
 use Rattle.sheet.specs.Registers.{marked, inRange, backplanes, bankRow, registersOf}
 use Rattle.sheet.specs.Parts.{within, commandIn, partOf}
 use Rattle.sheet.specs.Protocol.{heardBy, controlOf, whole, wholeOf, cutData}
 use Rattle.sheet.specs.Checks.{checkPart, checkChips, checkRegisters, overIn, checkRam, checkLength, checkBits, checkSent, faultIn, checkState, checkTransfer}
 use Rattle.sheet.specs.Long.{heard, dataByte, columnsOf, transferCall, transferPart}
 use Rattle.sheet.specs.Places.{position, atPosition}
 use Rattle.sheet.specs.Data.{putBits, changed, withRow, storedBits, counted, acknowledger}
-use Rattle.sheet.specs.Writer.{bitsFrom, checkWanted}
-use Rattle.sheet.specs.Three.{pairsFrom, threeTransfer, writeThreePart}
+use Rattle.writer_sheet.specs.Writer.{bitsFrom, checkWanted}
+use Rattle.writer_sheet.specs.Three.{pairsFrom, threeTransfer, writeThreePart}
 use Rattle.sheet.specs.Starred.{same}
 use Rattle.sheet.specs.Orders.{refusal, inOrder, is}
-use Rattle.sheet.specs.Writings.{lost, bothLost}
+use Rattle.writer_sheet.specs.Writings.{lost, bothLost}
 
 -- ---- the bytes of two PCA85133 in group 1: wanted are 4 and 7 in columns 0 and 1, 5 and 2 in the last two of chip 0, 6 and 1 in the first two of chip 1, 3 and 12 in its last two, and else 8, whose row 3 is ignored
 

@@ -5,20 +5,20 @@ use mathlib.Core.Bool.{cond, _&&_, _||_}
 use mathlib.Core.List.{List, [], _∷_, _++_, map}
 use lib.Dec.{eqb, ltb, leb}
 use lib.ListN.{length, getD, drop, replicate}
 use Rattle.sheet.specs.declared.Chips.{Chips}
 use Rattle.sheet.specs.declared.Check.{Check}
 use Rattle.sheet.specs.declared.Check.the-variants.{Passed, Refused}
 use Rattle.sheet.specs.declared.Refusal.{Refusal}
 use Rattle.sheet.specs.declared.Refusal.the-variants.{LogHead, LongLog}
 use Rattle.sheet.specs.declared.Answer.{Answer}
 use Rattle.sheet.specs.Refusals.{numberOf, placeOf, numbers}
 use Rattle.sheet.specs.Parts.{pcf8532}
 use Rattle.sheet.specs.Registers.{registersOf}
 use Rattle.sheet.specs.Protocol.{Sent, whole}
-use Rattle.sheet.specs.Records.{Records, lengthOf, recordsFrom}
+use Rattle.log_sheet.specs.Records.{Records, lengthOf, recordsFrom}
 use Rattle.sheet.specs.Checks.{unless, orElse, checkChips}
 use Rattle.sheet.specs.Pictures.{pictureOf, litIn}
 use Rattle.sheet.specs.Long.{State, stateOf, bothOn, transferCall, stateAfter, stateAfterAll, columnsOf}
 
 -- ---- the log
 

@@ -6,11 +6,11 @@ use mathlib.Core.Bool.{cond}
 use mathlib.Core.List.{List, [], _∷_, _++_}
 use lib.Dec.{eqb}
 use lib.ListN.{length, getD, take, drop}
 use Rattle.sheet.specs.declared.Written.{Written}
 use Rattle.sheet.specs.declared.Refusal.{Refusal}
 use Rattle.sheet.specs.declared.Check.the-variants.{Passed}
-use Rattle.sheet.specs.Hex.{hexWritePart}
-use Rattle.sheet.specs.Images.{bytesOf, digitsIn, sizeIn, addressOf, kindOf, dataOf, image, imageOf, hexReadPart}
+use Rattle.image_sheet.specs.Hex.{hexWritePart}
+use Rattle.image_sheet.specs.Images.{bytesOf, digitsIn, sizeIn, addressOf, kindOf, dataOf, image, imageOf, hexReadPart}
 
 -- ---- writing, then reading: what a call wrote, read by a call for as many columns, gives the RAM back
 

@@ -4,17 +4,17 @@ use mathlib.Core.Path.{_≡_, refl}
 use mathlib.Core.List.{List, [], _∷_, _++_}
 use lib.Dec.{T}
 use lib.ListN.{take, drop}
 use Rattle.sheet.specs.Registers.{inRange, backplanes, bankRow}
 use Rattle.sheet.specs.Parts.{within, commandIn}
 use Rattle.sheet.specs.Protocol.{heardBy, controlOf, wholeOf, cutData}
 use Rattle.sheet.specs.Checks.{checkChips, checkRegisters, overIn, checkRam, checkLength, checkBits, checkSent, faultIn, checkState, checkTransfer}
 use Rattle.sheet.specs.Pictures.{shown, pictureOf, litIn}
 use Rattle.sheet.specs.Long.{heard, dataByte, transferCall, stateAfterAll}
 use Rattle.sheet.specs.Places.{position, atPosition}
 use Rattle.sheet.specs.Data.{putBits, changed, withRow, storedBits, counted, acknowledger}
-use Rattle.sheet.specs.Records.{tornAt, withBody, readIn, recordsFrom}
-use Rattle.sheet.specs.Logs.{logRecords, checkHead, checkLog, digitsIn, decimal, spaced, transferLines, columnLines, textOf}
+use Rattle.log_sheet.specs.Records.{tornAt, withBody, readIn, recordsFrom}
+use Rattle.log_sheet.specs.Logs.{logRecords, checkHead, checkLog, digitsIn, decimal, spaced, transferLines, columnLines, textOf}
 use Rattle.sheet.specs.Starred.{same}
 use lib.Count.{ones, onesIn}
 
 abbrev pub workedLog : List ℕ

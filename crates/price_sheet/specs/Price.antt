@@ -4,15 +4,15 @@ use mathlib.Core.Bool.{Bool, true, cond, _&&_, _||_}
 use mathlib.Core.List.{List, [], _∷_, _++_, map}
 use lib.Dec.{eqb, ltb, leb}
 use lib.ListN.{length, getD}
-use Rattle.sheet.specs.declared.Symbol.{Symbol}
-use Rattle.sheet.specs.declared.Symbol.the-variants.{Digit, Pointed, Space, Minus, LongMinus}
-use Rattle.sheet.specs.declared.Found.{Found}
+use Rattle.price_sheet.specs.declared.Symbol.{Symbol}
+use Rattle.price_sheet.specs.declared.Symbol.the-variants.{Digit, Pointed, Space, Minus, LongMinus}
+use Rattle.price_sheet.specs.declared.Found.{Found}
 use Rattle.sheet.specs.declared.Check.{Check}
 use Rattle.sheet.specs.declared.Check.the-variants.{Passed, Refused}
 use Rattle.sheet.specs.declared.Refusal.the-variants.{LongTransfer, Register, OutputLength, NoSymbol}
 use Rattle.sheet.specs.Parts.{within}
 use Rattle.sheet.specs.Checks.{unless, orElse}
-use Rattle.sheet.specs.Writer.{WrittenAfter, writtenBy}
+use Rattle.sheet.specs.Written.{WrittenAfter, writtenBy}
 
 -- ---- a symbol's text
 

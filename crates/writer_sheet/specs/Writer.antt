@@ -3,20 +3,19 @@
 use Prim.Native.Nat.{ℕ, zero, suc, _+_, _-_, _*_, _/_, _%_}
 use mathlib.Core.Bool.{cond, _&&_}
 use mathlib.Core.List.{List, [], _∷_, _++_}
-use lib.Dec.{eqb, ltb, leb}
-use lib.ListN.{length, getD, drop}
+use lib.Dec.{eqb, ltb}
+use lib.ListN.{length, getD}
 use Rattle.sheet.specs.declared.Registers.{Registers}
 use Rattle.sheet.specs.declared.Both.{Both}
 use Rattle.sheet.specs.declared.Chips.{Chips}
 use Rattle.sheet.specs.declared.Check.{Check}
-use Rattle.sheet.specs.declared.Check.the-variants.{Passed, Refused}
-use Rattle.sheet.specs.declared.Refusal.the-variants.{Register, GroupOrPhase, OutputLength}
-use Rattle.sheet.specs.declared.Written.{Written}
+use Rattle.sheet.specs.declared.Refusal.the-variants.{Register, GroupOrPhase}
 use Rattle.sheet.specs.Parts.{Part, partOf}
 use Rattle.sheet.specs.Registers.{marked, backplanes, bankRow, registersOf}
 use Rattle.sheet.specs.Protocol.{addressOf, chipsIn}
-use Rattle.sheet.specs.Checks.{unless, orElse, checkPart, checkChips, checkRegisters, checkColumns}
+use Rattle.sheet.specs.Checks.{unless, orElse, checkChips, checkRegisters, checkColumns}
+use Rattle.sheet.specs.Written.{WrittenAfter, writtenPart}
 use Rattle.sheet.specs.Data.{rowOf, widthOf}
 
 -- ---- the commands
 
@@ -78,23 +77,6 @@ unfoldable pub checkWanted : Part → Chips → Both → ℕ → ℕ → ℕ →
 checkWanted K n r g mode bank wanted =
     orElse (checkChips K n) (orElse (checkRegisters K r) (orElse (unless (ltb mode 4 && ltb bank 2) Register)
     (orElse (unless (ltb g 2) GroupOrPhase) (checkColumns (K .columns * chipsIn g n) wanted))))
-
--- then 9 for an output shorter than the transfer
-abbrev pub checkRoom : List ℕ → ℕ → Check
-checkRoom transfer size = unless (leb (length transfer) size) OutputLength
-
-pub record WrittenAfter : Type 0 where
-  pub result : Written
-  pub out : List ℕ
-
--- the transfer stands at the start of the output, and the rest of it stays
-abbrev pub writtenBy : Check → List ℕ → List ℕ → WrittenAfter
-writtenBy Passed transfer out = record { result = Written.Bytes (length transfer); out = transfer ++ drop (length transfer) out }
-writtenBy (Refused x) transfer out = record { result = Written.Refused x; out = out }
-
--- a writer's call by a part's number, its checks of what is wanted, and its transfer: 16 first, and 9 last
-abbrev pub writtenPart : ℕ → Check → List ℕ → List ℕ → WrittenAfter
-writtenPart part wants transfer out = writtenBy (orElse (checkPart part) (orElse wants (checkRoom transfer (length out)))) transfer out
 
 unfoldable pub writeRowsPart : ℕ → Chips → Both → ℕ → ℕ → ℕ → List ℕ → List ℕ → WrittenAfter
 writeRowsPart part n r g mode bank wanted out =

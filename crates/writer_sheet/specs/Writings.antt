@@ -4,20 +4,20 @@ use mathlib.Core.Bool.{Bool, true, cond, _&&_}
 use mathlib.Core.List.{List, [], _∷_, _++_}
 use lib.Dec.{T, eqb}
 use lib.ListN.{length, take, drop, replicate}
 use Rattle.sheet.specs.declared.Registers.{Registers}
 use Rattle.sheet.specs.declared.Both.{Both}
 use Rattle.sheet.specs.declared.Chips.{Chips}
 use Rattle.sheet.specs.Refusals.{numbers, writtenNumbers}
 use Rattle.sheet.specs.Registers.{marked, inRange, backplanes, bankRow, registersOf}
 use Rattle.sheet.specs.Parts.{within, commandIn, partOf}
 use Rattle.sheet.specs.Protocol.{heardBy, controlOf, whole, wholeOf, cutData}
 use Rattle.sheet.specs.Checks.{checkPart, checkChips, checkRegisters, overIn, checkRam, checkLength, checkBits, checkSent, faultIn, checkState, checkTransfer}
 use Rattle.sheet.specs.Long.{heard, dataByte, columnsOf, transferCall, transferPart}
 use Rattle.sheet.specs.Places.{position, atPosition}
 use Rattle.sheet.specs.Data.{putBits, changed, withRow, storedBits, counted, acknowledger}
-use Rattle.sheet.specs.Writer.{bitsFrom, dataFrom, rowsTransfer, checkWanted, writeRowsPart}
+use Rattle.writer_sheet.specs.Writer.{bitsFrom, dataFrom, rowsTransfer, checkWanted, writeRowsPart}
 use Rattle.sheet.specs.Starred.{same, Column, holds}
 use Rattle.sheet.specs.Orders.{Fault, refusal, inOrder, is}
 
 -- ---- the bytes
 

@@ -4,12 +4,12 @@ use mathlib.Core.Bool.{Bool, true, cond, _&&_}
 use mathlib.Core.List.{List, [], _∷_, _++_}
 use lib.Dec.{T, eqb}
 use lib.ListN.{length, take, drop, replicate}
 use Rattle.sheet.specs.Refusals.{writtenNumbers}
 use Rattle.sheet.specs.Parts.{within}
-use Rattle.sheet.specs.Writer.{WrittenAfter}
-use Rattle.sheet.specs.Price.{segmentsOf, byteOf, begun, spelledFrom, shownBelow, readFrom, checkPrice, priceWrite, priceRead}
+use Rattle.sheet.specs.Written.{WrittenAfter}
+use Rattle.price_sheet.specs.Price.{segmentsOf, byteOf, begun, spelledFrom, shownBelow, readFrom, checkPrice, priceWrite, priceRead}
 use Rattle.sheet.specs.Starred.{same}
 use Rattle.sheet.specs.Orders.{Fault, refusal, inOrder, is}
 
 -- M, what is given, the answer's number and place, and what is written; the bytes past it stay
 pub record Price : Type 0 where

@@ -7,20 +7,21 @@ use mathlib.Core.Bool.{cond}
 use mathlib.Core.List.{List, [], _∷_, _++_}
 use lib.Dec.{eqb}
 use lib.ListN.{length, getD}
 use Rattle.sheet.specs.declared.Both.{Both}
 use Rattle.sheet.specs.declared.Chips.{Chips}
 use Rattle.sheet.specs.declared.Acknowledger.{Acknowledger}
 use Rattle.sheet.specs.declared.Answer.{Answer}
 use Rattle.sheet.specs.declared.Check.the-variants.{Passed}
 use Rattle.sheet.specs.Parts.{Part, partOf}
 use Rattle.sheet.specs.Registers.{registersOf}
 use Rattle.sheet.specs.Protocol.{addressOf, chipsIn, whole}
 use Rattle.sheet.specs.Checks.{checkState}
 use Rattle.sheet.specs.Places.{atPosition}
 use Rattle.sheet.specs.Data.{rowOf}
 use Rattle.sheet.specs.Long.{After, replaced, columnsOf, transferCall}
-use Rattle.sheet.specs.Writer.{eachAfter80, modeSetOf, setTo, bitsFrom, checkWanted, WrittenAfter, writtenPart}
-use Rattle.sheet.specs.Puts.{Settable}
+use Rattle.sheet.specs.Written.{WrittenAfter, writtenPart}
+use Rattle.writer_sheet.specs.Writer.{eachAfter80, modeSetOf, setTo, bitsFrom, checkWanted}
+use Rattle.writer_sheet.specs.Puts.{Settable}
 
 -- rows 0 to 2 of an even column and of the next one, then the two spare bits, which the next byte overwrites: 0
 abbrev pub pairOf : List ℕ → ℕ → ℕ

@@ -7,23 +7,23 @@ use mathlib.Core.Bool.{Bool, true, false, cond, _&&_}
 use mathlib.Core.List.{List}
 use lib.Dec.{eqb, ltb, leb}
 use lib.ListN.{length, getD}
 use Rattle.sheet.specs.declared.Registers.{Registers}
 use Rattle.sheet.specs.declared.Both.{Both}
 use Rattle.sheet.specs.declared.Chips.{Chips}
 use Rattle.sheet.specs.declared.Counts.{Counts}
 use Rattle.sheet.specs.declared.Acknowledger.{Acknowledger}
 use Rattle.sheet.specs.declared.Answer.{Answer}
 use Rattle.sheet.specs.declared.Check.the-variants.{Passed}
 use Rattle.sheet.specs.declared.Command.the-variants.{ModeSet, BankSelect, DeviceSelect}
 use Rattle.sheet.specs.Parts.{Part}
 use Rattle.sheet.specs.Registers.{atPlace, withMarks, backplanes, bankRow, registersOf}
 use Rattle.sheet.specs.Commands.{obeyedAll, allDefined}
 use Rattle.sheet.specs.Protocol.{chipsIn, whole}
 use Rattle.sheet.specs.Checks.{checkState}
 use Rattle.sheet.specs.Places.{atPosition}
 use Rattle.sheet.specs.Data.{rowOf, widthOf}
 use Rattle.sheet.specs.Long.{After, replaced, columnsOf, transferCall}
-use Rattle.sheet.specs.Writer.{setTo, bytesFor, rowsTransfer, checkWanted}
+use Rattle.writer_sheet.specs.Writer.{setTo, bytesFor, rowsTransfer, checkWanted}
 
 -- ---- a part's commands: mode-set, bank-select and device-select as both sheets have them, and a pointer that is restored at each column
 

@@ -9,13 +9,13 @@ use native.Mathlib.Omega.{arith}
 use lib.Dec.{eqb, ltb, leb}
 use lib.ListN.{length, getD, take, drop, replicate, length-drop}
 use lib.Seq.{sets}
 use Rattle.sheet.specs.declared.Check.{Check}
 use Rattle.sheet.specs.declared.Check.the-variants.{Passed, Refused}
 use Rattle.sheet.specs.declared.Refusal.the-variants.{RamLength, RamByte, LongLog, RecordForm, Checksum, RecordType, AddressOutside, AddressTwice, AddressMissing, NoEnd}
 use Rattle.sheet.specs.Parts.{within, partOf}
 use Rattle.sheet.specs.Checks.{unless, orElse, passed, overIn, checkPart, checkChips}
-use Rattle.sheet.specs.Writer.{WrittenAfter, writtenBy}
-use Rattle.sheet.specs.Hex.{sumOf, oneGroup}
+use Rattle.sheet.specs.Written.{WrittenAfter, writtenBy}
+use Rattle.image_sheet.specs.Hex.{sumOf, oneGroup}
 
 -- ---- text as bytes
 

@@ -5,14 +5,14 @@ use mathlib.Core.Path.{_≡_}
 use mathlib.Core.List.{List, _++_}
 use lib.Dec.{leb}
 use lib.ListN.{length, take, drop}
 use Rattle.sheet.specs.declared.Check.{Check}
 use Rattle.sheet.specs.declared.Check.the-variants.{Passed, Refused}
 use Rattle.sheet.specs.declared.Refusal.the-variants.{OutputLength}
 use Rattle.sheet.specs.declared.Rescued.{Rescued}
 use Rattle.sheet.specs.Refusals.{placeOf}
 use Rattle.sheet.specs.Checks.{unless, orElse}
-use Rattle.sheet.specs.Records.{sizeOf}
-use Rattle.sheet.specs.Logs.{logRecords, checkHead, checkLog}
+use Rattle.log_sheet.specs.Records.{sizeOf}
+use Rattle.log_sheet.specs.Logs.{logRecords, checkHead, checkLog}
 
 -- the bytes kept: the head, and each record's length field and body
 abbrev pub keptOf : List ℕ → ℕ

@@ -4,13 +4,13 @@ use mathlib.Core.Bool.{Bool, true, false, cond, _&&_}
 use mathlib.Core.List.{List, [], _∷_, _++_}
 use lib.Dec.{T}
 use lib.ListN.{take, replicate}
 use Rattle.sheet.specs.Refusals.{checkNumbers, writtenNumbers}
 use Rattle.sheet.specs.Parts.{within, partOf}
 use Rattle.sheet.specs.Checks.{checkPart, checkChips, checkRam, checkPowerOn, overIn}
-use Rattle.sheet.specs.Hex.{textOf, sumOf, checksumOf, headOf, recordOf, dataLines, fileOf, hexWritePart}
-use Rattle.sheet.specs.Images.{valueOf, areDigits, bytesOf, digitsIn, lineEnd, endIn, isLine, sizeIn, noneGiven, headFault, dataFault, faultIn, missingIn, imageIn, imageFrom, imageOf, checkFile, hexReadPart}
+use Rattle.image_sheet.specs.Hex.{textOf, sumOf, checksumOf, headOf, recordOf, dataLines, fileOf, hexWritePart}
+use Rattle.image_sheet.specs.Images.{valueOf, areDigits, bytesOf, digitsIn, lineEnd, endIn, isLine, sizeIn, noneGiven, headFault, dataFault, faultIn, missingIn, imageIn, imageFrom, imageOf, checkFile, hexReadPart}
 use Rattle.sheet.specs.Starred.{same}
 use Rattle.sheet.specs.Orders.{Fault, refusal, inOrder, is}
 
 -- ---- a file that is written: columns 0 to 15, and a seventeenth, which is 15
 

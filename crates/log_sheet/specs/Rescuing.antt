@@ -4,13 +4,13 @@ use mathlib.Core.Bool.{Bool, true, _&&_}
 use mathlib.Core.List.{List, [], _∷_, _++_}
 use lib.Dec.{T}
 use lib.ListN.{take, replicate}
 use Rattle.sheet.specs.Refusals.{rescuedNumbers}
 use Rattle.sheet.specs.Checks.{checkChips}
-use Rattle.sheet.specs.Records.{readIn, recordsFrom}
-use Rattle.sheet.specs.Logs.{checkHead}
-use Rattle.sheet.specs.Rescue.{checkRescue, rescueCall}
+use Rattle.log_sheet.specs.Records.{readIn, recordsFrom}
+use Rattle.log_sheet.specs.Logs.{checkHead}
+use Rattle.log_sheet.specs.Rescue.{checkRescue, rescueCall}
 use Rattle.sheet.specs.Starred.{same}
-use Rattle.sheet.specs.Worked.{workedLog, seenLog}
+use Rattle.log_sheet.specs.Worked.{workedLog, seenLog}
 
 -- a log, the bytes of the output, all 99; the answer's numbers, and what the output holds then
 pub record Torn : Type 0 where

@@ -1,0 +1,4 @@
+pub mod Hex
+pub mod Images
+pub mod Covered
+pub mod Imaging

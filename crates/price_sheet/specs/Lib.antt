@@ -1,0 +1,3 @@
+pub mod Price
+pub mod Prices
+pub mod Priced
