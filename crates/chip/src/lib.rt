@@ -63,7 +63,7 @@ fn follow(part: u8, chip: Chip, expect: Expect, byte: u8) -> Chip
 pub fn step(part: u8, chip: Chip, expect: Expect, byte: u8) -> Chip
     ensures { λ r. ⌜ r ≡ chipStepped (partOf part) expect byte chip ⌝ }
 {
-    if command::in_range(part, chip.registers) {
+    if registers::in_range(part, chip.registers) {
         follow(part, chip, expect, byte)
     } else {
         chip
@@ -97,7 +97,7 @@ fn answers(part: u8, chip: Chip, expect: Expect, byte: u8) -> bool
 pub fn acknowledges(part: u8, chip: Chip, expect: Expect, byte: u8) -> bool
     ensures { λ r. ⌜ r ≡ chipAnswers (partOf part) expect byte chip ⌝ }
 {
-    if command::in_range(part, chip.registers) {
+    if registers::in_range(part, chip.registers) {
         answers(part, chip, expect, byte)
     } else {
         false
@@ -108,7 +108,7 @@ pub fn acknowledges(part: u8, chip: Chip, expect: Expect, byte: u8) -> bool
 pub fn lose(mut chip: Chip, is_data: bool) -> Chip
     ensures { λ r. ⌜ r ≡ chipLost is_data chip ⌝ }
 {
-    let registers = command::lose(is_data, chip.registers);
+    let registers = registers::lose(is_data, chip.registers);
     chip.registers = registers;
     chip
 }
@@ -143,7 +143,7 @@ pub fn fits(part: u8, chip: Chip) -> bool
     let columns = chip.columns;
     let below = (chip.subaddress as usize) < arithmetic::limit(part);
     (chip.sa0 < 2)
-        & (below & (command::in_range(part, chip.registers) & columns_fit(part, columns)))
+        & (below & (registers::in_range(part, chip.registers) & columns_fit(part, columns)))
 }
 
 // Whether a power-on is refused: 16, 11.
@@ -167,7 +167,7 @@ pub fn power_on(part: u8, mut chip: Chip) -> ChipPowerOn
     ensures { λ r. ⌜ checkNumbers (r .check) ≡ checkNumbers (chipPowerOnPart part chip .check) ⌝ }
 {
     let check = check_power_on(part, chip);
-    chip.registers = command::power_on();
+    chip.registers = registers::power_on();
     ChipPowerOn { check, chip }
 }
 

@@ -25,8 +25,8 @@ use Rattle.laws.proofs.Kept.{Kept, heard-keeps}
 use Rattle.laws.proofs.Sums.{Few, heard-few}
 use Rattle.laws.proofs.Wholes.{whole-taken}
 use Rattle.laws.proofs.Joined.{next-joined, heard-joined}
-use Rattle.protocol.specs.declared.Listener.{Listener}
-use Rattle.protocol.specs.Listeners.{groupOf, dataEnd, stepped, ran, endedBy}
+use Rattle.listener.specs.declared.Listener.{Listener}
+use Rattle.listener.specs.Listeners.{groupOf, dataEnd, stepped, ran, endedBy}
 
 pub record Hearing (K : Part) (ram₀ bytes : List ℕ) (r : Registers) (ram : List ℕ) (l : Listener) (i : ℕ) : Type 0 where
   pub rest : heard K (l .expect) (drop i bytes) (groupOf l ram) ≡ heard K Control (drop 1 bytes) (begun r ram₀)

@@ -1,5 +1,5 @@
 // One group hears a transfer: the listener goes over the bytes, and each run of data is handed to the writer of its columns, a byte each or packed.
-use protocol::Listener;
+use listener::Listener;
 use sheet::Registers;
 ghost use mathlib.Core.Path.{_≡_};
 ghost use lib.ListN.{drop};
@@ -8,7 +8,7 @@ ghost use Rattle.sheet.specs.Parts.{partOf};
 ghost use Rattle.sheet.specs.Protocol.{nextAfter, sent};
 ghost use Rattle.sheet.specs.Long.{begun, heard, heardWhole};
 ghost use Rattle.packed_sheet.specs.Packed.{columnsIn};
-ghost use Rattle.protocol.specs.Listeners.{groupOf};
+ghost use Rattle.listener.specs.Listeners.{groupOf};
 ghost use Rattle.hearing.specs.Hears.{Hears};
 
 // What a group makes of the whole bytes of a transfer. A run is handed on as a part of the bytes, from one place, so that the call is inlined.
@@ -25,11 +25,11 @@ fn hear_bytes(
 {
     let n = bytes.len();
     let size = arithmetic::columns_held(ram.len(), packed);
-    let mut listener = protocol::begun(registers);
+    let mut listener = listener::begun(registers);
     let mut i: usize = 1;
     while i < n {
         let expect = listener.expect;
-        let end = protocol::data_end(expect, i, n);
+        let end = listener::data_end(expect, i, n);
         if i < end {
             let place = listener.registers;
             runs::write(part, ram, packed, place, &bytes[i..end]);

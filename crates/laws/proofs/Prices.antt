@@ -1,4 +1,4 @@
--- Request 1's laws: the grammar, the bytes of symbols, and both round trips (`sheet/specs/Prices.antt`).
+-- Request 1's laws: the grammar, the bytes of symbols, and both round trips (`price_sheet/specs/Prices.antt`).
 -- Assumes nothing.
 use mathlib.Core.Path.{_≡_, refl, sym, ap, ap₂, subst, _∙_}
 use mathlib.Core.Logic.{_≢_}

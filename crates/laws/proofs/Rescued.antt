@@ -1,4 +1,4 @@
--- What is rescued of a log is sound: read again, it has the same records and no tear (`sheet/specs/Rescue.antt`).
+-- What is rescued of a log is sound: read again, it has the same records and no tear (`log_sheet/specs/Rescue.antt`).
 -- Assumes nothing.
 use mathlib.Core.Path.{_≡_, refl, ap, subst, _∙_}
 use mathlib.Core.Logic.{⊎-elim}

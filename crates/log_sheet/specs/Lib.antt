@@ -2,5 +2,5 @@ pub mod Records
 pub mod Logs
 pub mod Rescue
 pub mod Worked
-pub mod Orders
+pub mod LogOrders
 pub mod Rescuing

@@ -27,8 +27,8 @@ pub fn power_on_in(part: u8, chips: Chips, ram: &[u8], packed: bool) -> PowerOn
 {
     let check = refused::check_power_on(part, chips, ram, packed);
     let registers = Both {
-        zero: command::power_on(),
-        one: command::power_on(),
+        zero: registers::power_on(),
+        one: registers::power_on(),
     };
     PowerOn { check, registers }
 }

@@ -2,31 +2,11 @@
 use sheet::Registers;
 use sheet::Shown;
 ghost use mathlib.Core.Path.{_≡_};
-ghost use mathlib.Core.Bool.{cond};
-ghost use Prim.Native.Nat.{_-_, _≤_, _<_};
+ghost use Prim.Native.Nat.{_≤_, _<_};
 ghost use lib.ListN.{length};
 ghost use Rattle.sheet.specs.Pictures.{shown, lit, pictureOf, litIn};
 ghost use Rattle.packed_sheet.specs.Packed.{unpacked, columnsIn};
 ghost use Rattle.picture.specs.Drawn.{drawn, Few, Drawable};
-
-// The bank that is shown: the group's own, or the other one.
-fn bank_shown(o: u8, other: bool) -> u8
-    ensures { λ r. ⌜ r ≡ cond other (1 - o) o ⌝ }
-{
-    if other { if o == 0 { 1 } else { 0 } } else { o }
-}
-
-// What a group shows at a blink phase.
-pub fn shown(registers: Registers, phase: u8) -> Shown
-    ensures { λ r. ⌜ r ≡ shown registers phase ⌝ }
-{
-    let m = arithmetic::backplanes(registers);
-    let blinked = (registers.bf != 0) & (phase == 1);
-    if (registers.e == 0) | (blinked & ((registers.ab == 0) | (2 < m))) {
-        return Shown::Dark;
-    }
-    Shown::Rows(arithmetic::bank_row(m, bank_shown(registers.o, blinked)))
-}
 
 // A column's rows from a first one on, moved down to row 0.
 fn lit_rows(first: usize, height: usize, column: u8) -> u8
@@ -130,7 +110,7 @@ pub fn show(ram: &[u8], packed: bool, registers: Registers, phase: u8, out: &mut
     ensures { λ _. ⌜ now (out .exit) ≡ pictureOf registers phase (columnsIn packed (now (ram .entry))) ⌝ }
     ensures { λ r. ⌜ r ≡ litIn (pictureOf registers phase (columnsIn packed (now (ram .entry)))) ⌝ }
 {
-    match shown(registers, phase) {
+    match shown::shown(registers, phase) {
         Shown::Dark => draw_in(ram, packed, 0, 0, out),
         Shown::Rows(first) => draw_in(ram, packed, first, arithmetic::backplanes(registers), out),
     }

@@ -17,7 +17,7 @@ use Rattle.sheet.specs.Parts.{Part}
 use Rattle.sheet.specs.Registers.{known}
 use Rattle.sheet.specs.Checks.{fault, marksAfter, lastFault, faultIn}
 use Rattle.sheet.specs.Protocol as protocol
-use Rattle.protocol.specs.Listeners.{onlyData}
+use Rattle.protocol.specs.Left.{onlyData}
 
 module _ (K : Part) (cut : Bool) (u : Marks) (e : Expect) (bytes : List ℕ) (i : ℕ) (h : i < length bytes) where
   pub found : (r : Refusal) → fault K u e i (getD bytes i 0) ≡ Refused r → faultIn K cut u e i (drop i bytes) ≡ Refused r

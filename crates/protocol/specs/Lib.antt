@@ -1,1 +1,1 @@
-pub mod Listeners
+pub mod Left

@@ -22,7 +22,7 @@ fn registers_fit(part: u8, registers: Both) -> bool
 {
     let zero = registers.zero;
     let one = registers.one;
-    command::in_range(part, zero) & command::in_range(part, one)
+    registers::in_range(part, zero) & registers::in_range(part, one)
 }
 
 // So many columns: 4, 5.

@@ -14,8 +14,8 @@ use Rattle.laws.proofs.Kept.{part-keeps}
 use Rattle.laws.proofs.Named.{group-columns}
 use Rattle.laws.proofs.Nibbles.{nibbles-of, check-nibbles}
 use Rattle.laws.proofs.Packed.{columns-held, bytes-few, bytes-alike}
-use Rattle.protocol.specs.declared.Listener.{Listener}
-use Rattle.protocol.specs.Listeners.{groupOf, ran}
+use Rattle.listener.specs.declared.Listener.{Listener}
+use Rattle.listener.specs.Listeners.{groupOf, ran}
 use Rattle.hearing.proofs.Hearing.{Hearing, at-end, at-end-next, ends-in, step-turn, data-turn}
 use borrow.Author.Needs.{needs}
 use Rattle.hearing.proofs.hear_bytes.Statement.{statement}
