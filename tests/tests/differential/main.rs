@@ -1,5 +1,5 @@
 //! The proved library against the model: every number returned and every byte of every buffer.
-//! Fixed seeds; SOAK=seconds goes on with other seeds.
+//! Fixed seeds; SOAK=seconds goes on with other seeds, FEWER=n tries an n-th of them.
 
 mod case;
 mod chip;
@@ -29,15 +29,20 @@ use humtrellis_tests::model::{Part, REGISTERS, SET, WHOLE};
 use humtrellis_tests::random::Random;
 use std::time::{Duration, Instant};
 
-/// Runs a test for each seed below `count`, then for more seeds as long as SOAK says.
+/// Runs a test for each seed below `count`, or an n-th of them where FEWER says so, then for more seeds as long as SOAK says.
 pub fn for_seeds(count: u64, test: fn(&mut Random)) {
-    let soak = std::env::var("SOAK").map_or(0, |seconds| seconds.parse().expect("SOAK: seconds"));
-    let end = Instant::now() + Duration::from_secs(soak);
+    let end = Instant::now() + Duration::from_secs(setting("SOAK", 0));
+    let enough = count.div_ceil(setting("FEWER", 1));
     let mut seed = 0;
-    while seed < count || Instant::now() < end {
+    while seed < enough || Instant::now() < end {
         test(&mut Random::new(seed));
         seed += 1;
     }
+}
+
+/// A number from the environment.
+fn setting(name: &str, default: u64) -> u64 {
+    std::env::var(name).map_or(default, |text| text.parse().unwrap_or_else(|_| panic!("{name}: a number")))
 }
 
 #[test]
