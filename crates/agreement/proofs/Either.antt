@@ -19,7 +19,7 @@ use Rattle.sheet.specs.Parts.{Part, partOf}
 use Rattle.sheet.specs.Registers.{registersOf}
 use Rattle.sheet.specs.Protocol.{addressOf, heardBy, Sent, addressByte}
 use Rattle.sheet.specs.Checks.{orElse, checkSent, faultOfSent, checkBytes, checkTransfer}
-use Rattle.sheet.specs.Long.{Group, After, begun, heardWhole, columnsOf, taken, answered, transferCall, State, stateOf, stateAfter, stateAfterAll, pictureCall}
+use Rattle.sheet.specs.Long.{Group, After, begun, heardWhole, columnsOf, taken, answered, transferCall, State, stateAfter, stateAfterAll, pictureCall}
 use Rattle.sheet.specs.Agree.{Keeps, Valid}
 use Rattle.sheet.specs.Either.{CallsGroup, Apart, ApartFrom, AllApart, Spares, answerGiven, answersGiven, SamePictures, Commute, OwnMarks, Merge, neither, one, other, toOne, toOther, Merged, EitherOrder, ClaimEither}
 use Rattle.laws.proofs.Kept.{part-keeps}
@@ -27,7 +27,7 @@ use Rattle.laws.proofs.Fits.{fits-of}
 use Rattle.laws.proofs.Lens.{own-registers, own-columns}
 use Rattle.laws.proofs.Groups.{Calls, calls, groupAfter, length-after, stays}
 use Rattle.agreement.proofs.Parts.{together, apart}
-use Rattle.agreement.proofs.Transfer.{transfer}
+use Rattle.agreement.proofs.Transfer.{left, transfer}
 use Rattle.agreement.proofs.Sequence.{sequence}
 
 -- group g is the same in two states
@@ -38,9 +38,6 @@ record Alike (K : Part) (n : Chips) (g : ℕ) (s u : State) : Type 0 where
 -- the group that a transfer calls is
 abbrev OwnAlike : Part → Chips → Sent → State → State → Type 0
 OwnAlike K n t s u = (g : ℕ) → g < 2 → CallsGroup g t → Alike K n g s u
-
-abbrev left : After → State
-left a = stateOf (a .result .registers) (a .ram)
 
 module _ (K : Part) (n : Chips) where
   alike-back : {g : ℕ} {s u : State} → Alike K n g s u → Alike K n g u s

@@ -26,7 +26,7 @@ use Rattle.agreement.proofs.Group.{chipsOfGroup, plainOf, whole-agrees}
 use Rattle.agreement.proofs.Checks.{group-hears, chips-hear, called-true, same-checks}
 use Rattle.agreement.proofs.Parts.{together, begunIn, chips-together, valid-together, rest-one, kept-zero, kept-one, apart}
 
-abbrev left : After → State
+abbrev pub left : After → State
 left a = stateOf (a .result .registers) (a .ram)
 
 -- what the two accounts leave and answer is the same

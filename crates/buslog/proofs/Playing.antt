@@ -1,13 +1,11 @@
 -- What holds while a log's transfers are carried out: what is left gives the whole text and the state at the end.
 -- Assumes nothing.
-use mathlib.Core.Path.{_≡_, sym, ap, _∙_}
+use mathlib.Core.Path.{_≡_}
 use mathlib.Core.List.{List, _++_}
 use Prim.Native.Nat.{ℕ, _+_, _-_, _≤_}
 use native.Mathlib.Numerals.{add-one}
 use native.Mathlib.Omega.{arith}
 use lib.ListN.{length, take, drop}
-use lib.Seq.{drop-drop}
-use Rattle.lemmas.proofs.Lists.{drop-take}
 use Rattle.sheet.specs.declared.Chips.{Chips}
 use Rattle.sheet.specs.declared.Check.the-variants.{Passed}
 use Rattle.sheet.specs.Parts.{pcf8532}
@@ -17,7 +15,7 @@ use Rattle.log_sheet.specs.Logs.{seenBytes, logRecords, transfersIn, logTransfe
 use Rattle.text.specs.Texts.{Puts}
 use Rattle.text.proofs.Writing.{Writing, rest-is, turn}
 use Rattle.records.specs.Found.{recordsAt}
-use Rattle.records.proofs.Found.{Next}
+use Rattle.records.proofs.Found.{Next, transfer-in}
 
 -- the record at a place is the next, the text has come to at, and i records are done
 pub record Playing (log : List ℕ) (n : Chips) (s₀ : State) (out₀ : List ℕ) (s : State) (out : List ℕ) (i at place : ℕ) : Type 0 where
@@ -26,12 +24,6 @@ pub record Playing (log : List ℕ) (n : Chips) (s₀ : State) (out₀ : List �
   pub whole : recordsAt (seenBytes log) log place .tear ≡ Passed
   pub few : i ≤ place
   pub long : length (s .ram) ≡ length (s₀ .ram)
-
--- the transfer in a body is the part of the log after what was seen
-pub transfer-in : (seen start size : ℕ) (log : List ℕ) → seen ≤ size → take (start + size - (start + seen)) (drop (start + seen) log) ≡ drop seen (take size (drop start log))
-transfer-in seen start size log h =
-    let less : start + size - (start + seen) ≡ size - seen = omega arith in
-    rw less (ap (take (size - seen)) (sym (drop-drop seen start log)) ∙ sym (drop-take seen size (drop start log) h))
 
 -- a turn: the record there is whole, and its transfer is carried out
 module _ {log : List ℕ} {n : Chips} {s₀ : State} {out₀ : List ℕ} {s : State} {out : List ℕ} {i at place start size count : ℕ} {t : After}

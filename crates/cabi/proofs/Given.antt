@@ -24,7 +24,8 @@ use Rattle.sheet.specs.Plain.{chipPowerOnPart}
 use Rattle.lent.specs.Lent.{lentCall}
 use Rattle.wire.specs.Bytes.{bytesOf, bothOf, bothBytes}
 use Rattle.wire.proofs.Given.{Bytes, both-back, unwritten}
-use Rattle.cabi.specs.Calls.{chipsOf, transferC, chipPowerOnC, plainC}
+use Rattle.lent_long.specs.LongCalls.{transferC}
+use Rattle.cabi.specs.Calls.{chipPowerOnC, plainC}
 
 -- power-on of a chip writes its registers only, taken or refused
 pub powered-chip : (part : ℕ) (chip answer : List ℕ) → length chip ≡ 174 → length answer ≡ 6 → chipPowerOnC part chip answer .buffer ≡ take 162 chip ++ bytesOf powerOn
@@ -55,12 +56,12 @@ refused-part part n r ram t x = by (checkPart part)
     by (Refused y) e = (refl, refl)
 
 -- a refused transfer gives C back the registers byte for byte, and the RAM
-pub refused-transfer : (part z o : ℕ) (registers ram : List ℕ) (t : Sent) (answer : List ℕ) (x : Refusal) → length registers ≡ 24 → Bytes registers → length answer ≡ 6
-    → transferPart part (chipsOf z o) (bothOf registers) ram t .result .answer ≡ Answer.Refused x
-    → let c = transferC part z o registers ram t answer in (c .registers ≡ registers) × (c .buffer ≡ ram)
+pub refused-transfer : (part : ℕ) (n : Chips) (registers ram : List ℕ) (t : Sent) (answer : List ℕ) (x : Refusal) → length registers ≡ 24 → Bytes registers → length answer ≡ 6
+    → transferPart part n (bothOf registers) ram t .result .answer ≡ Answer.Refused x
+    → let c = transferC part n registers ram t answer in (c .registers ≡ registers) × (c .buffer ≡ ram)
 unfolding transferC
-refused-transfer part z o registers ram t answer x e w six h =
-    let same = refused-part part (chipsOf z o) (bothOf registers) ram t x h in
+refused-transfer part n registers ram t answer x e w six h =
+    let same = refused-part part n (bothOf registers) ram t x h in
     rw (eq-eqb (length registers) 24 e, eq-eqb (length answer) 6 six) (ap bothBytes (same .0) ∙ both-back registers e w, same .1)
 
 -- and one of the plain account gives back the chips

@@ -1,4 +1,2 @@
-pub mod Sizes
-pub mod Said
 pub mod Given
 pub mod Repacked

@@ -5,7 +5,8 @@ use mathlib.Core.List.{List}
 use Prim.Native.Nat.{ℕ}
 use Rattle.packed_sheet.specs.Packed.{unpacked}
 use Rattle.laws.proofs.Packed.{packed-unpacked}
-use Rattle.cabi.specs.Calls.{Called, packedCalled}
+use Rattle.lent_long.specs.LongCalls.{Called}
+use Rattle.cabi.specs.Calls.{packedCalled}
 
 pub repacked : {c : Called} {number : ℕ} {registers answer : List ℕ} (ram : List ℕ) → c ≡ record { number = number; registers = registers; buffer = unpacked ram; answer = answer }
     → packedCalled c ≡ record { number = number; registers = registers; buffer = ram; answer = answer }

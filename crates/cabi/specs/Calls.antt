@@ -1,14 +1,13 @@
 -- The calls as C sees them: registers and chips as bytes, answers as numbers, through the definitions of `sheet`. Assumes nothing.
 use Prim.Native.Nat.{ℕ, _%_}
-use mathlib.Core.Bool.{Bool, true, cond, _&&_}
+use mathlib.Core.Bool.{true}
 use mathlib.Core.List.{List}
 use lib.Dec.{eqb}
-use lib.ListN.{length, getD}
+use lib.ListN.{length}
 use Rattle.sheet.specs.declared.Chips.{Chips}
-use Rattle.sheet.specs.Refusals.{numbers, plainNumbers, pictureNumbers, rescuedNumbers, checkNumbers, writtenNumbers}
+use Rattle.sheet.specs.Refusals.{plainNumbers, pictureNumbers, rescuedNumbers, checkNumbers, writtenNumbers}
 use Rattle.sheet.specs.Parts.{partOf}
 use Rattle.sheet.specs.Protocol.{Sent}
-use Rattle.sheet.specs.Long.{powerOnPart, transferPart, picturePart}
 use Rattle.packed_sheet.specs.Packed.{unpacked, packed}
 use Rattle.sheet.specs.Plain.{chipPowerOnPart, chipPicturePart}
 use Rattle.log_sheet.specs.Rescue.{rescueCall}
@@ -19,70 +18,28 @@ use Rattle.image_sheet.specs.Images.{hexReadPart}
 use Rattle.price_sheet.specs.Price.{priceWrite, priceRead}
 use Rattle.buslog.specs.declared.Replayed.{Replayed}
 use Rattle.lent.specs.Lent.{lentCall}
-use Rattle.wire.specs.Bytes.{bothOf, bothBytes, chipIn, chipBytes}
+use Rattle.lent_long.specs.LongCalls.{Called, powerOnC, transferC, Filled, saidC, pictureC}
+use Rattle.wire.specs.Bytes.{bothOf, chipIn, chipBytes}
 
 abbrev pub chipsOf : ℕ → ℕ → Chips
 chipsOf z o = record { zero = z; one = o }
-
--- ---- calls that lend registers and the RAM. Each gives the number returned and what each lent buffer holds after it
-
-pub record Called : Type 0 where
-  pub number : ℕ
-  pub registers : List ℕ
-  pub buffer : List ℕ
-  pub answer : List ℕ
-
--- 255, and nothing is written, unless registers are 24 bytes and an answer has six numbers
-abbrev pub sized : List ℕ → List ℕ → List ℕ → Called → Called
-sized registers buffer answer c =
-    cond (eqb (length registers) 24 && eqb (length answer) 6) c (record { number = 255; registers = registers; buffer = buffer; answer = answer })
-
-unfoldable pub powerOnC : ℕ → ℕ → ℕ → List ℕ → List ℕ → List ℕ → Called
-powerOnC part z o ram registers answer =
-    let p = powerOnPart part (chipsOf z o) ram in
-    let k = checkNumbers (p .check) in
-    sized registers ram answer (record { number = getD k 0 0; registers = bothBytes (p .registers); buffer = ram; answer = k })
-
-unfoldable pub transferC : ℕ → ℕ → ℕ → List ℕ → List ℕ → Sent → List ℕ → Called
-transferC part z o registers ram transfer answer =
-    let t = transferPart part (chipsOf z o) (bothOf registers) ram transfer in
-    let k = numbers (partOf part) (t .result .answer) in
-    sized registers ram answer (record { number = getD k 0 0; registers = bothBytes (t .result .registers); buffer = t .ram; answer = k })
 
 -- packed: the call of the unpacked RAM, and the RAM that packs what it leaves (paper 02, request 6)
 abbrev pub packedCalled : Called → Called
 packedCalled c = record { number = c .number; registers = c .registers; buffer = packed (c .buffer); answer = c .answer }
 
-unfoldable pub packedPowerOnC : ℕ → ℕ → ℕ → List ℕ → List ℕ → List ℕ → Called
-packedPowerOnC part z o ram registers answer = packedCalled (powerOnC part z o (unpacked ram) registers answer)
+unfoldable pub packedPowerOnC : ℕ → Chips → List ℕ → List ℕ → List ℕ → Called
+packedPowerOnC part n ram registers answer = packedCalled (powerOnC part n (unpacked ram) registers answer)
 
-unfoldable pub packedTransferC : ℕ → ℕ → ℕ → List ℕ → List ℕ → Sent → List ℕ → Called
-packedTransferC part z o registers ram transfer answer = packedCalled (transferC part z o registers (unpacked ram) transfer answer)
+unfoldable pub packedTransferC : ℕ → Chips → List ℕ → List ℕ → Sent → List ℕ → Called
+packedTransferC part n registers ram transfer answer = packedCalled (transferC part n registers (unpacked ram) transfer answer)
 
--- ---- calls that lend one buffer to write: a picture, chips, a transfer or a log
+unfoldable pub packedPictureC : ℕ → Chips → List ℕ → List ℕ → ℕ → ℕ → List ℕ → List ℕ → Filled
+packedPictureC part n registers ram group phase out answer = pictureC part n registers (unpacked ram) group phase out answer
 
-pub record Filled : Type 0 where
-  pub number : ℕ
-  pub buffer : List ℕ
-  pub answer : List ℕ
+-- ---- one buffer to write
 
--- 255, and nothing is written, unless what is read or the chips are whole and an answer has six numbers
-abbrev pub filled : Bool → List ℕ → List ℕ → Filled → Filled
-filled whole buffer answer c = cond (whole && eqb (length answer) 6) c (record { number = 255; buffer = buffer; answer = answer })
-
--- its numbers, and the buffer after it
-abbrev pub saidC : Bool → List ℕ → List ℕ → List ℕ → List ℕ → Filled
-saidC whole numbers after buffer answer = filled whole buffer answer (record { number = getD numbers 0 0; buffer = after; answer = numbers })
-
--- a picture of a group, and of one chip
-unfoldable pub pictureC : ℕ → ℕ → ℕ → List ℕ → List ℕ → ℕ → ℕ → List ℕ → List ℕ → Filled
-pictureC part z o registers ram group phase out answer =
-    let s = picturePart part (chipsOf z o) (bothOf registers) ram group phase out in
-    saidC (eqb (length registers) 24) (pictureNumbers (s .result)) (s .out) out answer
-
-unfoldable pub packedPictureC : ℕ → ℕ → ℕ → List ℕ → List ℕ → ℕ → ℕ → List ℕ → List ℕ → Filled
-packedPictureC part z o registers ram group phase out answer = pictureC part z o registers (unpacked ram) group phase out answer
-
+-- a picture of one chip
 unfoldable pub chipPictureC : ℕ → List ℕ → ℕ → List ℕ → List ℕ → Filled
 chipPictureC part chip phase out answer =
     let s = chipPicturePart part (chipIn chip) phase out in
@@ -101,15 +58,15 @@ plainC part chips transfer answer =
     saidC (eqb (length chips % 174) 0) (plainNumbers (partOf part) (s .answer)) (s .chips) chips answer
 
 -- a transfer for wanted rows
-unfoldable pub writeRowsC : ℕ → ℕ → ℕ → List ℕ → ℕ → ℕ → ℕ → List ℕ → List ℕ → List ℕ → Filled
-writeRowsC part z o registers group mode bank wanted out answer =
-    let s = writeRowsPart part (chipsOf z o) (bothOf registers) group mode bank wanted out in
+unfoldable pub writeRowsC : ℕ → Chips → List ℕ → ℕ → ℕ → ℕ → List ℕ → List ℕ → List ℕ → Filled
+writeRowsC part n registers group mode bank wanted out answer =
+    let s = writeRowsPart part n (bothOf registers) group mode bank wanted out in
     saidC (eqb (length registers) 24) (writtenNumbers (s .result)) (s .out) out answer
 
 -- and for every element of a three-backplane glass
-unfoldable pub writeThreeC : ℕ → ℕ → ℕ → List ℕ → ℕ → List ℕ → List ℕ → List ℕ → Filled
-writeThreeC part z o registers group wanted out answer =
-    let s = writeThreePart part (chipsOf z o) (bothOf registers) group wanted out in
+unfoldable pub writeThreeC : ℕ → Chips → List ℕ → ℕ → List ℕ → List ℕ → List ℕ → Filled
+writeThreeC part n registers group wanted out answer =
+    let s = writeThreePart part n (bothOf registers) group wanted out in
     saidC (eqb (length registers) 24) (writtenNumbers (s .result)) (s .out) out answer
 
 -- a RAM image, written and read

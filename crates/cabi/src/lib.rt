@@ -4,214 +4,81 @@ use buslog::Replayed;
 use sheet::Chips;
 ghost use mathlib.Core.Path.{_≡_};
 ghost use Rattle.sheet.specs.Protocol.{sent};
-ghost use Rattle.packed_sheet.specs.Packed.{columnsIn};
 ghost use Rattle.buslog.specs.Replays.{replayCall};
-ghost use Rattle.cabi.specs.Calls.{powerOnC, transferC, pictureC, packedPowerOnC, packedTransferC, packedPictureC, chipPowerOnC, chipPictureC, plainC, writeRowsC, writeThreeC, hexWriteC, hexReadC, priceWriteC, priceReadC, rescueC, replayNumber};
+ghost use Rattle.lent_long.specs.LongCalls.{powerOnC, transferC, pictureC};
+ghost use Rattle.cabi.specs.Calls.{chipsOf, packedPowerOnC, packedTransferC, packedPictureC, chipPowerOnC, chipPictureC, plainC, writeRowsC, writeThreeC, hexWriteC, hexReadC, priceWriteC, priceReadC, rescueC, replayNumber};
 
-// ---- the long account, over columns that are a byte each or packed
-
-// Power-on, taken or refused by 16, 3, 4, 5.
-fn power_on(
-    part: u8,
-    chips0: u8,
-    chips1: u8,
-    ram: &[u8],
-    packed: bool,
-    registers: &mut [u8],
-    answer: &mut [usize],
-) -> u8
-    ensures { λ r. ⌜ powerOnC part chips0 chips1 (columnsIn packed (now (ram .entry))) (now (registers .entry)) (now (answer .entry)) ≡ record { number = r; registers = now (registers .exit); buffer = columnsIn packed (now (ram .entry)); answer = now (answer .exit) } ⌝ }
-{
-    if (registers.len() == 24) & (answer.len() == 6) {
-        let chips = Chips {
-            zero: chips0,
-            one: chips1,
-        };
-        let done = long::power_on_in(part, chips, ram, packed);
-        let after = done.registers;
-        let check = done.check;
-        wire::put_both(after, registers);
-        wire::put_numbers(answers::check_numbers(check), answer)
-    } else {
-        255
-    }
-}
-
-// A transfer, of whose last byte so many bits came, taken or refused by 16, 3, 6, 4, 5, 1, 2, 19, then 7, 17 and 18.
-fn transfer(
-    part: u8,
-    chips0: u8,
-    chips1: u8,
-    registers: &mut [u8],
-    ram: &mut [u8],
-    packed: bool,
-    bytes: &[u8],
-    bits: u8,
-    answer: &mut [usize],
-) -> u8
-    ensures { λ r. ⌜ transferC part chips0 chips1 (now (registers .entry)) (columnsIn packed (now (ram .entry))) (sent (now (bytes .entry)) bits) (now (answer .entry)) ≡ record { number = r; registers = now (registers .exit); buffer = columnsIn packed (now (ram .exit)); answer = now (answer .exit) } ⌝ }
-{
-    if (registers.len() == 24) & (answer.len() == 6) {
-        let chips = Chips {
-            zero: chips0,
-            one: chips1,
-        };
-        let before = wire::both_of(registers);
-        let done = long::transfer_in(part, chips, before, ram, packed, bytes, bits);
-        let after = done.registers;
-        let said = done.answer;
-        wire::put_both(after, registers);
-        wire::put_numbers(answers::numbers(part, said), answer)
-    } else {
-        255
-    }
-}
-
-// The picture of a group at a blink phase, or a refusal by 16, 3, 6, 4, 5, 8, 9.
-fn picture(
-    part: u8,
-    chips0: u8,
-    chips1: u8,
-    registers: &[u8],
-    ram: &[u8],
-    packed: bool,
-    group: u8,
-    phase: u8,
-    out: &mut [u8],
-    answer: &mut [usize],
-) -> u8
-    ensures { λ r. ⌜ pictureC part chips0 chips1 (now (registers .entry)) (columnsIn packed (now (ram .entry))) group phase (now (out .entry)) (now (answer .entry)) ≡ record { number = r; buffer = now (out .exit); answer = now (answer .exit) } ⌝ }
-{
-    if (registers.len() == 24) & (answer.len() == 6) {
-        let chips = Chips {
-            zero: chips0,
-            one: chips1,
-        };
-        let before = wire::both_of(registers);
-        let shown = long::picture_in(part, chips, before, ram, packed, group, phase, out);
-        wire::put_numbers(answers::picture_numbers(shown), answer)
-    } else {
-        255
-    }
-}
-
-// ---- a byte a column
+// ---- the long account, over the chips of group zero and of group one; packed, two columns a byte, the RAM has half as many bytes and 5 can't occur
 
 #[no_mangle]
 pub extern "C" fn humtrellis_power_on(
     part: u8,
-    chips0: u8,
-    chips1: u8,
+    zero: u8,
+    one: u8,
     ram: &[u8],
     registers: &mut [u8],
     answer: &mut [usize],
 ) -> u8
-    ensures { λ r. ⌜ powerOnC part chips0 chips1 (now (ram .entry)) (now (registers .entry)) (now (answer .entry)) ≡ record { number = r; registers = now (registers .exit); buffer = now (ram .entry); answer = now (answer .exit) } ⌝ }
+    ensures { λ r. ⌜ powerOnC part (chipsOf zero one) (now (ram .entry)) (now (registers .entry)) (now (answer .entry)) ≡ record { number = r; registers = now (registers .exit); buffer = now (ram .entry); answer = now (answer .exit) } ⌝ }
 {
-    power_on(part, chips0, chips1, ram, false, registers, answer)
+    let bus = Chips { zero, one };
+    lent_long::power_on(part, bus, ram, false, registers, answer)
+}
+
+#[no_mangle]
+pub extern "C" fn humtrellis_packed_power_on(
+    part: u8,
+    zero: u8,
+    one: u8,
+    ram: &[u8],
+    registers: &mut [u8],
+    answer: &mut [usize],
+) -> u8
+    ensures { λ r. ⌜ packedPowerOnC part (chipsOf zero one) (now (ram .entry)) (now (registers .entry)) (now (answer .entry)) ≡ record { number = r; registers = now (registers .exit); buffer = now (ram .entry); answer = now (answer .exit) } ⌝ }
+{
+    let bus = Chips { zero, one };
+    lent_long::power_on(part, bus, ram, true, registers, answer)
 }
 
 #[no_mangle]
 pub extern "C" fn humtrellis_transfer(
     part: u8,
-    chips0: u8,
-    chips1: u8,
+    zero: u8,
+    one: u8,
     registers: &mut [u8],
     ram: &mut [u8],
     bytes: &[u8],
     bits: u8,
     answer: &mut [usize],
 ) -> u8
-    ensures { λ r. ⌜ transferC part chips0 chips1 (now (registers .entry)) (now (ram .entry)) (sent (now (bytes .entry)) bits) (now (answer .entry)) ≡ record { number = r; registers = now (registers .exit); buffer = now (ram .exit); answer = now (answer .exit) } ⌝ }
+    ensures { λ r. ⌜ transferC part (chipsOf zero one) (now (registers .entry)) (now (ram .entry)) (sent (now (bytes .entry)) bits) (now (answer .entry)) ≡ record { number = r; registers = now (registers .exit); buffer = now (ram .exit); answer = now (answer .exit) } ⌝ }
 {
-    transfer(
-        part,
-        chips0,
-        chips1,
-        registers,
-        ram,
-        false,
-        bytes,
-        bits,
-        answer,
-    )
-}
-
-#[no_mangle]
-pub extern "C" fn humtrellis_picture(
-    part: u8,
-    chips0: u8,
-    chips1: u8,
-    registers: &[u8],
-    ram: &[u8],
-    group: u8,
-    phase: u8,
-    out: &mut [u8],
-    answer: &mut [usize],
-) -> u8
-    ensures { λ r. ⌜ pictureC part chips0 chips1 (now (registers .entry)) (now (ram .entry)) group phase (now (out .entry)) (now (answer .entry)) ≡ record { number = r; buffer = now (out .exit); answer = now (answer .exit) } ⌝ }
-{
-    picture(
-        part,
-        chips0,
-        chips1,
-        registers,
-        ram,
-        false,
-        group,
-        phase,
-        out,
-        answer,
-    )
-}
-
-// ---- packed, two columns a byte: the RAM has half as many bytes, and 5 can't occur
-
-#[no_mangle]
-pub extern "C" fn humtrellis_packed_power_on(
-    part: u8,
-    chips0: u8,
-    chips1: u8,
-    ram: &[u8],
-    registers: &mut [u8],
-    answer: &mut [usize],
-) -> u8
-    ensures { λ r. ⌜ packedPowerOnC part chips0 chips1 (now (ram .entry)) (now (registers .entry)) (now (answer .entry)) ≡ record { number = r; registers = now (registers .exit); buffer = now (ram .entry); answer = now (answer .exit) } ⌝ }
-{
-    power_on(part, chips0, chips1, ram, true, registers, answer)
+    let bus = Chips { zero, one };
+    lent_long::transfer(part, bus, registers, ram, false, bytes, bits, answer)
 }
 
 #[no_mangle]
 pub extern "C" fn humtrellis_packed_transfer(
     part: u8,
-    chips0: u8,
-    chips1: u8,
+    zero: u8,
+    one: u8,
     registers: &mut [u8],
     ram: &mut [u8],
     bytes: &[u8],
     bits: u8,
     answer: &mut [usize],
 ) -> u8
-    ensures { λ r. ⌜ packedTransferC part chips0 chips1 (now (registers .entry)) (now (ram .entry)) (sent (now (bytes .entry)) bits) (now (answer .entry)) ≡ record { number = r; registers = now (registers .exit); buffer = now (ram .exit); answer = now (answer .exit) } ⌝ }
+    ensures { λ r. ⌜ packedTransferC part (chipsOf zero one) (now (registers .entry)) (now (ram .entry)) (sent (now (bytes .entry)) bits) (now (answer .entry)) ≡ record { number = r; registers = now (registers .exit); buffer = now (ram .exit); answer = now (answer .exit) } ⌝ }
 {
-    transfer(
-        part,
-        chips0,
-        chips1,
-        registers,
-        ram,
-        true,
-        bytes,
-        bits,
-        answer,
-    )
+    let bus = Chips { zero, one };
+    lent_long::transfer(part, bus, registers, ram, true, bytes, bits, answer)
 }
 
 #[no_mangle]
-pub extern "C" fn humtrellis_packed_picture(
+pub extern "C" fn humtrellis_picture(
     part: u8,
-    chips0: u8,
-    chips1: u8,
+    zero: u8,
+    one: u8,
     registers: &[u8],
     ram: &[u8],
     group: u8,
@@ -219,20 +86,28 @@ pub extern "C" fn humtrellis_packed_picture(
     out: &mut [u8],
     answer: &mut [usize],
 ) -> u8
-    ensures { λ r. ⌜ packedPictureC part chips0 chips1 (now (registers .entry)) (now (ram .entry)) group phase (now (out .entry)) (now (answer .entry)) ≡ record { number = r; buffer = now (out .exit); answer = now (answer .exit) } ⌝ }
+    ensures { λ r. ⌜ pictureC part (chipsOf zero one) (now (registers .entry)) (now (ram .entry)) group phase (now (out .entry)) (now (answer .entry)) ≡ record { number = r; buffer = now (out .exit); answer = now (answer .exit) } ⌝ }
 {
-    picture(
-        part,
-        chips0,
-        chips1,
-        registers,
-        ram,
-        true,
-        group,
-        phase,
-        out,
-        answer,
-    )
+    let bus = Chips { zero, one };
+    lent_long::picture(part, bus, registers, ram, false, group, phase, out, answer)
+}
+
+#[no_mangle]
+pub extern "C" fn humtrellis_packed_picture(
+    part: u8,
+    zero: u8,
+    one: u8,
+    registers: &[u8],
+    ram: &[u8],
+    group: u8,
+    phase: u8,
+    out: &mut [u8],
+    answer: &mut [usize],
+) -> u8
+    ensures { λ r. ⌜ packedPictureC part (chipsOf zero one) (now (registers .entry)) (now (ram .entry)) group phase (now (out .entry)) (now (answer .entry)) ≡ record { number = r; buffer = now (out .exit); answer = now (answer .exit) } ⌝ }
+{
+    let bus = Chips { zero, one };
+    lent_long::picture(part, bus, registers, ram, true, group, phase, out, answer)
 }
 
 // ---- chips, one by one
@@ -297,8 +172,8 @@ pub extern "C" fn humtrellis_plain_transfer(
 #[no_mangle]
 pub extern "C" fn humtrellis_write_rows(
     part: u8,
-    chips0: u8,
-    chips1: u8,
+    zero: u8,
+    one: u8,
     registers: &[u8],
     group: u8,
     mode: u8,
@@ -307,15 +182,12 @@ pub extern "C" fn humtrellis_write_rows(
     out: &mut [u8],
     answer: &mut [usize],
 ) -> u8
-    ensures { λ r. ⌜ writeRowsC part chips0 chips1 (now (registers .entry)) group mode bank (now (wanted .entry)) (now (out .entry)) (now (answer .entry)) ≡ record { number = r; buffer = now (out .exit); answer = now (answer .exit) } ⌝ }
+    ensures { λ r. ⌜ writeRowsC part (chipsOf zero one) (now (registers .entry)) group mode bank (now (wanted .entry)) (now (out .entry)) (now (answer .entry)) ≡ record { number = r; buffer = now (out .exit); answer = now (answer .exit) } ⌝ }
 {
     if (registers.len() == 24) & (answer.len() == 6) {
-        let chips = Chips {
-            zero: chips0,
-            one: chips1,
-        };
+        let bus = Chips { zero, one };
         let before = wire::both_of(registers);
-        let written = writer::write_rows(part, chips, before, group, mode, bank, wanted, out);
+        let written = writer::write_rows(part, bus, before, group, mode, bank, wanted, out);
         wire::put_numbers(answers::written_numbers(written), answer)
     } else {
         255
@@ -326,23 +198,20 @@ pub extern "C" fn humtrellis_write_rows(
 #[no_mangle]
 pub extern "C" fn humtrellis_write_three(
     part: u8,
-    chips0: u8,
-    chips1: u8,
+    zero: u8,
+    one: u8,
     registers: &[u8],
     group: u8,
     wanted: &[u8],
     out: &mut [u8],
     answer: &mut [usize],
 ) -> u8
-    ensures { λ r. ⌜ writeThreeC part chips0 chips1 (now (registers .entry)) group (now (wanted .entry)) (now (out .entry)) (now (answer .entry)) ≡ record { number = r; buffer = now (out .exit); answer = now (answer .exit) } ⌝ }
+    ensures { λ r. ⌜ writeThreeC part (chipsOf zero one) (now (registers .entry)) group (now (wanted .entry)) (now (out .entry)) (now (answer .entry)) ≡ record { number = r; buffer = now (out .exit); answer = now (answer .exit) } ⌝ }
 {
     if (registers.len() == 24) & (answer.len() == 6) {
-        let chips = Chips {
-            zero: chips0,
-            one: chips1,
-        };
+        let bus = Chips { zero, one };
         let before = wire::both_of(registers);
-        let written = three::write_three(part, chips, before, group, wanted, out);
+        let written = three::write_three(part, bus, before, group, wanted, out);
         wire::put_numbers(answers::written_numbers(written), answer)
     } else {
         255

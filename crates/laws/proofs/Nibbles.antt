@@ -91,8 +91,3 @@ pub run-nibbles : (m b v : ℕ) (xs ram : List ℕ) → 0 < m → b + m ≤ 4 �
 unfolding putRun
 run-nibbles m b v [] ram pm h w = w
 run-nibbles m b v (x ∷ xs) ram pm h w = run-nibbles m b (v + widthOf m) xs (putBits 8 m b v x ram) pm h (bits-nibbles 8 m b v x ram pm h w)
-
--- ---- the same of the check
-
-pub run-passes : (m b v : ℕ) (xs ram : List ℕ) → 0 < m → b + m ≤ 4 → overIn 0 ram ≡ Passed → overIn 0 (putRun m b v xs ram) ≡ Passed
-run-passes m b v xs ram pm h e = check-nibbles 0 (putRun m b v xs ram) (run-nibbles m b v xs ram pm h (nibbles-of 0 ram e))

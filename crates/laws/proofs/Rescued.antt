@@ -39,7 +39,8 @@ unfolding readIn
 nothing zero seen at = refl
 nothing (suc j) seen at = refl
 
-never : (r : Refusal) {A : Type 0} → Refused r ≡ Passed → A
+-- what is refused has not passed
+pub never : (r : Refusal) {A : Type 0} → Refused r ≡ Passed → A
 never r e = let no : _≡_ {A = ℕ} 0 1 = cc in absurd (omega arith)
 
 -- a whole record and those after it

@@ -1,6 +1,6 @@
 -- Data bytes followed one by one are a run at one position. A run keeps the length, and past the end it changes and counts nothing but discards, and nobody acknowledges it.
 -- Assumes nothing.
-use mathlib.Core.Path.{_≡_, refl, sym, ap, _∙_}
+use mathlib.Core.Path.{_≡_, refl, sym, ap, _∙_, subst}
 use mathlib.Core.Logic.{⊎-elim}
 use mathlib.Core.List.{List, [], _∷_}
 use Prim.Native.Nat.{ℕ, zero, suc, _+_, _*_, _/_, _≤_, _<_}
@@ -21,6 +21,12 @@ use Rattle.sheet.specs.Places.{position, atPosition}
 use Rattle.sheet.specs.Data.{changed, putBits, widthOf, storedBits, counted, acknowledger}
 use Rattle.sheet.specs.Runs.{putRun, countedRun, lastRun, writtenBy, countedBy, lastBy, movedBy}
 use Rattle.laws.proofs.Steps.{home, on, many, p-at, a-at, settled}
+
+-- ---- in one mode
+
+-- the columns of n data bytes are there, in the mode that a match tells
+pub as-wide : (k m n left : ℕ) → m ≡ k → widthOf m * n ≤ left → widthOf k * n ≤ left
+as-wide k m n left e h = subst (λ (i : ℕ). widthOf i * n ≤ left) e h
 
 -- ---- one column changed
 

@@ -134,13 +134,20 @@ pub fn picture_in(
     }
 }
 
-// ---- a byte a column
+// ---- the calls, a byte a column; packed, two columns a byte (paper 02, request 6), the RAM has half as many bytes, and 5 can't occur
 
 pub fn power_on(part: u8, chips: Chips, ram: &[u8]) -> PowerOn
     ensures { λ r. ⌜ r ≡ powerOnPart part chips (now (ram .entry)) ⌝ }
     ensures { λ r. ⌜ checkNumbers (r .check) ≡ checkNumbers (powerOnPart part chips (now (ram .entry)) .check) ⌝ }
 {
     power_on_in(part, chips, ram, false)
+}
+
+pub fn packed_power_on(part: u8, chips: Chips, ram: &[u8]) -> PowerOn
+    ensures { λ r. ⌜ r ≡ powerOnPacked part chips (now (ram .entry)) ⌝ }
+    ensures { λ r. ⌜ checkNumbers (r .check) ≡ checkNumbers (powerOnPacked part chips (now (ram .entry)) .check) ⌝ }
+{
+    power_on_in(part, chips, ram, true)
 }
 
 pub fn transfer(
@@ -157,6 +164,20 @@ pub fn transfer(
     transfer_in(part, chips, registers, ram, false, bytes, bits)
 }
 
+pub fn packed_transfer(
+    part: u8,
+    chips: Chips,
+    registers: Both,
+    ram: &mut [u8],
+    bytes: &[u8],
+    bits: u8,
+) -> Transferred
+    ensures { λ r. ⌜ record { result = r; ram = now (ram .exit) } ≡ transferPacked part chips registers (now (ram .entry)) (sent (now (bytes .entry)) bits) ⌝ }
+    ensures { λ r. ⌜ numbers (partOf part) (r .answer) ≡ numbers (partOf part) (transferPacked part chips registers (now (ram .entry)) (sent (now (bytes .entry)) bits) .result .answer) ⌝ }
+{
+    transfer_in(part, chips, registers, ram, true, bytes, bits)
+}
+
 pub fn picture(
     part: u8,
     chips: Chips,
@@ -170,29 +191,6 @@ pub fn picture(
     ensures { λ r. ⌜ pictureNumbers r ≡ pictureNumbers (picturePart part chips registers (now (ram .entry)) group phase (now (out .entry)) .result) ⌝ }
 {
     picture_in(part, chips, registers, ram, false, group, phase, out)
-}
-
-// ---- packed: two columns a byte (paper 02, request 6). The RAM has half as many bytes, and 5 can't occur
-
-pub fn packed_power_on(part: u8, chips: Chips, ram: &[u8]) -> PowerOn
-    ensures { λ r. ⌜ r ≡ powerOnPacked part chips (now (ram .entry)) ⌝ }
-    ensures { λ r. ⌜ checkNumbers (r .check) ≡ checkNumbers (powerOnPacked part chips (now (ram .entry)) .check) ⌝ }
-{
-    power_on_in(part, chips, ram, true)
-}
-
-pub fn packed_transfer(
-    part: u8,
-    chips: Chips,
-    registers: Both,
-    ram: &mut [u8],
-    bytes: &[u8],
-    bits: u8,
-) -> Transferred
-    ensures { λ r. ⌜ record { result = r; ram = now (ram .exit) } ≡ transferPacked part chips registers (now (ram .entry)) (sent (now (bytes .entry)) bits) ⌝ }
-    ensures { λ r. ⌜ numbers (partOf part) (r .answer) ≡ numbers (partOf part) (transferPacked part chips registers (now (ram .entry)) (sent (now (bytes .entry)) bits) .result .answer) ⌝ }
-{
-    transfer_in(part, chips, registers, ram, true, bytes, bits)
 }
 
 pub fn packed_picture(

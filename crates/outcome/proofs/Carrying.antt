@@ -1,30 +1,22 @@
 -- What holds while a log's transfers are carried out: what is left gives the state at the end.
 -- Assumes nothing.
-use mathlib.Core.Path.{_≡_, sym, ap, _∙_}
+use mathlib.Core.Path.{_≡_}
 use mathlib.Core.List.{List}
-use Prim.Native.Nat.{ℕ, _+_, _-_, _≤_}
+use Prim.Native.Nat.{ℕ, _+_, _-_}
 use native.Mathlib.Omega.{arith}
 use lib.ListN.{length, take, drop}
-use lib.Seq.{drop-drop}
-use Rattle.lemmas.proofs.Lists.{drop-take}
 use Rattle.sheet.specs.declared.Chips.{Chips}
 use Rattle.sheet.specs.Parts.{pcf8532}
 use Rattle.sheet.specs.Protocol.{whole}
 use Rattle.sheet.specs.Long.{State, After, stateOf, transferCall, stateAfterAll}
 use Rattle.log_sheet.specs.Logs.{seenBytes, transfersIn, logTransfers}
 use Rattle.records.specs.Found.{recordsAt}
-use Rattle.records.proofs.Found.{Next}
+use Rattle.records.proofs.Found.{Next, transfer-in}
 
 -- the records from a place on, carried out from here, end as the whole log does
 pub record Carrying (log : List ℕ) (n : Chips) (s₀ s : State) (place : ℕ) : Type 0 where
   pub state : stateAfterAll pcf8532 n s (transfersIn (seenBytes log) (recordsAt (seenBytes log) log place .bodies)) ≡ stateAfterAll pcf8532 n s₀ (logTransfers log)
   pub long : length (s .ram) ≡ length (s₀ .ram)
-
--- the transfer in a body is the part of the log after what was seen
-transfer-in : (seen start size : ℕ) (log : List ℕ) → seen ≤ size → take (start + size - (start + seen)) (drop (start + seen) log) ≡ drop seen (take size (drop start log))
-transfer-in seen start size log h =
-    let less : start + size - (start + seen) ≡ size - seen = omega arith in
-    rw less (ap (take (size - seen)) (sym (drop-drop seen start log)) ∙ sym (drop-take seen size (drop start log) h))
 
 pub next-record : {log : List ℕ} {n : Chips} {s₀ s : State} {place start size count : ℕ} {t : After} → Carrying log n s₀ s place → Next (seenBytes log) log place start size count
     → t ≡ transferCall pcf8532 n (s .registers) (s .ram) (whole (take (start + size - (start + seenBytes log)) (drop (start + seenBytes log) log)))

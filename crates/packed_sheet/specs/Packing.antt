@@ -5,11 +5,9 @@ use mathlib.Core.List.{List, [], _∷_, _++_}
 use lib.Count.{ones, onesIn}
 use lib.Dec.{T, eqb}
 use lib.ListN.{length, replicate}
-use Rattle.sheet.specs.declared.Both.{Both}
-use Rattle.sheet.specs.declared.Chips.{Chips}
 use Rattle.sheet.specs.Refusals.{numbers, pictureNumbers, checkNumbers}
-use Rattle.sheet.specs.Registers.{powerOn, marked, inRange, backplanes, bankRow, registersOf}
-use Rattle.sheet.specs.Parts.{Part, within, commandIn, partOf}
+use Rattle.sheet.specs.Registers.{inRange, backplanes, bankRow, registersOf}
+use Rattle.sheet.specs.Parts.{within, commandIn, partOf}
 use Rattle.sheet.specs.Protocol.{heardBy, controlOf, sent, whole, wholeOf, cutData}
 use Rattle.sheet.specs.Checks.{checkPart, checkChips, checkRegisters, overIn, checkRam, checkLength, checkBits, checkSent, faultIn, checkState, checkPowerOn, checkTransfer, checkPicture}
 use Rattle.sheet.specs.Pictures.{shown, pictureOf, litIn}
@@ -20,7 +18,7 @@ use Rattle.packed_sheet.specs.Packed.{unpacked, packed, powerOnPacked, t
 use Rattle.sheet.specs.Starred.{Column, Row, same, holds, oneCount, chipsOn, columnsOn, col}
 use Rattle.sheet.specs.Starred as larger
 use Rattle.sheet.specs.Smaller as smaller
-use Rattle.sheet.specs.Orders.{Fault, refusal, inOrder, is}
+use Rattle.sheet.specs.Orders.{Fault, refusal, inOrder, is, part, chips, both}
 
 -- ---- columns and bytes: the even column in the low four bits
 
@@ -87,9 +85,6 @@ byHand =
 
 -- ---- 4 means half the columns, 160 bytes for the two chips of both groups; every byte is taken
 
-abbrev chips : Bool → Chips
-chips many = record { zero = cond many 5 1; one = 1 }
-
 abbrev answered : ℕ → ℕ → Bool
 answered size number = same (checkNumbers (powerOnPacked 0 (chips false) (replicate size 255) .check)) (number ∷ 0 ∷ 0 ∷ 0 ∷ 0 ∷ 0 ∷ [])
 
@@ -98,15 +93,9 @@ lengths = answered 160 0 && (answered 159 4 && (answered 161 4 && answered 320 4
 
 -- ---- the orders
 
-abbrev part : Bool → ℕ
-part unknown = cond unknown 2 0
-
 -- 80 bytes a chip, or one more
 abbrev ram : Bool → Bool → List ℕ
 ram many long = replicate (cond many 480 160 + cond long 1 0) 255
-
-abbrev both : Bool → Both
-both bad = record { zero = powerOn; one = record { e = 0; b = 0; m = cond bad 4 0; p = 0; a = 0; i = 0; o = 0; ab = 0; bf = 0; unknown = marked 0 } }
 
 abbrev state : List Fault
 state = refusal 16 0 ∷ refusal 3 0 ∷ refusal 6 0 ∷ refusal 4 0 ∷ []

@@ -3,12 +3,13 @@
 use mathlib.Core.Path.{_≡_, refl, sym, ap, subst, _∙_}
 use mathlib.Core.Bool.{Bool, true, false, cond}
 use mathlib.Core.List.{List, [], _∷_}
-use Prim.Native.Nat.{ℕ, _+_, _≤_}
+use Prim.Native.Nat.{ℕ, _+_, _-_, _≤_}
 use native.Mathlib.Omega.{arith}
 use lib.Dec.{leb}
 use lib.ListN.{length, take, drop, length-drop}
 use lib.Seq.{drop-drop}
 use borrow.Author.Tests.{leb-true, leb-false}
+use Rattle.lemmas.proofs.Lists.{drop-take}
 use denote.Enum.Declared.{tagOf}
 use types.Run.{OneOf, miss}
 use Rattle.log_sheet.specs.Records.{Records, lengthOf, noRecords, tornAt, shortAt, withBody, nothing-left, one-byte-left, cut-short, too-short, whole}
@@ -25,6 +26,12 @@ pub record Next (seen : ℕ) (log : List ℕ) (at start size count : ℕ) : Type
   pub inside : start + size ≤ length log
   pub says : count ≡ seenIn (take size (drop start log))
   pub walk : recordsAt seen log at ≡ withBody (take size (drop start log)) (recordsAt seen log (start + size))
+
+-- the transfer in a body is the part of the log after what was seen
+pub transfer-in : (seen start size : ℕ) (log : List ℕ) → seen ≤ size → take (start + size - (start + seen)) (drop (start + seen) log) ≡ drop seen (take size (drop start log))
+transfer-in seen start size log h =
+    let less : start + size - (start + seen) ≡ size - seen = omega arith in
+    rw less (ap (take (size - seen)) (sym (drop-drop seen start log)) ∙ sym (drop-take seen size (drop start log) h))
 
 abbrev pub Found : ℕ → List ℕ → ℕ → Record → Type 0
 Found seen log at (Body start size count) = Next seen log at start size count

@@ -15,8 +15,8 @@ pub mod Agree
 pub mod Lands
 pub mod Cuts
 pub mod Either
-pub mod Pointing
 pub mod Starred
+pub mod Pointing
 pub mod Smaller
 pub mod Blinking
 pub mod Stray

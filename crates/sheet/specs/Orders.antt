@@ -52,12 +52,12 @@ is (t ∷ ts) zero = t
 is (t ∷ ts) (suc i) = is ts i
 
 -- the PCF8532, or a part that is none
-abbrev part : Bool → ℕ
+abbrev pub part : Bool → ℕ
 part unknown = cond unknown 2 0
 
 -- ---- the long account: two chips, or five
 
-abbrev chips : Bool → Chips
+abbrev pub chips : Bool → Chips
 chips many = record { zero = cond many 5 1; one = 1 }
 
 -- 160 bytes a chip, or one more; column 2 holds 0, or 16
@@ -65,7 +65,7 @@ abbrev ram : Bool → Bool → Bool → List ℕ
 ram many long over = replicate 2 0 ++ (cond over 16 0 ∷ replicate (cond many 957 317 + cond long 1 0) 0)
 
 -- group 1's M is 0, or 4
-abbrev both : Bool → Both
+abbrev pub both : Bool → Both
 both bad = record { zero = powerOn; one = record { e = 0; b = 0; m = cond bad 4 0; p = 0; a = 0; i = 0; o = 0; ab = 0; bf = 0; unknown = marked 0 } }
 
 -- a control byte 80, or 81; a command 00, or 0A, further on

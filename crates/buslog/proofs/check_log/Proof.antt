@@ -1,18 +1,11 @@
 -- `buslog::check_log` meets its contract: the head first, and then the records.
 -- Assumes nothing.
-use mathlib.Core.Path.{_≡_, sym, _∙_}
-use Prim.Native.Nat.{ℕ}
-use native.Mathlib.Omega.{arith}
-use Rattle.sheet.specs.declared.Refusal.{Refusal}
-use Rattle.sheet.specs.declared.Check.the-variants.{Passed, Refused}
+use mathlib.Core.Path.{sym, _∙_}
 use Rattle.log_sheet.specs.Logs.{checkLog}
+use Rattle.laws.proofs.Rescued.{never}
 use borrow.Author.Needs.{needs}
 use Rattle.buslog.proofs.check_log.Statement.{statement}
 use Rattle.buslog.proofs.check_log.Tie as tie
-
--- a refused log has not passed
-never : (r : Refusal) {A : Type 0} → Refused r ≡ Passed → A
-never r e = let no : _≡_ {A = ℕ} 0 1 = cc in absurd (omega arith)
 
 returns : tie.Need-returns
 unfolding checkLog

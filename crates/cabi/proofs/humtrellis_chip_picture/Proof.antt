@@ -9,8 +9,8 @@ use Rattle.sheet.specs.Pictures.{Seen}
 use Rattle.sheet.specs.Refusals.{pictureNumbers}
 use Rattle.answers.proofs.Small.{picture-small}
 use Rattle.cabi.specs.Calls.{chipPictureC}
-use Rattle.cabi.proofs.Said.{said}
-use Rattle.cabi.proofs.Sizes.{first-sized, second-sized}
+use Rattle.lent_long.proofs.Said.{said}
+use Rattle.lent_long.proofs.Sizes.{first-sized, second-sized}
 use borrow.Author.Needs.{needs}
 use Rattle.cabi.proofs.humtrellis_chip_picture.Statement.{statement}
 use Rattle.cabi.proofs.humtrellis_chip_picture.Tie as tie
@@ -26,19 +26,6 @@ returns c = let put = c .before .before in
     said (eqb (length (a .chip .now)) 174) (a .out .now) (a .answer .now) (read .before .if1 .taken)
     (numbered .picture-numbers .ensures ∙ ap (λ (s : Seen). pictureNumbers (s .result)) same) (ap (λ (s : Seen). s .out) same) (put .put-numbers .ensures)
 
-returns-2 : tie.Need-returns-2
-unfolding chipPictureC
-returns-2 c = rw (c .if1 .left) refl
-
 pub humtrellis-chip-picture-spec : {M : Type 1} → statement M
-humtrellis-chip-picture-spec =
-    tie.close
-    (tie.spec
-    (λ c κs. search (needs, first-sized))
-    (λ c κs. tt)
-    (λ c κs. tt)
-    (λ c κs. search (needs, second-sized, picture-small))
-    (λ c. search needs)
-    (λ c. search needs)
-    returns
-    returns-2)
+unfolding chipPictureC
+humtrellis-chip-picture-spec = tie.close (tie.spec (λ c κs. search (needs, first-sized)) (λ c κs. tt) (λ c κs. tt) (λ c κs. search (needs, second-sized, picture-small)) (λ c. search needs) (λ c. search needs) returns (λ c. rw (c .if1 .left) refl))

@@ -3,7 +3,7 @@
 use mathlib.Core.Path.{refl}
 use Rattle.answers.proofs.Small.{check-small}
 use Rattle.cabi.specs.Calls.{chipPowerOnC}
-use Rattle.cabi.proofs.Sizes.{first-sized, second-sized}
+use Rattle.lent_long.proofs.Sizes.{first-sized, second-sized}
 use borrow.Author.Needs.{needs}
 use Rattle.cabi.proofs.humtrellis_chip_power_on.Statement.{statement}
 use Rattle.cabi.proofs.humtrellis_chip_power_on.Tie as tie
@@ -17,20 +17,6 @@ returns c = let put = c .before .before in
     let read = done .before in
     rw (read .before .before .if1 .taken, put .put-numbers .ensures .0, put .put-numbers .ensures .1, said .check-numbers .ensures, written .put-chip .ensures, done .power-on .ensures .0, read .chip-of .ensures)
 
-returns-2 : tie.Need-returns-2
-unfolding chipPowerOnC
-returns-2 c = rw (c .if1 .left) refl
-
 pub humtrellis-chip-power-on-spec : {M : Type 1} → statement M
-humtrellis-chip-power-on-spec =
-    tie.close
-    (tie.spec
-    (λ c κs. search (needs, first-sized))
-    (λ c κs. tt)
-    (λ c κs. search (needs, first-sized))
-    (λ c κs. tt)
-    (λ c κs. search (needs, second-sized, check-small))
-    (λ c. search needs)
-    (λ c. search needs)
-    returns
-    returns-2)
+unfolding chipPowerOnC
+humtrellis-chip-power-on-spec = tie.close (tie.spec (λ c κs. search (needs, first-sized)) (λ c κs. tt) (λ c κs. search (needs, first-sized)) (λ c κs. tt) (λ c κs. search (needs, second-sized, check-small)) (λ c. search needs) (λ c. search needs) returns (λ c. rw (c .if1 .left) refl))

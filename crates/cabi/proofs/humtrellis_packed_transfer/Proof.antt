@@ -8,7 +8,7 @@ use Rattle.cabi.proofs.humtrellis_packed_transfer.Tie as tie
 
 returns : tie.Need-returns
 unfolding packedTransferC
-returns c = let t = c .before .before .before .before .before .before .transfer in repacked (t .last .1 .1 .1 .1 .0) (t .ensures)
+returns c = let t = c .before .before .before .before .before .before .transfer in repacked (t .last .1 .1 .1 .0) (t .ensures)
 
 pub humtrellis-packed-transfer-spec : {M : Type 1} → statement M
 humtrellis-packed-transfer-spec = tie.close (tie.spec (λ c κs. search needs) (λ c. search needs) (λ c. search needs) (λ c. search needs) returns)

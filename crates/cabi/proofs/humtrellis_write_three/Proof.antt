@@ -9,8 +9,8 @@ use Rattle.sheet.specs.Written.{WrittenAfter}
 use Rattle.writer_sheet.specs.Three.{writeThreePart}
 use Rattle.answers.proofs.Small.{written-small}
 use Rattle.cabi.specs.Calls.{chipsOf, writeThreeC}
-use Rattle.cabi.proofs.Said.{said}
-use Rattle.cabi.proofs.Sizes.{first-sized, second-sized}
+use Rattle.lent_long.proofs.Said.{said}
+use Rattle.lent_long.proofs.Sizes.{first-sized, second-sized}
 use borrow.Author.Needs.{needs}
 use Rattle.cabi.proofs.humtrellis_write_three.Statement.{statement}
 use Rattle.cabi.proofs.humtrellis_write_three.Tie as tie
@@ -22,23 +22,10 @@ returns c = let put = c .before .before in
     let written = numbered .before .before .before in
     let read = written .before .before in
     let a = read .before .before .before .before .before .before .args in
-    let same = written .write-three .ensures .0 ∙ ap (λ (r : Both). writeThreePart (a .part) (chipsOf (a .chips0) (a .chips1)) r (a .group) (a .wanted .now) (a .out .now)) (read .both-of .ensures) in
+    let same = written .write-three .ensures .0 ∙ ap (λ (r : Both). writeThreePart (a .part) (chipsOf (a .zero) (a .one)) r (a .group) (a .wanted .now) (a .out .now)) (read .both-of .ensures) in
     said (eqb (length (a .registers .now)) 24) (a .out .now) (a .answer .now) (read .before .if1 .taken)
     (numbered .written-numbers .ensures ∙ ap (λ (s : WrittenAfter). writtenNumbers (s .result)) same) (ap (λ (s : WrittenAfter). s .out) same) (put .put-numbers .ensures)
 
-returns-2 : tie.Need-returns-2
-unfolding writeThreeC
-returns-2 c = rw (c .if1 .left) refl
-
 pub humtrellis-write-three-spec : {M : Type 1} → statement M
-humtrellis-write-three-spec =
-    tie.close
-    (tie.spec
-    (λ c κs. search (needs, first-sized))
-    (λ c κs. tt)
-    (λ c κs. tt)
-    (λ c κs. search (needs, second-sized, written-small))
-    (λ c. search needs)
-    (λ c. search needs)
-    returns
-    returns-2)
+unfolding writeThreeC
+humtrellis-write-three-spec = tie.close (tie.spec (λ c κs. search (needs, first-sized)) (λ c κs. tt) (λ c κs. tt) (λ c κs. search (needs, second-sized, written-small)) (λ c. search needs) (λ c. search needs) returns (λ c. rw (c .if1 .left) refl))

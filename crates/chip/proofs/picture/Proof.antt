@@ -12,12 +12,12 @@ use Rattle.sheet.specs.declared.Pictured.{Pictured}
 use Rattle.sheet.specs.Parts.{partOf}
 use Rattle.sheet.specs.Registers.{inRange}
 use Rattle.sheet.specs.Checks.{orElse, checkPart}
-use Rattle.sheet.specs.Pictures.{pictureOf, Seen, seen}
+use Rattle.sheet.specs.Pictures.{pictureOf, seen}
 use Rattle.sheet.specs.Plain.{ownColumns, checkChipPicture, chipPictureCall, chipPicturePart}
-use Rattle.sheet.specs.Refusals.{pictureNumbers}
 use Rattle.laws.proofs.Ranges.{range-of}
 use Rattle.laws.proofs.Fits.{both-pass, chip-picture-passed}
 use Rattle.laws.proofs.First.{seen-first}
+use Rattle.laws.proofs.Numbered.{numbered-picture}
 use borrow.Author.Needs.{needs}
 use Rattle.chip.proofs.picture.Statement.{statement}
 use Rattle.chip.proofs.picture.Tie as tie
@@ -29,10 +29,6 @@ unfolding chipPicturePart chipPictureCall
 by-check part c phase out k e =
     seen-first (checkPart part) (checkChipPicture (partOf part) c phase (length out)) _ out
     ∙ ap (λ (k : Check). seen k (pictureOf (c .registers) phase (ownColumns (partOf part) c)) out) e
-
--- and so its numbers
-numbered : {a b : Seen} → a ≡ b → (a ≡ b) × (pictureNumbers (a .result) ≡ pictureNumbers (b .result))
-numbered e = (e, ap (λ (k : Seen). pictureNumbers (k .result)) e)
 
 -- past the match the checks have passed
 passes : (c : tie.After-enum-told) → let a = c .before .before .before .before .args in orElse (checkPart (a .part)) (checkChipPicture (partOf (a .part)) (a .chip) (a .phase) (length (a .out .now))) ≡ Passed
@@ -54,13 +50,13 @@ show-own-requires c κs = let t = c .before .before in
 
 returns : tie.Need-returns
 returns c = let a = c .before .before .before .before .before .args in
-    numbered (sym (by-check (a .part) (a .chip) (a .phase) (a .out .now) _ (sym (c .before .before .before .check-picture .ensures) ∙ c .before .refusal .given .1)))
+    numbered-picture (sym (by-check (a .part) (a .chip) (a .phase) (a .out .now) _ (sym (c .before .before .before .check-picture .ensures) ∙ c .before .refusal .given .1)))
 
 returns-2 : tie.Need-returns-2
 returns-2 c = let t = c .before .before .before .before .before in
     let a = t .before .before .before .before .args in
     let e = c .before .before .show-own .ensures in
-    numbered ((λ j. record { result = Pictured.Lit (e .1 j); out = e .0 j }) ∙ sym (by-check (a .part) (a .chip) (a .phase) (a .out .now) _ (passes t)))
+    numbered-picture ((λ j. record { result = Pictured.Lit (e .1 j); out = e .0 j }) ∙ sym (by-check (a .part) (a .chip) (a .phase) (a .out .now) _ (passes t)))
 
 pub picture-spec : {M : Type 1} → statement M
 picture-spec = tie.close (tie.spec (λ c κs. search needs) (λ c. search needs) enum-told show-own-requires returns (λ c. search needs) returns-2)

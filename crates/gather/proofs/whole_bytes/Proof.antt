@@ -1,19 +1,16 @@
 -- `gather::whole_bytes` meets its contract, mode by mode.
 -- Assumes nothing.
-use mathlib.Core.Path.{_≡_, ap, _∙_, sym, subst}
-use Prim.Native.Nat.{ℕ, _*_, _≤_}
+use mathlib.Core.Path.{_≡_, ap, _∙_, sym}
+use Prim.Native.Nat.{ℕ}
 use native.Mathlib.Omega.{arith}
 use lib.ListN.{length}
 use denote.Ref.{now}
 use Rattle.sheet.specs.Registers.{bankRow}
-use Rattle.sheet.specs.Data.{widthOf}
 use Rattle.writer_sheet.specs.Writer.{dataFrom}
+use Rattle.laws.proofs.Runs.{as-wide}
 use borrow.Author.Needs.{needs}
 use Rattle.gather.proofs.whole_bytes.Statement.{statement}
 use Rattle.gather.proofs.whole_bytes.Tie as tie
-
-as-wide : (k m n size : ℕ) → m ≡ k → widthOf m * n ≤ size → widthOf k * n ≤ size
-as-wide k m n size e h = subst (λ (i : ℕ). widthOf i * n ≤ size) e h
 
 static-data-requires : tie.Need-static-data-requires
 static-data-requires c κs = let s = c .before .before .before .before in

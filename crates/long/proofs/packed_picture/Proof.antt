@@ -1,7 +1,7 @@
 -- `long::packed_picture` meets its contract.
 -- Assumes nothing.
 use Rattle.packed_sheet.specs.Packed.{picturePacked}
-use Rattle.long.proofs.Numbered.{numbered-picture}
+use Rattle.laws.proofs.Numbered.{numbered-picture}
 use borrow.Author.Needs.{needs}
 use Rattle.long.proofs.packed_picture.Statement.{statement}
 use Rattle.long.proofs.packed_picture.Tie as tie

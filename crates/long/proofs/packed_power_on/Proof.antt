@@ -1,7 +1,7 @@
 -- `long::packed_power_on` meets its contract.
 -- Assumes nothing.
 use Rattle.packed_sheet.specs.Packed.{powerOnPacked}
-use Rattle.long.proofs.Numbered.{numbered-power-on}
+use Rattle.laws.proofs.Numbered.{numbered-power-on}
 use borrow.Author.Needs.{needs}
 use Rattle.long.proofs.packed_power_on.Statement.{statement}
 use Rattle.long.proofs.packed_power_on.Tie as tie

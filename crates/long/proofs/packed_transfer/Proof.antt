@@ -3,7 +3,7 @@
 use mathlib.Core.Path.{sym, ap, _∙_}
 use Rattle.packed_sheet.specs.Packed.{packedAfter, transferPacked}
 use Rattle.laws.proofs.Packed.{packed-unpacked}
-use Rattle.long.proofs.Numbered.{numbered}
+use Rattle.laws.proofs.Numbered.{numbered}
 use borrow.Author.Needs.{needs}
 use Rattle.long.proofs.packed_transfer.Statement.{statement}
 use Rattle.long.proofs.packed_transfer.Tie as tie

@@ -1,6 +1,6 @@
 -- `long::picture` meets its contract.
 -- Assumes nothing.
-use Rattle.long.proofs.Numbered.{numbered-picture}
+use Rattle.laws.proofs.Numbered.{numbered-picture}
 use borrow.Author.Needs.{needs}
 use Rattle.long.proofs.picture.Statement.{statement}
 use Rattle.long.proofs.picture.Tie as tie

@@ -1,6 +1,6 @@
 -- `long::power_on` meets its contract.
 -- Assumes nothing.
-use Rattle.long.proofs.Numbered.{numbered-power-on}
+use Rattle.laws.proofs.Numbered.{numbered-power-on}
 use borrow.Author.Needs.{needs}
 use Rattle.long.proofs.power_on.Statement.{statement}
 use Rattle.long.proofs.power_on.Tie as tie

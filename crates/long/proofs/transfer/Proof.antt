@@ -1,6 +1,6 @@
 -- `long::transfer` meets its contract.
 -- Assumes nothing.
-use Rattle.long.proofs.Numbered.{numbered}
+use Rattle.laws.proofs.Numbered.{numbered}
 use borrow.Author.Needs.{needs}
 use Rattle.long.proofs.transfer.Statement.{statement}
 use Rattle.long.proofs.transfer.Tie as tie

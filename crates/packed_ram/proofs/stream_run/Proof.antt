@@ -1,22 +1,19 @@
 -- `packed_ram::stream_run` meets its contract, mode by mode.
 -- Assumes nothing.
-use mathlib.Core.Path.{_≡_, ap, sym, _∙_, subst}
-use Prim.Native.Nat.{ℕ, _-_, _*_, _≤_}
+use mathlib.Core.Path.{_≡_, ap, sym, _∙_}
+use Prim.Native.Nat.{ℕ, _-_, _*_}
 use native.Mathlib.Omega.{arith}
 use lib.ListN.{length}
 use denote.Ref.{now}
 use Rattle.sheet.specs.Registers.{bankRow}
-use Rattle.sheet.specs.Data.{widthOf}
 use Rattle.sheet.specs.Runs.{putRun}
 use Rattle.packed_sheet.specs.Packed.{unpacked}
 use Rattle.laws.proofs.Packed.{length-unpacked}
 use Rattle.packed_ram.specs.Stream.{stream}
+use Rattle.laws.proofs.Runs.{as-wide}
 use borrow.Author.Needs.{needs}
 use Rattle.packed_ram.proofs.stream_run.Statement.{statement}
 use Rattle.packed_ram.proofs.stream_run.Tie as tie
-
-as-wide : (k m n left : ℕ) → m ≡ k → widthOf m * n ≤ left → widthOf k * n ≤ left
-as-wide k m n left e h = subst (λ (i : ℕ). widthOf i * n ≤ left) e h
 
 static-run-requires : tie.Need-static-run-requires
 static-run-requires c κs = let s = c .before .before .before .before in

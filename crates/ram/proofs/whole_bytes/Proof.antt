@@ -1,19 +1,16 @@
 -- `ram::whole_bytes` meets its contract, mode by mode.
 -- Assumes nothing.
-use mathlib.Core.Path.{_≡_, ap, _∙_, sym, subst}
-use Prim.Native.Nat.{ℕ, _-_, _*_, _≤_}
+use mathlib.Core.Path.{_≡_, ap, _∙_, sym}
+use Prim.Native.Nat.{ℕ, _-_}
 use native.Mathlib.Omega.{arith}
 use lib.ListN.{length}
 use denote.Ref.{now}
 use Rattle.sheet.specs.Registers.{bankRow}
-use Rattle.sheet.specs.Data.{widthOf}
 use Rattle.sheet.specs.Runs.{putRun}
+use Rattle.laws.proofs.Runs.{as-wide}
 use borrow.Author.Needs.{needs}
 use Rattle.ram.proofs.whole_bytes.Statement.{statement}
 use Rattle.ram.proofs.whole_bytes.Tie as tie
-
-as-wide : (k m n left : ℕ) → m ≡ k → widthOf m * n ≤ left → widthOf k * n ≤ left
-as-wide k m n left e h = subst (λ (i : ℕ). widthOf i * n ≤ left) e h
 
 static-run-requires : tie.Need-static-run-requires
 static-run-requires c κs = let s = c .before .before .before .before in

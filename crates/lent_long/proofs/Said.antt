@@ -6,7 +6,7 @@ use mathlib.Core.List.{List}
 use Prim.Native.Nat.{ℕ}
 use lib.Dec.{eqb}
 use lib.ListN.{length, getD}
-use Rattle.cabi.specs.Calls.{saidC}
+use Rattle.lent_long.specs.LongCalls.{saidC}
 
 pub said : (whole : Bool) (buffer answer : List ℕ) {numbers ns last after put : List ℕ} {n : ℕ} → (whole && eqb (length answer) 6) ≡ true → ns ≡ numbers → last ≡ after
     → (n ≡ getD ns 0 0) × (put ≡ ns) → saidC whole numbers after buffer answer ≡ record { number = n; buffer = last; answer = put }
