@@ -53,7 +53,7 @@ install: all apart
 	install -m 644 $(addprefix $(PACKAGE)/, $(CMAKE_FILES)) '$(ROOT)/lib/cmake/humtrellis'
 	install -m 644 LICENSE docs/C.md '$(ROOT)/share/doc/humtrellis'
 	install -d '$(DECODER)/buslog'
-	install -m 644 tools/sigrok/pcf8532/*.py '$(DECODER)'
+	install -m 644 tools/sigrok/pcf8532/*.py bindings/python/humtrellis.py '$(DECODER)'
 	install -m 644 $(addprefix tools/buslog/, __init__.py check.py log.py text.py) '$(DECODER)/buslog'
 	install -m 755 $(PACKAGE)/$(SHARED) '$(DECODER)'
 

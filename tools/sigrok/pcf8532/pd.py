@@ -5,8 +5,9 @@ from pathlib import Path
 
 import sigrokdecode as srd
 
-# The library's module and bin/buslog's are beside this file.
-sys.path.insert(0, str(Path(__file__).parent))
+# The library's module and bin/buslog's: installed they are beside this file, and in the repository in folders of their own.
+HERE = Path(__file__).resolve().parent
+sys.path[:0] = [str(HERE)] if (HERE / "buslog").exists() else [str(HERE.parents[1]), str(HERE.parents[2] / "bindings" / "python")]
 
 from buslog.check import NOTHING, Model, about, warned  # noqa: E402
 from buslog.log import HEAD, LIMIT, recorded  # noqa: E402
