@@ -1,18 +1,20 @@
-//! Help and wrong usage of each program, and the one script of both called by a link.
+//! Help and wrong usage of each program, and their one script called by a link.
 
 use crate::run::{lines, run, scratch, Ended, ROOT};
 use std::fs;
 use std::os::unix::fs::symlink;
 
-const PROGRAMS: [&str; 2] = ["bin/replay", "bin/rescue"];
+/// The programs that take a log by name or on standard input.
+const READERS: [&str; 2] = ["bin/replay", "bin/rescue"];
 
 fn usage(program: &str) -> String {
-    format!("usage: {program} [FILE]")
+    let words = if program == "bin/hex" { "LOG GROUP" } else { "[FILE]" };
+    format!("usage: {program} {words}\n")
 }
 
 #[test]
 fn help() {
-    for program in PROGRAMS {
+    for program in ["bin/replay", "bin/rescue", "bin/hex"] {
         for option in ["-h", "--help"] {
             let ended = run(&format!("{program} {option}"));
             assert_eq!((ended.status, ended.err.as_str()), (0, ""));
@@ -21,21 +23,29 @@ fn help() {
     }
 }
 
+/// Words that a program does not take: its usage on standard error, and nothing else.
+fn refuses(program: &str, words: &str) {
+    let ended = run(&format!("{program} {words}"));
+    assert_eq!((ended.status, ended.out.as_str()), (2, ""), "{program} {words}");
+    assert!(ended.err.starts_with(&usage(program)), "{program} {words}: {}", ended.err);
+}
+
 #[test]
 fn wrong() {
-    for program in PROGRAMS {
+    for program in READERS {
         for words in ["one two", "-x", "--", "-", "--help more"] {
-            let ended = run(&format!("{program} {words}"));
-            assert_eq!((ended.status, ended.out.as_str()), (2, ""));
-            assert!(ended.err.starts_with(&usage(program)), "{}", ended.err);
+            refuses(program, words);
         }
+    }
+    for words in ["", "one", "one 2", "one -1", "one zero", "one 0 more", "-x 0", "--help more"] {
+        refuses("bin/hex", words);
     }
 }
 
 /// Nobody types a log: a terminal as standard input shows how to call the program.
 #[test]
 fn terminal_as_input() {
-    for program in PROGRAMS {
+    for program in READERS {
         let ended = run(&format!("script -qec {program} /dev/null </dev/null"));
         assert_eq!(ended.status, 2);
         assert!(ended.out.starts_with(&usage(program)), "{}", ended.out);
