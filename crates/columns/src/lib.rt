@@ -7,7 +7,8 @@ ghost use Prim.Native.Nat.{_+_, _*_, _≤_, _<_};
 ghost use lib.Dec.{ltb};
 ghost use Rattle.sheet.specs.Parts.{partOf};
 ghost use Rattle.sheet.specs.Registers.{inRange, backplanes};
-ghost use Rattle.sheet.specs.Plain.{putRows, afterColumn, chipData, acknowledgesData};
+ghost use Rattle.sheet.specs.Plain.{putRows, chipData, acknowledgesData};
+ghost use Rattle.columns.specs.Stored.{storedIn};
 ghost use Rattle.sheet.specs.Places.{advanced};
 ghost use Rattle.sheet.specs.Data.{bitOf, withRow};
 
@@ -51,52 +52,42 @@ fn advance(part: u8, mut registers: Registers) -> Registers
     }
 }
 
-// The chip's columns after column j of a byte: stored if A is the chip's subaddress.
-fn stored(part: u8, chip: Chip, byte: u8, j: usize) -> [u8; 160]
-    requires { ⌜ (inRange (partOf part) (chip .registers) ≡ true) × (backplanes (chip .registers) * j < 8) ⌝ }
-    ensures { λ r. ⌜ r ≡ afterColumn (partOf part) byte j chip .columns ⌝ }
+// The column at P after column j of a byte: new rows if A is the chip's subaddress.
+fn stored(registers: Registers, subaddress: u8, byte: u8, j: usize, column: u8) -> u8
+    requires { ⌜ (registers .m < 4) × (registers .i < 2) × (backplanes registers * j < 8) ⌝ }
+    ensures { λ r. ⌜ r ≡ storedIn registers subaddress byte j column ⌝ }
 {
-    let registers = chip.registers;
-    let mut columns = chip.columns;
-    if registers.a == chip.subaddress as usize {
+    if registers.a == subaddress as usize {
         let m = arithmetic::backplanes(registers);
         let b = arithmetic::bank_row(m, registers.i);
-        let p = registers.p;
-        columns[p] = put_rows(m, b, m * j, byte, columns[p]);
-        columns
+        put_rows(m, b, m * j, byte, column)
     } else {
-        columns
+        column
     }
 }
 
-// The chip after column j of a byte: P and A move, stored or not.
-fn column(part: u8, chip: Chip, byte: u8, j: usize) -> Chip
-    requires { ⌜ (inRange (partOf part) (chip .registers) ≡ true) × (backplanes (chip .registers) * j < 8) ⌝ }
-    ensures { λ r. ⌜ r ≡ afterColumn (partOf part) byte j chip ⌝ }
-{
-    let columns = stored(part, chip, byte, j);
-    Chip {
-        columns,
-        sa0: chip.sa0,
-        subaddress: chip.subaddress,
-        registers: advance(part, chip.registers),
-    }
-}
-
-// The chip after a data byte: all its columns, one after the other.
+// The chip after a data byte: all its columns, one after the other; P and A move, stored or not. The columns are copied once, and not a column.
 pub fn take_data(part: u8, chip: Chip, byte: u8) -> Chip
     requires { ⌜ inRange (partOf part) (chip .registers) ≡ true ⌝ }
     ensures { λ r. ⌜ r ≡ chipData (partOf part) byte chip ⌝ }
 {
     let width = arithmetic::width(arithmetic::backplanes(chip.registers));
-    let mut moved = chip;
+    let mut columns = chip.columns;
+    let mut registers = chip.registers;
     let mut j = 0;
     while j < width {
-        let next = column(part, moved, byte, j);
-        moved = next;
+        let p = registers.p;
+        columns[p] = stored(registers, chip.subaddress, byte, j, columns[p]);
+        let next = advance(part, registers);
+        registers = next;
         j += 1;
     }
-    moved
+    Chip {
+        columns,
+        sa0: chip.sa0,
+        subaddress: chip.subaddress,
+        registers,
+    }
 }
 
 // Whether the chip acknowledges a data byte, whatever it holds: A is its subaddress at the byte's last column.
