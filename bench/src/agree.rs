@@ -1,9 +1,10 @@
 //! Before anything is timed: all ways must give the same answers, registers, columns, pictures and transfers for wanted rows.
 
-use crate::library::Numbers;
+use crate::same::{agreed, answered, pictured, transferred, written};
 use crate::samples::{self, Bus, Setup, Writing, STARTS};
-use crate::ways::{Picture, Transfer, Writer};
-use crate::ways::{PACKED_PICTURES, PACKED_TRANSFERS, PICTURES, TRANSFERS, WRITERS};
+use crate::ways::{PACKED_PICTURES, PACKED_TRANSFERS, PICTURES, THREE_WRITERS, TRANSFERS, WRITERS};
+use crate::{accounts, growth, prices, replay, short, three};
+use humtrellis::raw::THREE;
 use humtrellis_tests::generate::{self, shape};
 use humtrellis_tests::model::{REGISTERS, SET, WHOLE};
 use humtrellis_tests::random::Random;
@@ -13,54 +14,6 @@ const GENERATED: u64 = 40_000;
 /// More bytes than any transfer for wanted rows has.
 const ROOM: usize = 360;
 
-/// What a transfer leaves, or what a picture or the writer gives.
-type Outcome = (Numbers, Bus, Vec<u8>);
-
-fn transferred(transfer: Transfer, before: &Bus, bytes: &[u8], bits: u8) -> Outcome {
-    let mut bus = before.clone();
-    let answer = bus.send(transfer, bytes, bits);
-    (answer, bus, Vec::new())
-}
-
-fn pictured(picture: Picture, bus: &Bus, [group, phase]: [u8; 2], length: usize) -> Outcome {
-    let mut out = vec![0xEE; length];
-    let answer = picture(bus.view(group, phase), &mut out);
-    (answer, bus.clone(), out)
-}
-
-fn written(writer: Writer, writing: &Writing, length: usize) -> Outcome {
-    let mut out = vec![0xEE; length];
-    let answer = writer(writing.asked(), &mut out);
-    (answer, writing.bus.clone(), out)
-}
-
-/// The outcome that all ways share.
-fn agreed<Way: Copy>(
-    what: &str,
-    ways: &[(&str, Way)],
-    outcome: impl Fn(Way) -> Outcome,
-) -> Result<Outcome, String> {
-    let first = outcome(ways[0].1);
-    for (name, way) in &ways[1..] {
-        let other = outcome(*way);
-        if other != first {
-            let (numbers, others) = (first.0, other.0);
-            return Err(format!(
-                "{what}: library and {name} differ (answers {numbers:?} and {others:?})"
-            ));
-        }
-    }
-    Ok(first)
-}
-
-/// What is timed must be taken too: the bus that it leaves.
-fn taken(what: &str, (answer, bus, _): Outcome) -> Result<Bus, String> {
-    match answer[0] {
-        0 => Ok(bus),
-        _ => Err(format!("{what}: refused {answer:?}")),
-    }
-}
-
 fn timed_transfers(setup: Setup) -> Result<(), String> {
     let what = format!("transfer, {}", setup.name());
     let mut bus = setup.bus(&mut Random::new(0));
@@ -68,7 +21,7 @@ fn timed_transfers(setup: Setup) -> Result<(), String> {
         let outcome = agreed(&what, &TRANSFERS, |way| {
             transferred(way, &bus, &bytes, WHOLE)
         })?;
-        bus = taken(&what, outcome)?;
+        bus = answered(&what, 0, outcome)?;
     }
     for start in STARTS {
         let mut bus = bus.packed();
@@ -76,7 +29,7 @@ fn timed_transfers(setup: Setup) -> Result<(), String> {
             let outcome = agreed(&format!("packed {what}"), &PACKED_TRANSFERS, |way| {
                 transferred(way, &bus, &bytes, WHOLE)
             })?;
-            bus = taken(&what, outcome)?;
+            bus = answered(&what, 0, outcome)?;
         }
     }
     Ok(())
@@ -89,12 +42,12 @@ fn timed_pictures(setup: Setup) -> Result<(), String> {
             let outcome = agreed(&what, &PICTURES, |way| {
                 pictured(way, &bus, [group as u8, 0], bus.columns(group))
             })?;
-            taken(&what, outcome)?;
+            answered(&what, 0, outcome)?;
             let packed = bus.packed();
             let outcome = agreed(&format!("packed {what}"), &PACKED_PICTURES, |way| {
                 pictured(way, &packed, [group as u8, 0], bus.columns(group))
             })?;
-            taken(&what, outcome)?;
+            answered(&what, 0, outcome)?;
         }
     }
     Ok(())
@@ -106,7 +59,7 @@ fn timed_writings(setup: Setup) -> Result<(), String> {
         let outcome = agreed(&what, &WRITERS, |way| {
             written(way, &writing, setup.written_bytes())
         })?;
-        taken(&what, outcome)?;
+        answered(&what, 0, outcome)?;
     }
     Ok(())
 }
@@ -199,9 +152,13 @@ fn generated_rows(seed: u64, random: &mut Random, bus: Bus) -> Result<(), String
         damage_writing(random, &mut writing);
     }
     let what = format!("generated rows {seed}");
-    let (answer, ..) = agreed(&what, &WRITERS, |way| written(way, &writing, ROOM))?;
+    let (answer, _) = agreed(&what, &WRITERS, |way| written(way, &writing, ROOM))?;
     let room = answer[2].saturating_sub(random.below(2));
     agreed(&what, &WRITERS, |way| written(way, &writing, room))?;
+    let what = format!("generated elements {seed}");
+    let (answer, _) = agreed(&what, &THREE_WRITERS, |way| written(way, &writing, THREE))?;
+    let room = answer[2].saturating_sub(random.below(2));
+    agreed(&what, &THREE_WRITERS, |way| written(way, &writing, room))?;
     Ok(())
 }
 
@@ -218,5 +175,10 @@ pub fn check() -> Result<(), String> {
     for seed in 0..GENERATED {
         generated(seed)?;
     }
-    Ok(())
+    short::check()?;
+    three::check()?;
+    prices::check()?;
+    replay::check()?;
+    accounts::check()?;
+    growth::check()
 }

@@ -93,6 +93,71 @@ pub fn write_rows(asked: Asked, out: &mut [u8]) -> Numbers {
     answer
 }
 
+pub fn write_three(asked: Asked, out: &mut [u8]) -> Numbers {
+    let mut answer = [0; ANSWER];
+    // Safety: each pointer goes with the length of the buffer that it points to.
+    unsafe {
+        humtrellis_write_three(
+            asked.part,
+            asked.chips[0],
+            asked.chips[1],
+            asked.registers.as_ptr(),
+            asked.registers.len(),
+            asked.group,
+            asked.rows.as_ptr(),
+            asked.rows.len(),
+            out.as_mut_ptr(),
+            out.len(),
+            answer.as_mut_ptr(),
+            answer.len(),
+        )
+    };
+    answer
+}
+
+/// A price, text to data bytes or back.
+macro_rules! price {
+    ($price:ident by $called:ident) => {
+        pub fn $price(mode: u8, given: &[u8], out: &mut [u8]) -> Numbers {
+            let mut answer = [0; ANSWER];
+            // Safety: each pointer goes with the length of the buffer that it points to.
+            unsafe {
+                $called(
+                    mode,
+                    given.as_ptr(),
+                    given.len(),
+                    out.as_mut_ptr(),
+                    out.len(),
+                    answer.as_mut_ptr(),
+                    answer.len(),
+                )
+            };
+            answer
+        }
+    };
+}
+
+price!(price_write by humtrellis_price_write);
+price!(price_read by humtrellis_price_read);
+
+pub fn plain_transfer(part: u8, chips: &mut [u8], bytes: &[u8], bits: u8) -> Numbers {
+    let mut answer = [0; ANSWER];
+    // Safety: each pointer goes with the length of the buffer that it points to.
+    unsafe {
+        humtrellis_plain_transfer(
+            part,
+            chips.as_mut_ptr(),
+            chips.len(),
+            bytes.as_ptr(),
+            bytes.len(),
+            bits,
+            answer.as_mut_ptr(),
+            answer.len(),
+        )
+    };
+    answer
+}
+
 /// Writes the text of a log and gives its length.
 pub fn replay(log: &[u8], out: &mut [u8]) -> usize {
     // Safety: each pointer goes with the length of the buffer that it points to.

@@ -19,7 +19,7 @@ pub fn all<const WAYS: usize>(
     setups.iter().map(row).collect()
 }
 
-fn transfer_call<'a>(transfer: Transfer, mut bus: Bus, transfers: &'a [Vec<u8>]) -> Call<'a> {
+pub fn transfer_call<'a>(transfer: Transfer, mut bus: Bus, transfers: &'a [Vec<u8>]) -> Call<'a> {
     Box::new(move |turn| {
         let bytes = black_box(transfers[turn % TURNS].as_slice());
         black_box(bus.send(transfer, bytes, WHOLE));
@@ -48,7 +48,7 @@ pub fn packed_transfers(setup: Setup, start: u8) -> [Figure; 3] {
 }
 
 /// The pictures of the groups that have chips.
-fn picture_call<'a>(picture: Picture, buses: &'a [Bus]) -> Call<'a> {
+pub fn picture_call<'a>(picture: Picture, buses: &'a [Bus]) -> Call<'a> {
     let rooms = [0, 1].map(|group| buses[0].columns(group));
     let mut out = vec![0; rooms[0].max(rooms[1])];
     Box::new(move |turn| {
@@ -80,7 +80,7 @@ pub fn packed_pictures(setup: Setup) -> [Figure; 3] {
 }
 
 /// With room for just the transfer.
-fn writer_call<'a>(writer: Writer, writings: &'a [Writing], room: usize) -> Call<'a> {
+pub fn writer_call<'a>(writer: Writer, writings: &'a [Writing], room: usize) -> Call<'a> {
     let mut out = vec![0; room];
     Box::new(move |turn| {
         let writing = black_box(&writings[turn % TURNS]);

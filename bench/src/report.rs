@@ -1,7 +1,11 @@
 //! The printed tables and targets.
 
-use crate::measure::Row;
-use crate::samples::{around_data, around_written_data, Setup};
+mod tables;
+
+pub use tables::{accounts, growth, limit, rows, Grown, Row};
+
+use crate::measure;
+use crate::samples::{around_data, around_written_data, part_name, Setup};
 use crate::timing::{Figure, SAMPLES};
 use humtrellis_tests::model::Part;
 
@@ -18,7 +22,7 @@ fn spread(figure: &Figure) -> String {
 
 /// What each row begins with.
 fn row_name(setup: &Setup) -> String {
-    format!("{:8} | {:6}", setup.part_name(), setup.mode.name)
+    format!("{:8} | {:6}", part_name(setup.part), setup.mode.name)
 }
 
 /// `around` says how many bytes of a part's transfer are not data.
@@ -27,7 +31,7 @@ fn data_and_all_bytes(setup: &Setup, around: fn(Part) -> usize) -> String {
     format!("{data}/{}", data + around(setup.part))
 }
 
-fn print_medians(rows: &[Row<3>], around: fn(Part) -> usize) {
+fn print_medians(rows: &[measure::Row<3>], around: fn(Part) -> usize) {
     println!("part     | mode   | data/all bytes | library |   model |    loop | library/model | library/loop");
     for (setup, [a, b, c]) in rows {
         println!(
@@ -44,7 +48,7 @@ fn print_medians(rows: &[Row<3>], around: fn(Part) -> usize) {
     println!();
 }
 
-fn print_spread(rows: &[Row<3>]) {
+fn print_spread(rows: &[measure::Row<3>]) {
     println!(
         "part     | mode   | {:>18} | {:>18} | {:>18}",
         "library", "model", "loop"
@@ -57,32 +61,33 @@ fn print_spread(rows: &[Row<3>]) {
 }
 
 /// The figures of library, model and loop, of transfers with so many bytes around their data.
-fn print_data_bytes(rows: &[Row<3>], around: fn(Part) -> usize) {
+fn print_data_bytes(rows: &[measure::Row<3>], around: fn(Part) -> usize) {
     print_medians(rows, around);
     println!("The same: lowest and highest sample");
     print_spread(rows);
 }
 
-pub fn transfers(rows: &[Row<3>]) {
+pub fn transfers(rows: &[measure::Row<3>]) {
     println!("A transfer that fills four PCF8532 or eight PCA85133: ns a data byte, median of {SAMPLES} samples");
     print_data_bytes(rows, around_data);
 }
 
-pub fn writings(rows: &[Row<3>]) {
+pub fn writings(rows: &[measure::Row<3>]) {
     println!("The transfer for wanted rows of four PCF8532 or eight PCA85133: ns a data byte, median of {SAMPLES} samples");
     print_data_bytes(rows, around_written_data);
 }
 
 /// The figures of library, model, loop by columns and loop by words.
-pub fn pictures(rows: &[Row<4>]) {
+pub fn pictures(rows: &[measure::Row<4>]) {
     println!(
         "A picture: ns a column, median of {SAMPLES} samples, and the library's lowest and highest"
     );
-    println!("part     | mode   | columns | library |   model | by columns | by words | library/by columns | library/by words |        library");
+    println!("part     | mode   | chips | columns | library |   model | by columns | by words | library/by columns | library/by words |        library");
     for (setup, [a, b, c, d]) in rows {
         println!(
-            "{} | {:7} | {:7.3} | {:7.3} | {:10.3} | {:8.3} | {:18.2} | {:16.2} | {}",
+            "{} | {:5} | {:7} | {:7.3} | {:7.3} | {:10.3} | {:8.3} | {:18.2} | {:16.2} | {}",
             row_name(setup),
+            setup.chip_count(),
             setup.columns(),
             a.median,
             b.median,
@@ -96,26 +101,17 @@ pub fn pictures(rows: &[Row<4>]) {
     println!();
 }
 
-pub fn replay(length: usize, figures: [Figure; 2]) {
-    println!("The replay of a log of {length} bytes: ms, median of {SAMPLES} samples, lowest and highest");
-    for (name, figure) in ["library", "model"].iter().zip(figures) {
-        let milliseconds = figure.per(1_000_000);
-        let (median, spread) = (milliseconds.median, spread(&milliseconds));
-        println!("{name:7} | {median:7.3} | {spread}");
-    }
-    println!();
-}
-
 /// The figures of the packed form, the one-byte form and the packed loop; `what` says of which.
-pub fn packed(what: &str, rows: &[Row<3>]) {
+pub fn packed(what: &str, rows: &[measure::Row<3>]) {
     println!(
         "Packed, {what}: ns, median of {SAMPLES} samples, and the library's lowest and highest"
     );
-    println!("part     | mode   | columns |  packed | one-byte |    loop | packed/one-byte | packed/loop |         packed");
+    println!("part     | mode   | chips | columns |  packed | one-byte |    loop | packed/one-byte | packed/loop |         packed");
     for (setup, [a, b, c]) in rows {
         println!(
-            "{} | {:7} | {:7.3} | {:8.3} | {:7.3} | {:15.2} | {:11.2} | {}",
+            "{} | {:5} | {:7} | {:7.3} | {:8.3} | {:7.3} | {:15.2} | {:11.2} | {}",
             row_name(setup),
+            setup.chip_count(),
             setup.columns(),
             a.median,
             b.median,
@@ -134,7 +130,11 @@ const IMAGE_LIMIT: f64 = 2.0;
 pub fn image(length: usize, figure: Figure) {
     let milliseconds = figure.per(1_000_000);
     let (median, spread) = (milliseconds.median, spread(&milliseconds));
-    let verdict = if median <= IMAGE_LIMIT { "met" } else { "missed" };
+    let verdict = if median <= IMAGE_LIMIT {
+        "met"
+    } else {
+        "missed"
+    };
     println!("A RAM image of {length} bytes read: ms, median of {SAMPLES} samples, lowest and highest; under {IMAGE_LIMIT}");
     println!("library | {median:7.3} | {spread} | {verdict}");
     println!();
@@ -146,7 +146,7 @@ fn print_target(target: &str, value: f64, limit: f64) {
 }
 
 /// Those of the packed form, against the packed loop and the one-byte form.
-pub fn packed_targets(what: &str, rows: &[Row<3>]) {
+pub fn packed_targets(what: &str, rows: &[measure::Row<3>]) {
     for (setup, [a, b, c]) in rows {
         let name = format!(
             "packed {what}, {} columns, {}",
@@ -158,7 +158,11 @@ pub fn packed_targets(what: &str, rows: &[Row<3>]) {
     }
 }
 
-pub fn targets(transfers: &[Row<3>], pictures: &[Row<4>], writings: &[Row<3>]) {
+pub fn targets(
+    transfers: &[measure::Row<3>],
+    pictures: &[measure::Row<4>],
+    writings: &[measure::Row<3>],
+) {
     println!("Targets: verdict, measured, at most");
     for (setup, [a, b, c]) in transfers {
         let (name, model, table) = (setup.name(), ratio(*a, *b), ratio(*a, *c));

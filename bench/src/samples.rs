@@ -1,9 +1,9 @@
-//! The inputs: setups, transfers that fill their chips, buses to show, wanted rows, and logs; the same in every run.
+//! The inputs: setups, transfers that fill their chips, buses to show, and wanted rows; the same in every run.
 
 use crate::library::{Numbers, RegisterBytes};
 use crate::ways::{Asked, Transfer};
 use humtrellis_tests::generate::{commands_then_data, shape};
-use humtrellis_tests::model::{Part, Registers, View, LOG_PART, REGISTERS, SET};
+use humtrellis_tests::model::{Part, Registers, View, REGISTERS, SET};
 use humtrellis_tests::random::Random;
 
 /// Inputs of one kind that take turns, so that no call repeats the one before.
@@ -27,12 +27,25 @@ impl Mode {
     }
 }
 
-const MODES: [Mode; 4] = [
+pub const MODES: [Mode; 4] = [
     Mode::new("static", 1, 8),
     Mode::new("1:2", 2, 4),
     Mode::new("1:3", 3, 3),
     Mode::new("1:4", 0, 2),
 ];
+
+pub fn part_name(part: Part) -> &'static str {
+    match part {
+        Part::Pcf8532 => "PCF8532",
+        Part::Pca85133 => "PCA85133",
+    }
+}
+
+/// So many chips of a part; the first group is full before the second has one.
+pub fn in_groups(part: Part, chips: u8) -> [u8; 2] {
+    let first = chips.min(part.subaddresses());
+    [first, chips - first]
+}
 
 /// Columns of so many chips.
 fn columns_of(part: u8, chips: u8) -> usize {
@@ -124,25 +137,29 @@ impl Writing {
 #[derive(Clone, Copy)]
 pub struct Setup {
     pub part: Part,
-    chips: [u8; 2],
+    pub chips: [u8; 2],
     pub mode: Mode,
 }
 
 /// A full group of each part: 640 columns.
 pub fn filled() -> Vec<Setup> {
-    setups(|most| [[most, 0]])
+    setups(|part| vec![part.subaddresses()])
 }
 
-/// One chip, a full group and two full groups of each part: 160 or 80, 640 and 1,280 columns.
+/// 1, 4 and 8 chips of each part, and 16 PCA85133: up to 1,280 columns.
 pub fn shown() -> Vec<Setup> {
-    setups(|most| [[1, 0], [most, 0], [most, most]])
+    setups(|part| match part {
+        Part::Pcf8532 => vec![1, 4, 8],
+        Part::Pca85133 => vec![1, 4, 8, 16],
+    })
 }
 
-/// The chips that `chips` makes of the most that a group has, of each part and in each mode.
-fn setups<const COUNT: usize>(chips: fn(u8) -> [[u8; 2]; COUNT]) -> Vec<Setup> {
+/// So many chips as `chips` says, of each part and in each mode.
+fn setups(chips: fn(Part) -> Vec<u8>) -> Vec<Setup> {
     let mut setups = Vec::new();
     for part in Part::BOTH {
-        for chips in chips(part.subaddresses()) {
+        for count in chips(part) {
+            let chips = in_groups(part, count);
             setups.extend(MODES.map(|mode| Setup { part, chips, mode }));
         }
     }
@@ -150,20 +167,18 @@ fn setups<const COUNT: usize>(chips: fn(u8) -> [[u8; 2]; COUNT]) -> Vec<Setup> {
 }
 
 impl Setup {
-    pub fn part_name(self) -> &'static str {
-        match self.part {
-            Part::Pcf8532 => "PCF8532",
-            Part::Pca85133 => "PCA85133",
-        }
+    pub fn name(self) -> String {
+        format!("{}, {}", part_name(self.part), self.mode.name)
     }
 
-    pub fn name(self) -> String {
-        format!("{}, {}", self.part_name(), self.mode.name)
+    /// Chips of both groups.
+    pub fn chip_count(self) -> u8 {
+        self.chips[0] + self.chips[1]
     }
 
     /// Columns of both groups.
     pub fn columns(self) -> usize {
-        columns_of(self.part.number(), self.chips[0] + self.chips[1])
+        columns_of(self.part.number(), self.chip_count())
     }
 
     /// Data bytes that fill the columns; of 640 in 1:3 the last one is cut.
@@ -222,7 +237,7 @@ impl Setup {
 }
 
 /// Sets mode, device and pointer (each with its control byte), then a data run from a column of chip 0 on.
-fn transfer(part: Part, mode: Mode, start: u8, data: &[u8]) -> Vec<u8> {
+pub fn transfer(part: Part, mode: Mode, start: u8, data: &[u8]) -> Vec<u8> {
     let commands = [&[0xC8 | mode.bits], &part.position_commands(0, start)[..]].concat();
     commands_then_data(0x70, &commands, data)
 }
@@ -235,30 +250,4 @@ pub fn around_data(part: Part) -> usize {
 /// The same of a transfer for wanted rows, which has a bank-select too.
 pub fn around_written_data(part: Part) -> usize {
     around_data(part) + 2
-}
-
-/// Logs of just the greatest length: runs of 1 to 320 bytes in all modes over four chips.
-pub fn logs() -> Vec<Vec<u8>> {
-    (0..TURNS as u64)
-        .map(|seed| log(&mut Random::new(32 + seed)))
-        .collect()
-}
-
-fn log(random: &mut Random) -> Vec<u8> {
-    use humtrellis_tests::generate::log_of;
-    use humtrellis_tests::model::LOG_LIMIT;
-    let (head, around) = (3, 2 + around_data(LOG_PART));
-    let mut left = LOG_LIMIT - head;
-    let mut records = Vec::new();
-    while left > 0 {
-        let mode = random.pick(&MODES);
-        // What is left must hold another record, or none.
-        let length = match left {
-            0..=400 => left - around,
-            _ => random.between(1, 320),
-        };
-        records.push(transfer(LOG_PART, mode, 0, &random.bytes(length)));
-        left -= around + length;
-    }
-    log_of(4, 0, &records)
 }

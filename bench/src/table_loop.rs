@@ -5,19 +5,27 @@
 //! the counts in closed form.
 //! Packed columns, two a byte, go by the same tables four bits a column; from an odd column on each word takes a column over from the one before.
 //! Wanted rows become data bytes the other way round: whole words of columns by shifts or a product, in 1:3 by a table a column.
+//! A price goes either way by a table of 256 entries a mode. A log is replayed over a bus of its own, which needs no check.
 
 mod checks;
 mod commands;
 mod held;
+mod log;
 mod packed;
 mod part;
 mod picture;
+mod price;
 mod run;
 mod tables;
+mod text;
+mod three;
 mod transfer;
 mod writer;
 
+pub use log::replay;
 pub use picture::{packed_picture, picture_by_columns, picture_by_words};
+pub use price::{price_read, price_write};
+pub use three::write_three;
 pub use transfer::{packed_transfer, transfer};
 pub use writer::write_rows;
 
@@ -52,6 +60,14 @@ const UNKNOWN_PART: Refusal = (16, 0);
 
 fn refused((number, place): Refusal, last: usize) -> [usize; ANSWER] {
     [number, place, 0, 0, 0, last]
+}
+
+/// The answer of a call that writes bytes to the front of its output.
+fn written(length: Result<usize, Refusal>) -> [usize; ANSWER] {
+    match length {
+        Ok(length) => [0, 0, length, 0, 0, 0],
+        Err(refusal) => refused(refusal, 0),
+    }
 }
 
 /// Where the bytes of a group begin and end in the long RAM.

@@ -1,11 +1,18 @@
 //! Samples of several ways, taken in turn so that noise hits all alike.
 
+use std::sync::LazyLock;
 use std::time::{Duration, Instant};
 
 /// Samples behind each figure.
 pub const SAMPLES: usize = 15;
-/// About how long a sample lasts.
-const SAMPLE: Duration = Duration::from_millis(10);
+/// About how long a sample lasts: 10 ms, or as BENCH_MICROSECONDS says, for a run that is looked at for its rows alone.
+static SAMPLE: LazyLock<Duration> = LazyLock::new(|| {
+    let asked = std::env::var("BENCH_MICROSECONDS");
+    let microseconds = asked.map_or(10_000, |text| {
+        text.parse().expect("BENCH_MICROSECONDS is a number")
+    });
+    Duration::from_micros(microseconds)
+});
 
 /// Nanoseconds for one call: the median sample, the lowest and the highest.
 #[derive(Clone, Copy)]
@@ -52,7 +59,7 @@ fn calls_in_sample(call: &mut Call) -> usize {
     let mut calls = 1;
     loop {
         let taken = time(call, calls);
-        if taken * 4 >= SAMPLE {
+        if taken * 4 >= *SAMPLE {
             let share = SAMPLE.as_secs_f64() / taken.as_secs_f64();
             return (calls as f64 * share).ceil() as usize;
         }

@@ -1,9 +1,8 @@
 //! The ways to carry out a call, behind one signature each, so that all are called alike.
 
 use crate::library::{self, Numbers, RegisterBytes};
-use crate::table_loop;
-use humtrellis_tests::model::{self, View};
-use humtrellis_tests::writer::{self, Wanted};
+use crate::{model, table_loop};
+use humtrellis_tests::model::View;
 
 pub type Transfer = fn(u8, [u8; 2], &mut RegisterBytes, &mut [u8], &[u8], u8) -> Numbers;
 pub type Picture = fn(View, &mut [u8]) -> Numbers;
@@ -20,18 +19,24 @@ pub struct Asked<'a> {
 }
 
 pub type Writer = fn(Asked, &mut [u8]) -> Numbers;
+/// To a list of plain chips, as the C interface has them.
+pub type Plain = fn(u8, &mut [u8], &[u8], u8) -> Numbers;
+/// A price in a mode, either way.
+pub type Price = fn(u8, &[u8], &mut [u8]) -> Numbers;
+/// Gives the length of a log's text.
+pub type Replay = fn(&[u8], &mut [u8]) -> usize;
 
 /// (a), (b) and (c), in the order of the printed columns.
 pub const TRANSFERS: [(&str, Transfer); 3] = [
     ("library", library::transfer),
-    ("model", model_transfer),
+    ("model", model::transfer),
     ("loop", table_loop::transfer),
 ];
 
 /// The same of a picture; (c) is two loops, one that counts a column at a time, as the library does, and one by words.
 pub const PICTURES: [(&str, Picture); 4] = [
     ("library", library::picture),
-    ("model", model_picture),
+    ("model", model::picture),
     ("columns", table_loop::picture_by_columns),
     ("words", table_loop::picture_by_words),
 ];
@@ -52,8 +57,39 @@ pub const PACKED_PICTURES: [(&str, Picture); 3] = [
 /// The same of the transfer for wanted rows.
 pub const WRITERS: [(&str, Writer); 3] = [
     ("library", library::write_rows),
-    ("model", model_writer),
+    ("model", model::write_rows),
     ("loop", table_loop::write_rows),
+];
+
+/// The same of the transfer for every element in 1:3; mode and bank are not looked at.
+pub const THREE_WRITERS: [(&str, Writer); 3] = [
+    ("library", library::write_three),
+    ("model", model::write_three),
+    ("loop", table_loop::write_three),
+];
+
+pub const PRICE_WRITERS: [(&str, Price); 3] = [
+    ("library", library::price_write),
+    ("model", model::price_write),
+    ("loop", table_loop::price_write),
+];
+
+pub const PRICE_READERS: [(&str, Price); 3] = [
+    ("library", library::price_read),
+    ("model", model::price_read),
+    ("loop", table_loop::price_read),
+];
+
+pub const REPLAYS: [(&str, Replay); 3] = [
+    ("library", library::replay),
+    ("model", model::replay),
+    ("loop", table_loop::replay),
+];
+
+/// The plain account, which is timed against the long one.
+pub const PLAIN: [(&str, Plain); 2] = [
+    ("library", library::plain_transfer),
+    ("model", model::plain_transfer),
 ];
 
 fn unpacked(ram: &[u8]) -> Vec<u8> {
@@ -81,31 +117,4 @@ fn unpacked_transfer(
 fn unpacked_picture(view: View, out: &mut [u8]) -> Numbers {
     let ram = &unpacked(view.ram);
     library::picture(View { ram, ..view }, out)
-}
-
-fn model_transfer(
-    part: u8,
-    [chips0, chips1]: [u8; 2],
-    registers: &mut RegisterBytes,
-    ram: &mut [u8],
-    bytes: &[u8],
-    bits: u8,
-) -> Numbers {
-    model::transfer(part, chips0, chips1, registers, ram, bytes, bits).numbers()
-}
-
-fn model_picture(view: View, out: &mut [u8]) -> Numbers {
-    model::picture(view, out).numbers()
-}
-
-fn model_writer(asked: Asked, out: &mut [u8]) -> Numbers {
-    let wanted = Wanted {
-        part: asked.part,
-        chips0: asked.chips[0],
-        chips1: asked.chips[1],
-        registers: asked.registers,
-        group: asked.group,
-        rows: asked.rows,
-    };
-    writer::write_rows(wanted, [asked.mode, asked.bank], out).numbers()
 }

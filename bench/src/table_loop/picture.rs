@@ -66,7 +66,7 @@ fn check<Chosen: Part, Form: Held>(view: View, length: usize) -> Result<(), Refu
 }
 
 /// The first row shown, and which rows from there on; dark is no row.
-fn shown(set: &[u8; SET], phase: u8) -> (u8, u64) {
+pub fn shown(set: &[u8; SET], phase: u8) -> (u8, u64) {
     let blinks = set[BF] != 0 && phase == 1;
     let banks = set[M] == 1 || set[M] == 2;
     if set[E] == 0 || blinks && (set[AB] == 0 || !banks) {
@@ -96,7 +96,7 @@ fn show_columns(columns: &[u8], shift: u8, rows: u64, out: &mut [u8]) -> usize {
 
 /// Writes the picture and counts the lit elements; the columns of a chip of either part are whole words.
 #[inline(always)]
-fn show_words(columns: &[u8], shift: u8, rows: u64, out: &mut [u8]) -> usize {
+pub fn show_words(columns: &[u8], shift: u8, rows: u64, out: &mut [u8]) -> usize {
     let mut lit = 0;
     let words = columns.as_chunks::<8>().0;
     for (shown, word) in out.as_chunks_mut::<8>().0.iter_mut().zip(words) {

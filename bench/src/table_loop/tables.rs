@@ -84,3 +84,26 @@ const fn packed_bytes() -> [u8; 256] {
     }
     table
 }
+
+/// For each even column: device-select 0, pointer high and pointer low after 80, and C0.
+pub static PCF8532_PLACES: [u64; 80] = {
+    let mut places = [0; 80];
+    let mut pair = 0;
+    while pair < 80 {
+        let (high, low) = (2 * pair as u8 / 16, 0x40 | 2 * pair as u8 % 16);
+        places[pair] = u64::from_le_bytes([0x80, 0xE0, 0x80, high, 0x80, low, 0xC0, 0]);
+        pair += 1;
+    }
+    places
+};
+
+/// The same with the one pointer command.
+pub static PCA85133_PLACES: [u64; 40] = {
+    let mut places = [0; 40];
+    let mut pair = 0;
+    while pair < 40 {
+        places[pair] = u64::from_le_bytes([0x80, 0xE0, 0x80, 2 * pair as u8, 0xC0, 0, 0, 0]);
+        pair += 1;
+    }
+    places
+};

@@ -54,7 +54,22 @@ fn transfer_to<Chosen: Part, Form: Held>(
     bytes: &[u8],
     bits: u8,
 ) -> [usize; ANSWER] {
-    let group = match hearing_group::<Chosen, Form>(chips, registers, ram, bytes, bits) {
+    match checks::check_state::<Chosen, Form>(chips, registers, ram) {
+        Err(refusal) => refused(refusal, Chosen::MOST),
+        Ok(()) => send::<Chosen, Form>(chips, registers, ram, bytes, bits),
+    }
+}
+
+/// To a bus that is in range; in line, so that the check costs no call.
+#[inline(always)]
+pub fn send<Chosen: Part, Form: Held>(
+    chips: [u8; 2],
+    registers: &mut [u8; 2 * SET],
+    ram: &mut [u8],
+    bytes: &[u8],
+    bits: u8,
+) -> [usize; ANSWER] {
+    let group = match hearing_group::<Chosen>(chips, registers, bytes, bits) {
         Err(refusal) => return refused(refusal, Chosen::MOST),
         Ok(None) => return [0, 0, 0, 0, 0, Chosen::MOST],
         Ok(Some(group)) => group,
@@ -71,15 +86,13 @@ fn whole_bytes(bytes: &[u8], bits: u8) -> usize {
     bytes.len() - (bits < 8) as usize
 }
 
-/// The group that hears a transfer, if one does, after all checks.
-fn hearing_group<Chosen: Part, Form: Held>(
+/// The group that hears a transfer, if one does, after all checks of its bytes.
+fn hearing_group<Chosen: Part>(
     chips: [u8; 2],
     registers: &[u8; 2 * SET],
-    ram: &[u8],
     bytes: &[u8],
     bits: u8,
 ) -> Result<Option<usize>, Refusal> {
-    checks::check_state::<Chosen, Form>(chips, registers, ram)?;
     let Some(address) = bytes.first() else {
         return Err((1, 0));
     };

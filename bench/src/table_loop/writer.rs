@@ -2,7 +2,7 @@
 
 use super::part::{Part, Pca85133, Pcf8532};
 use super::tables::BITS_OF_THREE;
-use super::{checks, refused, Refusal, ANSWER, B, E, O, SET, UNKNOWN_PART};
+use super::{checks, written, Refusal, ANSWER, B, E, O, SET, UNKNOWN_PART};
 use crate::ways::Asked;
 
 /// Bytes before the pointer: the address, and mode-set, bank-select and device-select with a control byte each.
@@ -10,15 +10,11 @@ const SETTINGS: usize = 7;
 
 #[inline(never)]
 pub fn write_rows(asked: Asked, out: &mut [u8]) -> [usize; ANSWER] {
-    let written = match asked.part {
+    written(match asked.part {
         0 => write::<Pcf8532>(asked, out),
         1 => write::<Pca85133>(asked, out),
         _ => Err(UNKNOWN_PART),
-    };
-    match written {
-        Ok(length) => [0, 0, length, 0, 0, 0],
-        Err(refusal) => refused(refusal, 0),
-    }
+    })
 }
 
 /// The length of the transfer, which is at the start of the output then.
@@ -40,15 +36,19 @@ fn write<Chosen: Part>(asked: Asked, out: &mut [u8]) -> Result<usize, Refusal> {
 
 /// All that is refused before the output's length: 3, 6, 8, 4, 5.
 fn check<Chosen: Part>(asked: Asked) -> Result<(), Refusal> {
-    let chips = asked.chips;
-    checks::check_bus::<Chosen>(chips, asked.registers)?;
+    checks::check_bus::<Chosen>(asked.chips, asked.registers)?;
     if asked.mode > 3 || asked.bank > 1 {
         return Err((6, 0));
     }
-    if asked.group > 1 {
-        return Err((8, 0));
+    check_rows::<Chosen>(asked)
+}
+
+/// 8, 4 and 5: the group and its rows.
+pub fn check_rows<Chosen: Part>(asked: Asked) -> Result<(), Refusal> {
+    match asked.chips.get(asked.group as usize) {
+        Some(chips) => checks::check_columns::<Chosen>(*chips as usize, asked.rows),
+        None => Err((8, 0)),
     }
-    checks::check_columns::<Chosen>(chips[asked.group as usize] as usize, asked.rows)
 }
 
 /// The columns of chips of either part are whole bytes but in 1:3.
@@ -62,13 +62,19 @@ fn data_bytes(mode: u8, columns: usize) -> usize {
 }
 
 fn put_head<Chosen: Part>(asked: Asked, head: &mut [u8]) {
-    let set = &asked.registers.as_chunks::<SET>().0[asked.group as usize];
-    let address = 0x70 + 2 * asked.group;
-    let mode_set = 0xC0 | set[E] << 3 | set[B] << 2 | asked.mode;
-    let bank_select = 0xF8 | asked.bank << 1 | set[O];
+    let [address, control, mode_set] = start(asked, asked.mode);
+    let output_bank = asked.registers.as_chunks::<SET>().0[asked.group as usize][O];
+    let bank_select = 0xF8 | asked.bank << 1 | output_bank;
     let (settings, rest) = head.split_at_mut(SETTINGS);
-    settings.copy_from_slice(&[address, 0x80, mode_set, 0x80, bank_select, 0x80, 0xE0]);
+    settings.copy_from_slice(&[address, control, mode_set, 0x80, bank_select, 0x80, 0xE0]);
     rest.copy_from_slice(Chosen::POINTER_AND_RUN);
+}
+
+/// The address, and mode-set after its control byte; E and B stay.
+pub fn start(asked: Asked, mode: u8) -> [u8; 3] {
+    let set = &asked.registers.as_chunks::<SET>().0[asked.group as usize];
+    let mode_set = 0xC0 | set[E] << 3 | set[B] << 2 | mode;
+    [0x70 + 2 * asked.group, 0x80, mode_set]
 }
 
 fn put_data(asked: Asked, data: &mut [u8]) {
