@@ -74,7 +74,7 @@ fn short() -> Vec<Case> {
         for chips in [1, part.subaddresses()] {
             cases.extend([
                 Case::new(part, chips, "a mode-set", |_, turn| {
-                    vec![0x70, 0x80, 0xC8 | turn % 4]
+                    vec![0x70, 0x80, 0xC8 | (turn % 4)]
                 }),
                 Case::new(part, chips, "one data byte", |random, _| {
                     vec![0x70, 0x40, random.byte()]
@@ -84,7 +84,7 @@ fn short() -> Vec<Case> {
                     chips,
                     "a device-select and 8 data bytes",
                     |random, turn| {
-                        let select = [0x70, 0x80, 0xE0 | turn % chips, 0x40];
+                        let select = [0x70, 0x80, 0xE0 | (turn % chips), 0x40];
                         [&select[..], &random.bytes(8)].concat()
                     },
                 ),

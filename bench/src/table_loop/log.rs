@@ -80,9 +80,9 @@ fn play(log: &[u8], text: &mut Text) {
         let [number, place, acknowledged, stored, discarded, last] = answer;
         let numbers = [index, number, place, acknowledged, stored, discarded, last];
         text.put_line(b'T', numbers);
-        match seen {
-            [high, low] => put_seen(text, index, u16::from_be_bytes([*high, *low]), acknowledged),
-            _ => {}
+        if let [high, low] = seen {
+            let seen = u16::from_be_bytes([*high, *low]) as usize;
+            put_seen(text, index, seen, acknowledged);
         }
         (rest, index) = (next, index + 1);
     }
@@ -90,9 +90,9 @@ fn play(log: &[u8], text: &mut Text) {
 }
 
 /// Only where the analyser saw another count.
-fn put_seen(text: &mut Text, index: usize, seen: u16, acknowledged: usize) {
-    if seen as usize != acknowledged {
-        text.put_line(b'A', [index, seen as usize, acknowledged]);
+fn put_seen(text: &mut Text, index: usize, seen: usize, acknowledged: usize) {
+    if seen != acknowledged {
+        text.put_line(b'A', [index, seen, acknowledged]);
     }
 }
 

@@ -90,7 +90,8 @@ pub static PCF8532_PLACES: [u64; 80] = {
     let mut places = [0; 80];
     let mut pair = 0;
     while pair < 80 {
-        let (high, low) = (2 * pair as u8 / 16, 0x40 | 2 * pair as u8 % 16);
+        let column = 2 * pair as u8;
+        let (high, low) = (column / 16, 0x40 | (column % 16));
         places[pair] = u64::from_le_bytes([0x80, 0xE0, 0x80, high, 0x80, low, 0xC0, 0]);
         pair += 1;
     }
