@@ -7,6 +7,7 @@ use super::{A, I, M, P, SET};
 
 /// Stores a run of some bytes, moves the position, and adds to the counts acknowledged, stored and discarded.
 /// The chip that has the last byte's last column, if it is there.
+#[inline(always)]
 pub fn store<Chosen: Part, Form: Held>(
     set: &mut [u8; SET],
     ram: &mut [u8],

@@ -60,7 +60,7 @@ fn transfer_to<Chosen: Part, Form: Held>(
     }
 }
 
-/// To a bus that is in range; in line, so that the check costs no call.
+/// To a bus that is in range; in line with what it calls, so that neither a transfer nor a replay pays for the other's use of it.
 #[inline(always)]
 pub fn send<Chosen: Part, Form: Held>(
     chips: [u8; 2],
@@ -87,6 +87,7 @@ fn whole_bytes(bytes: &[u8], bits: u8) -> usize {
 }
 
 /// The group that hears a transfer, if one does, after all checks of its bytes.
+#[inline(always)]
 fn hearing_group<Chosen: Part>(
     chips: [u8; 2],
     registers: &[u8; 2 * SET],
@@ -114,6 +115,7 @@ fn hearing_group<Chosen: Part>(
 }
 
 /// Goes from control byte to control byte; every whole byte but a data byte is acknowledged. The counts, and the chip of the last data byte.
+#[inline(always)]
 fn carry_out<Chosen: Part, Form: Held>(
     set: &mut [u8; SET],
     ram: &mut [u8],
