@@ -9,7 +9,7 @@ const READERS: [&str; 2] = ["bin/replay", "bin/rescue"];
 
 fn usage(program: &str) -> String {
     let words = if program == "bin/hex" { "LOG GROUP" } else { "[FILE]" };
-    format!("usage: {program} {words}\n")
+    format!("usage: {program} {words}")
 }
 
 #[test]
