@@ -66,7 +66,7 @@ fn stored(registers: Registers, subaddress: u8, byte: u8, j: usize, column: u8) 
     }
 }
 
-// The chip after a data byte: all its columns, one after the other; P and A move, stored or not. The columns are copied once, and not a column.
+// The chip after a data byte: all its columns, one after the other; P and A move, stored or not. The columns are copied once, and not at each column.
 pub fn take_data(part: u8, chip: Chip, byte: u8) -> Chip
     requires { ⌜ inRange (partOf part) (chip .registers) ≡ true ⌝ }
     ensures { λ r. ⌜ r ≡ chipData (partOf part) byte chip ⌝ }

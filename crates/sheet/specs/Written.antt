@@ -9,7 +9,7 @@ use Rattle.sheet.specs.declared.Refusal.the-variants.{OutputLength}
 use Rattle.sheet.specs.declared.Written.{Written}
 use Rattle.sheet.specs.Checks.{unless, orElse, checkPart}
 
--- then 9 for an output shorter than the transfer
+-- 9 for an output shorter than what is written
 abbrev pub checkRoom : List ℕ → ℕ → Check
 checkRoom transfer size = unless (leb (length transfer) size) OutputLength
 
@@ -17,7 +17,7 @@ pub record WrittenAfter : Type 0 where
   pub result : Written
   pub out : List ℕ
 
--- the transfer stands at the start of the output, and the rest of it stays
+-- what is written stands at the start of the output, and the rest of it stays
 abbrev pub writtenBy : Check → List ℕ → List ℕ → WrittenAfter
 writtenBy Passed transfer out = record { result = Written.Bytes (length transfer); out = transfer ++ drop (length transfer) out }
 writtenBy (Refused x) transfer out = record { result = Written.Refused x; out = out }

@@ -15,6 +15,7 @@ use Rattle.sheet.specs.Registers.{backplanes, bankRow}
 use Rattle.sheet.specs.Plain.{putRows, afterColumn, afterColumns, chipData}
 use Rattle.sheet.specs.Places.{advanced}
 use Rattle.sheet.specs.Data.{changed, widthOf}
+use Rattle.columns.specs.Stored.{storedIn}
 use Rattle.laws.proofs.Ranges.{InRange, range-of, planes-pos}
 use Rattle.laws.proofs.Counts.{width-less}
 use Rattle.laws.proofs.Moves.{still-in, same-planes}
@@ -41,7 +42,7 @@ kept false f p l = unchanged p l
 
 -- a column more
 more : (K : Part) (byte : ℕ) (chip : Chip) (columns : List ℕ) (r : Registers) (j q : ℕ) (next : Registers) → with chip columns r ≡ afterColumns K byte j chip
-    → q ≡ cond (eqb (r .a) (chip .subaddress)) (putRows (backplanes r) (bankRow (backplanes r) (r .i)) (backplanes r * j) byte (getD columns (r .p) 0)) (getD columns (r .p) 0) → next ≡ advanced K r
+    → q ≡ storedIn r (chip .subaddress) byte j (getD columns (r .p) 0) → next ≡ advanced K r
     → with chip (set columns (r .p) q) next ≡ afterColumn K byte j (afterColumns K byte j chip)
 unfolding afterColumn
 more K byte chip columns r j q next e eq en =
