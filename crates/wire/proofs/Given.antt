@@ -8,6 +8,7 @@ use native.Mathlib.Omega.{arith}
 use lib.ListN.{length, getD, take, drop, length-drop, take-append-drop, drop-of-length-le}
 use lib.Seq.{length-take-le, take-all, take-suc, getD-drop}
 use Rattle.sheet.specs.declared.Registers.{Registers}
+use Rattle.sheet.specs.declared.Both.{Both}
 use Rattle.sheet.specs.Registers.{registersOf}
 use Rattle.sheet.specs.Long.{replaced}
 use Rattle.wire.proofs.Parts.{firsts-all}
@@ -55,6 +56,24 @@ replaced-bytes (suc zero) h l s e w =
     (drop-of-length-le (drop 12 l) {i = 12} (omega (arith, length-drop 12 l)))
     ∙ ap (λ (r : List ℕ). bytesOf (registersIn (take 12 l)) ++ r) (append-nil (bytesOf s))
 replaced-bytes (suc (suc g)) h l s e w = absurd (not-suc-le-zero (le-of-suc-le-suc (le-of-suc-le-suc h)))
+
+-- registers whose P and A fit a byte come back from bytes as they were
+pub registers-forth : (r : Registers) → r .p < 256 → r .a < 256 → registersIn (bytesOf r) ≡ r
+registers-forth r p a = λ j. record {
+  e = r .e;
+  b = r .b;
+  m = r .m;
+  p = mod-eq-of-lt p j;
+  a = mod-eq-of-lt a j;
+  i = r .i;
+  o = r .o;
+  ab = r .ab;
+  bf = r .bf;
+  unknown = r .unknown;
+}
+
+pub both-forth : (r : Both) → (r .zero .p < 256) × (r .zero .a < 256) → (r .one .p < 256) × (r .one .a < 256) → bothOf (bothBytes r) ≡ r
+both-forth r first second = λ j. record { zero = registers-forth (r .zero) (first .0) (first .1) j; one = registers-forth (r .one) (second .0) (second .1) j }
 
 -- ---- chips
 
