@@ -1,5 +1,6 @@
 //! Short and refused transfers, where the fixed cost of a call shows.
 
+use crate::library::Numbers;
 use crate::report;
 use crate::same::{agreed, answered, transferred};
 use crate::samples::{part_name, Bus, TURNS};
@@ -47,11 +48,13 @@ impl Case {
 
     fn call(&self, way: Transfer) -> Call<'_> {
         let mut bus = self.bus.clone();
+        let mut answer = Numbers::default();
         Box::new(move |turn| {
             // The data goes to the same columns in each call, and not on to where no chip is.
             bus.registers = self.bus.registers;
             let bytes = black_box(self.transfers[turn % TURNS].as_slice());
-            black_box(bus.send(way, bytes, WHOLE));
+            way(&mut bus, bytes, WHOLE, &mut answer);
+            black_box(&answer);
         })
     }
 
