@@ -16,6 +16,8 @@ use Rattle.plain.proofs.BusByte as BusByteType
 use Rattle.plain.proofs.BusByte.Laws as BusByteLaws
 use Rattle.plain.proofs.Question as QuestionType
 use Rattle.plain.proofs.Question.Laws as QuestionLaws
+use Rattle.plain.proofs.Said as SaidType
+use Rattle.plain.proofs.Said.Laws as SaidLaws
 use Rattle.plain.proofs.Tally as TallyType
 use Rattle.plain.proofs.Tally.Laws as TallyLaws
 use Rattle.plain.proofs.Turn as TurnType
@@ -43,6 +45,9 @@ question = enum QuestionType.the-type QuestionLaws.the-laws QuestionLaws.the-pla
 
 abbrev pub acknowledger : Data AcknowledgerType.the-row
 acknowledger = enum AcknowledgerType.the-type AcknowledgerLaws.the-laws AcknowledgerLaws.the-plain AcknowledgerLaws.the-copy tt
+
+abbrev pub said : Data SaidType.the-row
+said = struct SaidType.the-type SaidLaws.the-laws SaidLaws.the-plain SaidLaws.the-copy
 
 abbrev pub tally : Data TallyType.the-row
 tally = struct TallyType.the-type TallyLaws.the-laws TallyLaws.the-plain TallyLaws.the-copy

@@ -1,12 +1,15 @@
 -- What the chips of a list are asked, and what becomes of each, said of every chip. For chips in range it is the sheet's meaning (proofs/Agreeing).
-use Prim.Native.Nat.{ℕ, suc}
+use Prim.Native.Nat.{ℕ, suc, min}
 use mathlib.Core.Bool.{Bool, cond, _&&_, not}
 use mathlib.Core.List.{List, [], _∷_}
-use lib.Dec.{eqb}
+use lib.Dec.{eqb, ltb}
 use Rattle.sheet.specs.declared.Chip.{Chip}
 use Rattle.sheet.specs.Parts.{partOf}
 use Rattle.sheet.specs.Protocol.{isData}
-use Rattle.sheet.specs.Plain.{hears, chipFits, chipStepped, chipAnswers, chipLost}
+use Rattle.columns.specs.Stored.{roomIn, chipRan}
+use Rattle.sheet.specs.declared.Acknowledger.{Acknowledger}
+use Rattle.plain.specs.declared.Said.{Said}
+use Rattle.sheet.specs.Plain.{hears, lower, chipFits, chipStepped, chipAnswers, chipLost}
 use Rattle.plain.specs.declared.BusByte.{BusByte}
 use Rattle.plain.specs.declared.Question.{Question}
 use Rattle.plain.specs.declared.Question.the-variants.{Misfit, Hears, HighUnknown, LowUnknown, DeviceUnknown}
@@ -21,6 +24,29 @@ yes (DeviceUnknown address) c = hears address c && eqb (c .registers .unknown .d
 -- whether it hears and acknowledges a byte, which is not cut
 abbrev pub answers : BusByte → Chip → Bool
 answers h c = hears (h .address) c && (not (h .cut) && chipAnswers (partOf (h .part)) (h .expect) (h .byte) c)
+
+-- a count, or one instead of none
+abbrev pub oneOr : ℕ → ℕ
+oneOr n = cond (ltb n 1) 1 n
+
+-- how many bytes from it on, of so many, the chip answers alike
+abbrev pub alikeOf : BusByte → Chip → ℕ → ℕ
+alikeOf h c most = cond (ltb most 2) most (cond (hears (h .address) c) (oneOr (min (roomIn (partOf (h .part)) (c .registers)) most)) most)
+
+abbrev pub nothingSaid : ℕ → Said
+nothingSaid most = record { who = Acknowledger.None; count = most }
+
+abbrev pub saidWith : BusByte → Chip → Said → Said
+saidWith h c s = record { who = cond (answers h c) (lower (c .subaddress) (s .who)) (s .who); count = alikeOf h c (s .count) }
+
+-- what the chips say of it: who acknowledges it, and how many are answered alike
+unfoldable pub saidBy : BusByte → ℕ → List Chip → Said
+saidBy h most [] = nothingSaid most
+saidBy h most (c ∷ cs) = saidWith h c (saidBy h most cs)
+
+-- the chip after data bytes, one after the other
+abbrev pub ranBy : BusByte → List ℕ → Chip → Chip
+ranBy h xs c = cond (hears (h .address) c) (chipRan (partOf (h .part)) xs c) c
 
 -- the chip after a byte
 abbrev pub taken : BusByte → Chip → Chip

@@ -1,13 +1,15 @@
 -- A transfer followed byte by byte: a turn is the next byte, its place, and what is acknowledged so far.
-use Prim.Native.Nat.{ℕ, _+_, _<_, _≤_}
+use Prim.Native.Nat.{ℕ, _+_, _-_, _<_, _≤_}
 use mathlib.Core.Path.{_≡_}
 use mathlib.Core.Bool.{Bool, cond, _&&_}
 use mathlib.Core.List.{List, [], _∷_, map}
-use lib.Dec.{leb}
-use lib.ListN.{length, getD, drop}
+use lib.Dec.{leb, ltb}
+use lib.ListN.{length, getD, take, drop}
 use Rattle.sheet.specs.declared.Chip.{Chip}
 use Rattle.sheet.specs.declared.Acknowledger.{Acknowledger}
+use Rattle.sheet.specs.declared.Kind.{Kind}
 use Rattle.sheet.specs.declared.Expect.{Expect}
+use Rattle.sheet.specs.declared.Expect.the-variants.{Control, One, All}
 use Rattle.sheet.specs.Parts.{Part, within, partOf}
 use Rattle.sheet.specs.Protocol.{next, isData}
 use Rattle.sheet.specs.Plain.{once, lastAfter, chipEnded, Plain, plainHeard}
@@ -15,6 +17,8 @@ use Rattle.sheet.specs.Agree.{AllIn}
 use Rattle.plain.specs.declared.BusByte.{BusByte}
 use Rattle.plain.specs.declared.Tally.{Tally}
 use Rattle.plain.specs.declared.Turn.{Turn}
+use Rattle.plain.specs.declared.Said.{Said}
+use Rattle.plain.specs.Asking.{oneOr, taken, ranBy}
 
 -- who acknowledged the last data byte, which a byte that is cut is not
 abbrev pub lastHeard : BusByte → Acknowledger → Acknowledger → Acknowledger
@@ -28,6 +32,37 @@ turnAfter bytes t who = record {
   tally = record { acknowledged = t .tally .acknowledged + once who; last = lastHeard (t .heard) who (t .tally .last) };
   heard = record { part = t .heard .part; address = t .heard .address; expect = next (t .heard .expect) (t .heard .byte); byte = getD bytes (t .at + 1) 0; cut = t .cut && leb (length bytes) (t .at + 1 + 1) };
 }
+
+-- each of n bytes that `who` acknowledges counts once
+abbrev pub onceEach : ℕ → Acknowledger → ℕ
+onceEach n (Acknowledger.Subaddress a) = n
+onceEach n Acknowledger.None = 0
+
+-- and the turn after as many bytes as are answered alike
+abbrev pub turnPast : List ℕ → Turn → Said → Turn
+turnPast bytes t said = record {
+  at = t .at + said .count;
+  cut = t .cut;
+  tally = record { acknowledged = t .tally .acknowledged + onceEach (said .count) (said .who); last = lastHeard (t .heard) (said .who) (t .tally .last) };
+  heard = record { part = t .heard .part; address = t .heard .address; expect = next (t .heard .expect) (t .heard .byte); byte = getD bytes (t .at + said .count) 0; cut = t .cut && leb (length bytes) (t .at + said .count + 1) };
+}
+
+-- how many bytes may be taken at once, of so many whole ones that are left: data to the end
+abbrev pub mostOf : Kind → ℕ → ℕ
+mostOf Kind.Command left = 1
+mostOf Kind.Data left = oneOr left
+
+abbrev pub mostAfter : Expect → ℕ → ℕ
+mostAfter Control left = 1
+mostAfter (One k) left = 1
+mostAfter (All k) left = mostOf k left
+
+abbrev pub mostIn : List ℕ → Turn → ℕ
+mostIn bytes t = mostAfter (t .heard .expect) (cond (t .cut) (length bytes - t .at - 1) (length bytes - t .at))
+
+-- the chip after the turn's byte, or after n data bytes from it on
+abbrev pub takenBy : List ℕ → Turn → ℕ → Chip → Chip
+takenBy bytes t n c = cond (ltb n 2) (taken (t .heard) c) (ranBy (t .heard) (take n (drop (t .at) bytes)) c)
 
 abbrev pub plainAt : Tally → List Chip → Plain
 plainAt t cs = record { acknowledged = t .acknowledged; last = t .last; chips = cs }

@@ -17,9 +17,9 @@ ghost use Rattle.sheet.specs.Refusals.{plainNumbers};
 ghost use Rattle.sheet.specs.Parts.{partOf};
 ghost use Rattle.sheet.specs.Protocol.{sent, addressByte};
 ghost use Rattle.sheet.specs.Checks.{faultOfSent};
-ghost use Rattle.sheet.specs.Plain.{lower, smallest, once, lastOf, lastAfter, plainPart};
-ghost use Rattle.plain.specs.Asking.{yes, answers, taken, firstYes};
-ghost use Rattle.plain.specs.Turns.{lastHeard, turnAfter, followed, tallyOf, Ready};
+ghost use Rattle.sheet.specs.Plain.{lower, lastOf, lastAfter, plainPart};
+ghost use Rattle.plain.specs.Asking.{yes, answers, oneOr, alikeOf, nothingSaid, saidWith, saidBy, taken, ranBy, firstYes};
+ghost use Rattle.plain.specs.Turns.{onceEach, lastHeard, turnPast, mostOf, mostAfter, mostIn, takenBy, followed, tallyOf, Ready};
 ghost use Rattle.plain.specs.Starts.{markAt, marksFound, checkBench, checkList, checkOf, turnAt, startOf, answerOf};
 ghost use Rattle.plain.specs.Benches.{tooMany, firstTransferred, benchTransferred};
 
@@ -89,8 +89,57 @@ fn with_chip(chip: Chip, heard: BusByte, others: Acknowledger) -> Acknowledger
     }
 }
 
+// A count, or one instead of none.
+fn one_or(count: usize) -> usize
+    ensures { λ r. ⌜ r ≡ oneOr count ⌝ }
+{
+    if count < 1 { 1 } else { count }
+}
+
+// How many bytes from this one on the chip answers alike, of so many: data that ends in the columns of the chip that A names, or this byte alone.
+fn alike(chip: Chip, heard: BusByte, most: usize) -> usize
+    ensures { λ r. ⌜ r ≡ alikeOf heard chip most ⌝ }
+{
+    if most < 2 {
+        return most;
+    }
+    if chip::hears(chip, heard.address) {
+        let room = columns::room(heard.part, chip.registers);
+        one_or(arithmetic::least(room, most))
+    } else {
+        most
+    }
+}
+
+// What the chips say of a byte: who acknowledges it, and how many bytes from it on they all answer alike.
+struct Said {
+    who: Acknowledger,
+    count: usize,
+}
+
+// Of no chips.
+fn nothing_said(most: usize) -> Said
+    ensures { λ r. ⌜ r ≡ nothingSaid most ⌝ }
+{
+    Said {
+        who: Acknowledger::None,
+        count: most,
+    }
+}
+
+// Of this chip and the others.
+fn say_with(chip: Chip, heard: BusByte, others: Said) -> Said
+    ensures { λ r. ⌜ r ≡ saidWith heard chip others ⌝ }
+{
+    let who = others.who;
+    Said {
+        who: with_chip(chip, heard, who),
+        count: alike(chip, heard, others.count),
+    }
+}
+
 // The chip after a byte: as it was, if it does not hear it.
-fn take(chip: Chip, heard: BusByte) -> Chip
+fn take_byte(chip: Chip, heard: BusByte) -> Chip
     ensures { λ r. ⌜ r ≡ taken heard chip ⌝ }
 {
     let expect = heard.expect;
@@ -100,6 +149,17 @@ fn take(chip: Chip, heard: BusByte) -> Chip
         } else {
             chip::step(heard.part, chip, expect, heard.byte)
         }
+    } else {
+        chip
+    }
+}
+
+// And after data bytes that come at once.
+fn take_run(bytes: &[u8], chip: Chip, heard: BusByte) -> Chip
+    ensures { λ r. ⌜ r ≡ ranBy heard (now (bytes .entry)) chip ⌝ }
+{
+    if chip::hears(chip, heard.address) {
+        chip::run(heard.part, chip, bytes)
     } else {
         chip
     }
@@ -121,31 +181,20 @@ fn first(chips: &[Chip], question: Question) -> usize
     i
 }
 
-// Who acknowledges a byte: the smallest subaddress.
-fn smallest(chips: &[Chip], heard: BusByte) -> Acknowledger
-    ensures { λ r. ⌜ r ≡ smallest (answers heard) (now (chips .entry)) ⌝ }
+// Who acknowledges a byte, the smallest subaddress, and how many bytes of so many are answered alike.
+fn ask_all(chips: &[Chip], heard: BusByte, most: usize) -> Said
+    ensures { λ r. ⌜ r ≡ saidBy heard most (now (chips .entry)) ⌝ }
 {
-    let mut who = Acknowledger::None;
+    let mut said = nothing_said(most);
     let mut i = chips.len();
     while 0 < i {
         i -= 1;
-        who = with_chip(chips[i], heard, who);
+        said = say_with(chips[i], heard, said);
     }
-    who
+    said
 }
 
-// Every chip takes the byte.
-fn take_all(chips: &mut [Chip], heard: BusByte)
-    ensures { λ _. ⌜ now (chips .exit) ≡ map (taken heard) (now (chips .entry)) ⌝ }
-{
-    let mut i = 0;
-    while i < chips.len() {
-        chips[i] = take(chips[i], heard);
-        i += 1;
-    }
-}
-
-// ---- a transfer, byte by byte
+// ---- a transfer, by turns
 
 // The bytes acknowledged so far, and who acknowledged the last data byte.
 struct Tally {
@@ -161,13 +210,13 @@ struct Turn {
     heard: BusByte,
 }
 
-// A byte counts once however many chips acknowledge it.
-fn counted(acknowledged: usize, who: Acknowledger) -> usize
-    requires { ⌜ acknowledged < 2 ^ 63 ⌝ }
-    ensures { λ r. ⌜ r ≡ acknowledged + once who ⌝ }
+// Each of so many bytes counts once however many chips acknowledge it.
+fn counted(acknowledged: usize, who: Acknowledger, count: usize) -> usize
+    requires { ⌜ acknowledged + count < 2 ^ 64 ⌝ }
+    ensures { λ r. ⌜ r ≡ acknowledged + onceEach count who ⌝ }
 {
     match who {
-        Acknowledger::Subaddress(_) => acknowledged + 1,
+        Acknowledger::Subaddress(_) => acknowledged + count,
         Acknowledger::None => acknowledged,
     }
 }
@@ -204,22 +253,23 @@ fn last_heard(heard: BusByte, who: Acknowledger, last: Acknowledger) -> Acknowle
     }
 }
 
-// The turn after this one, whose byte `who` acknowledges.
-fn next(bytes: &[u8], turn: Turn, who: Acknowledger) -> Turn
-    requires { ⌜ (turn .at < length (now bytes)) × (turn .tally .acknowledged ≤ turn .at) ⌝ }
-    ensures { λ r. ⌜ r ≡ turnAfter (now (bytes .entry)) turn who ⌝ }
+// The turn after this one, whose byte and those after it are answered so.
+fn next(bytes: &[u8], turn: Turn, said: Said) -> Turn
+    requires { ⌜ (turn .at + said .count ≤ length (now bytes)) × (turn .tally .acknowledged ≤ turn .at) ⌝ }
+    ensures { λ r. ⌜ r ≡ turnPast (now (bytes .entry)) turn said ⌝ }
 {
     let heard = turn.heard;
     let expect = heard.expect;
     let tally = turn.tally;
     let last = tally.last;
-    let at = turn.at + 1;
+    let who = said.who;
+    let at = turn.at + said.count;
     let cut = turn.cut;
     Turn {
         at,
         cut,
         tally: Tally {
-            acknowledged: counted(tally.acknowledged, who),
+            acknowledged: counted(tally.acknowledged, who, said.count),
             last: last_heard(heard, who, last),
         },
         heard: BusByte {
@@ -232,7 +282,68 @@ fn next(bytes: &[u8], turn: Turn, who: Acknowledger) -> Turn
     }
 }
 
-// The chips follow the bytes from a turn on. What is acknowledged in all.
+// How many bytes may be taken at once, of so many whole ones that are left: data to the end, or a byte alone.
+fn most_of(kind: Kind, left: usize) -> usize
+    ensures { λ r. ⌜ r ≡ mostOf kind left ⌝ }
+{
+    match kind {
+        Kind::Command => 1,
+        Kind::Data => one_or(left),
+    }
+}
+
+fn most_after(expect: Expect, left: usize) -> usize
+    ensures { λ r. ⌜ r ≡ mostAfter expect left ⌝ }
+{
+    match expect {
+        Expect::Control => 1,
+        Expect::One(_) => 1,
+        Expect::All(kind) => most_of(kind, left),
+    }
+}
+
+// And in a turn. The byte that is cut is not whole.
+fn most_in(bytes: &[u8], turn: Turn) -> usize
+    requires { ⌜ turn .at < length (now bytes) ⌝ }
+    ensures { λ r. ⌜ r ≡ mostIn (now (bytes .entry)) turn ⌝ }
+{
+    let heard = turn.heard;
+    let expect = heard.expect;
+    let left = bytes.len() - turn.at;
+    if turn.cut {
+        most_after(expect, left - 1)
+    } else {
+        most_after(expect, left)
+    }
+}
+
+// The chip after the turn's byte, or after so many data bytes from it on.
+fn take(bytes: &[u8], chip: Chip, turn: Turn, count: usize) -> Chip
+    requires { ⌜ turn .at + count ≤ length (now bytes) ⌝ }
+    ensures { λ r. ⌜ r ≡ takenBy (now (bytes .entry)) turn count chip ⌝ }
+{
+    let heard = turn.heard;
+    let from = turn.at;
+    if count < 2 {
+        take_byte(chip, heard)
+    } else {
+        take_run(&bytes[from..from + count], chip, heard)
+    }
+}
+
+// Every chip takes them.
+fn take_all(chips: &mut [Chip], bytes: &[u8], turn: Turn, count: usize)
+    requires { ⌜ turn .at + count ≤ length (now bytes) ⌝ }
+    ensures { λ _. ⌜ now (chips .exit) ≡ map (takenBy (now (bytes .entry)) turn count) (now (chips .entry)) ⌝ }
+{
+    let mut i = 0;
+    while i < chips.len() {
+        chips[i] = take(bytes, chips[i], turn, count);
+        i += 1;
+    }
+}
+
+// The chips follow the bytes from a turn on, in each turn as many as they all answer alike. What is acknowledged in all.
 fn follow(chips: &mut [Chip], bytes: &[u8], start: Turn) -> Tally
     requires { ⌜ Ready (now chips) (now bytes) start ⌝ }
     ensures { λ r. ⌜ r ≡ tallyOf (followed (now (chips .entry)) (now (bytes .entry)) start) ⌝ }
@@ -240,9 +351,10 @@ fn follow(chips: &mut [Chip], bytes: &[u8], start: Turn) -> Tally
 {
     let mut turn = start;
     while turn.at < bytes.len() {
-        let who = smallest(chips, turn.heard);
-        take_all(chips, turn.heard);
-        turn = next(bytes, turn, who);
+        let most = most_in(bytes, turn);
+        let said = ask_all(chips, turn.heard, most);
+        take_all(chips, bytes, turn, said.count);
+        turn = next(bytes, turn, said);
     }
     turn.tally
 }
