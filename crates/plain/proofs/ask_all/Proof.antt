@@ -4,23 +4,23 @@ use Rattle.walks.proofs.Walk.{_≡_, refl, List, [], _∷_, ℕ, _-_, _*_, _^_,
 use Rattle.walks.proofs.Walk.{Cell, room, holds, rooms, frame, env, get, field, sets, forgets, leaves, reads-element, looked-into, looks, looked, Loop, Turned, turned, goes-on, next-turn, then, last, number, calls-plain, Shared-walk, shared-meets}
 use denote.Struct.Laws.{vals, tells, copy}
 use Rattle.sheet.specs.declared.Chip.{Chip}
-use Rattle.plain.specs.declared.Said.{Said}
-use Rattle.plain.specs.declared.BusByte.{BusByte}
-use Rattle.plain.specs.Asking.{nothingSaid, saidWith, saidBy}
-use Rattle.plain.proofs.Lowering.{Lowered, at-end, one-more, at-start}
+use Rattle.turns.specs.declared.Said.{Said}
+use Rattle.turns.specs.declared.BusByte.{BusByte}
+use Rattle.turns.specs.Asking.{nothingSaid, saidWith, saidBy}
+use Rattle.turns.proofs.Lowering.{Lowered, at-end, one-more, at-start}
 use Rattle.plain.proofs.Shapes.{blank, chip, heard, said}
 use Rattle.sheet.proofs.Chip as ChipType
 use Rattle.sheet.proofs.Chip.Laws as ChipLaws
-use Rattle.plain.proofs.Said as SaidType
-use Rattle.plain.proofs.BusByte as BusByteType
-use Rattle.plain.proofs.say_with as say-with
-use Rattle.plain.proofs.say_with.Symbol as say-with-symbol
-use Rattle.plain.proofs.say_with.Symbol.{name as #plain·say-with}
-use Rattle.plain.proofs.say_with.Met as say-with-theorem
-use Rattle.plain.proofs.nothing_said as nothing-said
-use Rattle.plain.proofs.nothing_said.Symbol as nothing-said-symbol
-use Rattle.plain.proofs.nothing_said.Symbol.{name as #plain·nothing-said}
-use Rattle.plain.proofs.nothing_said.Met as nothing-said-theorem
+use Rattle.turns.proofs.Said as SaidType
+use Rattle.turns.proofs.BusByte as BusByteType
+use Rattle.turns.proofs.say_with as say-with
+use Rattle.turns.proofs.say_with.Symbol as say-with-symbol
+use Rattle.turns.proofs.say_with.Symbol.{name as #turns·say-with}
+use Rattle.turns.proofs.say_with.Met as say-with-theorem
+use Rattle.turns.proofs.nothing_said as nothing-said
+use Rattle.turns.proofs.nothing_said.Symbol as nothing-said-symbol
+use Rattle.turns.proofs.nothing_said.Symbol.{name as #turns·nothing-said}
+use Rattle.turns.proofs.nothing_said.Met as nothing-said-theorem
 use Rattle.plain.proofs.ask_all as own
 use Rattle.plain.proofs.ask_all.Key.{name as #plain·ask-all}
 use Rattle.plain.proofs.ask_all.Statement as stated
@@ -32,7 +32,7 @@ abbrev Says : (κs : Lfts 1) → Args own.signature κs → Said → Type 0
 Says κs a r = r ≡ saidBy (a .1 .0) (a .1 .1 .0) (a .0 .now)
 
 module _ {M : Type 1} (𝓤 : URA M) (H : Heap 𝓤) (A : Atoms 𝓤) (W : Given 𝓤 H A) (mem : Memory → SProp 𝓤) (run : Routine → Fun 𝓤) (𝓣 : Tables 𝓤 H)
-    (nothing-said-met : Meets 𝓤 H A nothing-said.signature (𝓣 .C #plain·nothing-said) (nothing-said.spec 𝓤 H A mem run)) (say-with-met : Meets 𝓤 H A say-with.signature (𝓣 .C #plain·say-with) (say-with.spec 𝓤 H A mem run)) where
+    (nothing-said-met : Meets 𝓤 H A nothing-said.signature (𝓣 .C #turns·nothing-said) (nothing-said.spec 𝓤 H A mem run)) (say-with-met : Meets 𝓤 H A say-with.signature (𝓣 .C #turns·say-with) (say-with.spec 𝓤 H A mem run)) where
   walk : Shared-walk 𝓤 H A W 𝓣 code.function SaidType.the-row said ChipType.the-row (plain (λ _. BusByteType.the-row) ∷ plain (λ _. usize) ∷ []) (λ _. (heard, (number w64, tt))) (own.clauses 𝓤 H A mem run) (λ κs a. Unit {0}) Says
   walk κ s b o γ xs a space are _ post ends l =
       calls-plain ! 4 𝓣 SaidType.the-row said tt refl (nothingSaid most) (then _) (plain (λ _. usize) ∷ []) (λ _. (number w64, tt)) (λ _. (most, tt)) (λ _. (are .1 .0, tt)) (nothing-said.clauses 𝓤 H A mem run) nothing-said-met tt (id⊢ 𝓤 (emp 𝓤))
@@ -95,5 +95,5 @@ ask-all-spec 𝓤 H 𝓜 𝓖 𝓡 =
     (shared-meets 𝓤 H A W 𝓣 code.function SaidType.the-row said ChipType.the-row (plain (λ _. BusByteType.the-row) ∷ plain (λ _. usize) ∷ []) (λ _. (heard, (number w64, tt))) (own.clauses 𝓤 H A (𝓜 .mem) (𝓡 .run)) (λ κs a. Unit {0}) Says
     (λ κ b o xs a space are. ((tt, (tt, (record { fits = space .0 }, tt))), (heard .typed 𝓤 H A W (a .0) (are .0), (number w64 .typed 𝓤 H A W (a .1 .0) (are .1 .0), tt)))) (λ κs a gh. factI 𝓤 (Unit {0}) _ tt) (λ κs a gh r ws. id⊢ 𝓤 _)
     (walk 𝓤 H A W (𝓜 .mem) (𝓡 .run) 𝓣
-    (cited 𝓤 H (tripleOf 𝓤 H A nothing-said.signature (nothing-said.spec 𝓤 H A (𝓜 .mem) (𝓡 .run))) 𝓜 𝓡 code.env #plain·nothing-said nothing-said-symbol.routine code.calls-plain·nothing-said (nothing-said-theorem.met 𝓤 H 𝓜 𝓖 𝓡))
-    (cited 𝓤 H (tripleOf 𝓤 H A say-with.signature (say-with.spec 𝓤 H A (𝓜 .mem) (𝓡 .run))) 𝓜 𝓡 code.env #plain·say-with say-with-symbol.routine code.calls-plain·say-with (say-with-theorem.met 𝓤 H 𝓜 𝓖 𝓡))))
+    (cited 𝓤 H (tripleOf 𝓤 H A nothing-said.signature (nothing-said.spec 𝓤 H A (𝓜 .mem) (𝓡 .run))) 𝓜 𝓡 code.env #turns·nothing-said nothing-said-symbol.routine code.calls-turns·nothing-said (nothing-said-theorem.met 𝓤 H 𝓜 𝓖 𝓡))
+    (cited 𝓤 H (tripleOf 𝓤 H A say-with.signature (say-with.spec 𝓤 H A (𝓜 .mem) (𝓡 .run))) 𝓜 𝓡 code.env #turns·say-with say-with-symbol.routine code.calls-turns·say-with (say-with-theorem.met 𝓤 H 𝓜 𝓖 𝓡))))

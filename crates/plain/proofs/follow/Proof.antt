@@ -4,25 +4,25 @@ use Rattle.walks.proofs.Walk.{_≡_, refl, sym, subst, List, [], _∷_, map, �
 use Rattle.walks.proofs.Walk.{Cell, room, holds, rooms, frame, env, get, field, sets, forgets, leaves, nothing, opened, opens, shuts, shared, slice, reslices, Loop, Turned, turned, goes-on, next-turn, last, then, number, calls-showing, calls-passing, calls-lending-passing, Mut-shared-walk, mut-shared-meets, said-both}
 use denote.Struct.Laws.{owed}
 use Rattle.sheet.specs.declared.Chip.{Chip}
-use Rattle.plain.specs.declared.Turn.{Turn}
-use Rattle.plain.specs.declared.Said.{Said}
-use Rattle.plain.specs.declared.Tally.{Tally}
-use Rattle.plain.specs.Asking.{saidBy}
-use Rattle.plain.specs.Turns.{turnPast, mostIn, takenBy, tallyOf, followed, Ready}
-use Rattle.plain.proofs.Following.{Following, ended}
-use Rattle.plain.proofs.Stretches.{Stretch, stretch}
+use Rattle.turns.specs.declared.Turn.{Turn}
+use Rattle.turns.specs.declared.Said.{Said}
+use Rattle.turns.specs.declared.Tally.{Tally}
+use Rattle.turns.specs.Asking.{saidBy}
+use Rattle.turns.specs.Turns.{turnPast, mostIn, takenBy, tallyOf, followed, Ready}
+use Rattle.turns.proofs.Following.{Following, ended}
+use Rattle.turns.proofs.Stretches.{Stretch, stretch}
 use Rattle.plain.proofs.Shapes.{heard, said, tally, turn}
 use Rattle.sheet.proofs.Chip as ChipType
-use Rattle.plain.proofs.BusByte as BusByteType
-use Rattle.plain.proofs.Said as SaidType
-use Rattle.plain.proofs.Said.Laws as SaidLaws
-use Rattle.plain.proofs.Tally as TallyType
-use Rattle.plain.proofs.Turn as TurnType
-use Rattle.plain.proofs.Turn.Laws as TurnLaws
-use Rattle.plain.proofs.most_in as most-in
-use Rattle.plain.proofs.most_in.Symbol as most-in-symbol
-use Rattle.plain.proofs.most_in.Symbol.{name as #plain·most-in}
-use Rattle.plain.proofs.most_in.Met as most-in-theorem
+use Rattle.turns.proofs.BusByte as BusByteType
+use Rattle.turns.proofs.Said as SaidType
+use Rattle.turns.proofs.Said.Laws as SaidLaws
+use Rattle.turns.proofs.Tally as TallyType
+use Rattle.turns.proofs.Turn as TurnType
+use Rattle.turns.proofs.Turn.Laws as TurnLaws
+use Rattle.turns.proofs.most_in as most-in
+use Rattle.turns.proofs.most_in.Symbol as most-in-symbol
+use Rattle.turns.proofs.most_in.Symbol.{name as #turns·most-in}
+use Rattle.turns.proofs.most_in.Met as most-in-theorem
 use Rattle.plain.proofs.ask_all as ask-all
 use Rattle.plain.proofs.ask_all.Symbol as ask-all-symbol
 use Rattle.plain.proofs.ask_all.Symbol.{name as #plain·ask-all}
@@ -31,10 +31,10 @@ use Rattle.plain.proofs.take_all as take-all
 use Rattle.plain.proofs.take_all.Symbol as take-all-symbol
 use Rattle.plain.proofs.take_all.Symbol.{name as #plain·take-all}
 use Rattle.plain.proofs.take_all.Met as take-all-theorem
-use Rattle.plain.proofs.next as next
-use Rattle.plain.proofs.next.Symbol as next-symbol
-use Rattle.plain.proofs.next.Symbol.{name as #plain·next}
-use Rattle.plain.proofs.next.Met as next-theorem
+use Rattle.turns.proofs.next as next
+use Rattle.turns.proofs.next.Symbol as next-symbol
+use Rattle.turns.proofs.next.Symbol.{name as #turns·next}
+use Rattle.turns.proofs.next.Met as next-theorem
 use Rattle.plain.proofs.follow as own
 use Rattle.plain.proofs.follow.Key.{name as #plain·follow}
 use Rattle.plain.proofs.follow.Statement as stated
@@ -48,7 +48,7 @@ abbrev Says : (κs : Lfts 2) → Args own.signature κs → List Chip → Tally 
 Says κs a zs r = (r ≡ tallyOf (followed (a .0 .now) (a .1 .0 .now) (a .1 .1 .0))) × (zs ≡ followed (a .0 .now) (a .1 .0 .now) (a .1 .1 .0) .chips)
 
 module _ {M : Type 1} (𝓤 : URA M) (H : Heap 𝓤) (A : Atoms 𝓤) (W : Given 𝓤 H A) (mem : Memory → SProp 𝓤) (run : Routine → Fun 𝓤) (𝓣 : Tables 𝓤 H)
-    (most-in-met : Meets 𝓤 H A most-in.signature (𝓣 .C #plain·most-in) (most-in.spec 𝓤 H A mem run)) (ask-all-met : Meets 𝓤 H A ask-all.signature (𝓣 .C #plain·ask-all) (ask-all.spec 𝓤 H A mem run)) (take-all-met : Meets 𝓤 H A take-all.signature (𝓣 .C #plain·take-all) (take-all.spec 𝓤 H A mem run)) (next-met : Meets 𝓤 H A next.signature (𝓣 .C #plain·next) (next.spec 𝓤 H A mem run)) where
+    (most-in-met : Meets 𝓤 H A most-in.signature (𝓣 .C #turns·most-in) (most-in.spec 𝓤 H A mem run)) (ask-all-met : Meets 𝓤 H A ask-all.signature (𝓣 .C #plain·ask-all) (ask-all.spec 𝓤 H A mem run)) (take-all-met : Meets 𝓤 H A take-all.signature (𝓣 .C #plain·take-all) (take-all.spec 𝓤 H A mem run)) (next-met : Meets 𝓤 H A next.signature (𝓣 .C #turns·next) (next.spec 𝓤 H A mem run)) where
   walk : Mut-shared-walk 𝓤 H A W 𝓣 code.function TallyType.the-row tally ChipType.the-row u8 (plain (λ _. TurnType.the-row) ∷ []) (λ _. (turn, tt)) (own.clauses 𝓤 H A mem run) Asked Says
   walk κ κ₂ s s₂ b o b₂ o₂ γ γ₂ xs bytes a space space₂ are ready post ends l =
       sets ! (of-opd ! (get ! refl)) tt (turn .typed 𝓤 H A W (a .0) (are .0)) $ move ! (1 ∷ []) $ opens ChipType.the-row ! tt xs b o $ move ! (2 ∷ 0 ∷ 3 ∷ []) $
@@ -111,7 +111,7 @@ follow-spec 𝓤 H 𝓜 𝓖 𝓡 =
     (mut-shared-meets 𝓤 H A W 𝓣 code.function TallyType.the-row tally ChipType.the-row u8 (plain (λ _. TurnType.the-row) ∷ []) (λ _. (turn, tt)) (own.clauses 𝓤 H A (𝓜 .mem) (𝓡 .run)) Asked Says
     (λ κ κ₂ b o b₂ o₂ xs bytes a space space₂ are. ((tt, (tt, (record { fits = space .0 }, tt))), ((tt, (tt, (record { fits = space₂ .0 }, tt))), (turn .typed 𝓤 H A W (a .0) (are .0), tt)))) (λ κs a gh. id⊢ 𝓤 _) (λ κs a gh r ws. said-both 𝓤 _ _)
     (walk 𝓤 H A W (𝓜 .mem) (𝓡 .run) 𝓣
-    (cited 𝓤 H (tripleOf 𝓤 H A most-in.signature (most-in.spec 𝓤 H A (𝓜 .mem) (𝓡 .run))) 𝓜 𝓡 code.env #plain·most-in most-in-symbol.routine code.calls-plain·most-in (most-in-theorem.met 𝓤 H 𝓜 𝓖 𝓡))
+    (cited 𝓤 H (tripleOf 𝓤 H A most-in.signature (most-in.spec 𝓤 H A (𝓜 .mem) (𝓡 .run))) 𝓜 𝓡 code.env #turns·most-in most-in-symbol.routine code.calls-turns·most-in (most-in-theorem.met 𝓤 H 𝓜 𝓖 𝓡))
     (cited 𝓤 H (tripleOf 𝓤 H A ask-all.signature (ask-all.spec 𝓤 H A (𝓜 .mem) (𝓡 .run))) 𝓜 𝓡 code.env #plain·ask-all ask-all-symbol.routine code.calls-plain·ask-all (ask-all-theorem.met 𝓤 H 𝓜 𝓖 𝓡))
     (cited 𝓤 H (tripleOf 𝓤 H A take-all.signature (take-all.spec 𝓤 H A (𝓜 .mem) (𝓡 .run))) 𝓜 𝓡 code.env #plain·take-all take-all-symbol.routine code.calls-plain·take-all (take-all-theorem.met 𝓤 H 𝓜 𝓖 𝓡))
-    (cited 𝓤 H (tripleOf 𝓤 H A next.signature (next.spec 𝓤 H A (𝓜 .mem) (𝓡 .run))) 𝓜 𝓡 code.env #plain·next next-symbol.routine code.calls-plain·next (next-theorem.met 𝓤 H 𝓜 𝓖 𝓡))))
+    (cited 𝓤 H (tripleOf 𝓤 H A next.signature (next.spec 𝓤 H A (𝓜 .mem) (𝓡 .run))) 𝓜 𝓡 code.env #turns·next next-symbol.routine code.calls-turns·next (next-theorem.met 𝓤 H 𝓜 𝓖 𝓡))))

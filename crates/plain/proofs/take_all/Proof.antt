@@ -5,16 +5,16 @@ use Rattle.walks.proofs.Walk.{Cell, room, holds, rooms, frame, env, get, field,
 use native.Mathlib.Nat.{le-antisymm}
 use Rattle.walks.proofs.Firsts.{firstOf, first-length, first-at, first-more, first-all}
 use Rattle.sheet.specs.declared.Chip.{Chip}
-use Rattle.plain.specs.declared.Turn.{Turn}
-use Rattle.plain.specs.Turns.{takenBy}
+use Rattle.turns.specs.declared.Turn.{Turn}
+use Rattle.turns.specs.Turns.{takenBy}
 use Rattle.plain.proofs.Shapes.{blank, chip, turn}
 use Rattle.sheet.proofs.Chip as ChipType
 use Rattle.sheet.proofs.Chip.Laws as ChipLaws
-use Rattle.plain.proofs.Turn as TurnType
-use Rattle.plain.proofs.take as take
-use Rattle.plain.proofs.take.Symbol as take-symbol
-use Rattle.plain.proofs.take.Symbol.{name as #plain·take}
-use Rattle.plain.proofs.take.Met as take-theorem
+use Rattle.turns.proofs.Turn as TurnType
+use Rattle.turns.proofs.take as take
+use Rattle.turns.proofs.take.Symbol as take-symbol
+use Rattle.turns.proofs.take.Symbol.{name as #turns·take}
+use Rattle.turns.proofs.take.Met as take-theorem
 use Rattle.plain.proofs.take_all as own
 use Rattle.plain.proofs.take_all.Key.{name as #plain·take-all}
 use Rattle.plain.proofs.take_all.Statement as stated
@@ -29,7 +29,7 @@ abbrev Says : (κs : Lfts 2) → Args own.signature κs → List Chip → Unit {
 Says κs a zs r = zs ≡ map (takenBy (a .1 .0 .now) (a .1 .1 .0) (a .1 .1 .1 .0)) (a .0 .now)
 
 module _ {M : Type 1} (𝓤 : URA M) (H : Heap 𝓤) (A : Atoms 𝓤) (W : Given 𝓤 H A) (mem : Memory → SProp 𝓤) (run : Routine → Fun 𝓤) (𝓣 : Tables 𝓤 H)
-    (take-met : Meets 𝓤 H A take.signature (𝓣 .C #plain·take) (take.spec 𝓤 H A mem run)) where
+    (take-met : Meets 𝓤 H A take.signature (𝓣 .C #turns·take) (take.spec 𝓤 H A mem run)) where
   walk : Mut-shared-walk 𝓤 H A W 𝓣 code.function unit nothing ChipType.the-row u8 (plain (λ _. TurnType.the-row) ∷ plain (λ _. usize) ∷ []) (λ _. (turn, (number w64, tt))) (own.clauses 𝓤 H A mem run) Asked Says
   walk κ κ₂ s s₂ b o b₂ o₂ γ γ₂ xs bytes a space space₂ are fits post ends l =
       sets ! (of-opd ! (lit ! tt)) tt (tt, record { fits = lit< tt }) $ move ! (1 ∷ []) $ opens ChipType.the-row ! tt xs b o $ move ! (2 ∷ 0 ∷ 3 ∷ []) $ turned W 𝓣 loop ! turns 0 (omega arith)
@@ -94,4 +94,4 @@ take-all-spec 𝓤 H 𝓜 𝓖 𝓡 =
     (mut-shared-meets 𝓤 H A W 𝓣 code.function unit nothing ChipType.the-row u8 (plain (λ _. TurnType.the-row) ∷ plain (λ _. usize) ∷ []) (λ _. (turn, (number w64, tt))) (own.clauses 𝓤 H A (𝓜 .mem) (𝓡 .run)) Asked Says
     (λ κ κ₂ b o b₂ o₂ xs bytes a space space₂ are. ((tt, (tt, (record { fits = space .0 }, tt))), ((tt, (tt, (record { fits = space₂ .0 }, tt))), (turn .typed 𝓤 H A W (a .0) (are .0), (number w64 .typed 𝓤 H A W (a .1 .0) (are .1 .0), tt))))) (λ κs a gh. id⊢ 𝓤 _) (λ κs a gh r ws. id⊢ 𝓤 _)
     (walk 𝓤 H A W (𝓜 .mem) (𝓡 .run) 𝓣
-    (cited 𝓤 H (tripleOf 𝓤 H A take.signature (take.spec 𝓤 H A (𝓜 .mem) (𝓡 .run))) 𝓜 𝓡 code.env #plain·take take-symbol.routine code.calls-plain·take (take-theorem.met 𝓤 H 𝓜 𝓖 𝓡))))
+    (cited 𝓤 H (tripleOf 𝓤 H A take.signature (take.spec 𝓤 H A (𝓜 .mem) (𝓡 .run))) 𝓜 𝓡 code.env #turns·take take-symbol.routine code.calls-turns·take (take-theorem.met 𝓤 H 𝓜 𝓖 𝓡))))
