@@ -52,13 +52,14 @@ fn ask_all(chips: &[Chip], heard: BusByte, most: usize) -> Said
     said
 }
 
-// Every chip takes them.
+// Every chip takes them, if they change any.
 fn take_all(chips: &mut [Chip], bytes: &[u8], turn: Turn, count: usize)
     requires { ⌜ turn .at + count ≤ length (now bytes) ⌝ }
     ensures { λ _. ⌜ now (chips .exit) ≡ map (takenBy (now (bytes .entry)) turn count) (now (chips .entry)) ⌝ }
 {
+    let limit = turns::reach(turn, count, chips.len());
     let mut i = 0;
-    while i < chips.len() {
+    while i < limit {
         chips[i] = turns::take(bytes, chips[i], turn, count);
         i += 1;
     }

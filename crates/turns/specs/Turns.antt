@@ -64,6 +64,12 @@ mostIn bytes t = mostAfter (t .heard .expect) (cond (t .cut) (length bytes - t .
 abbrev pub takenBy : List ℕ → Turn → ℕ → Chip → Chip
 takenBy bytes t n c = cond (ltb n 2) (taken (t .heard) c) (ranBy (t .heard) (take n (drop (t .at) bytes)) c)
 
+-- how many of the chips such a turn changes: a control byte changes none
+abbrev pub reachOf : Expect → ℕ → ℕ → ℕ
+reachOf Control n chips = cond (ltb n 2) 0 chips
+reachOf (One k) n chips = chips
+reachOf (All k) n chips = chips
+
 abbrev pub plainAt : Tally → List Chip → Plain
 plainAt t cs = record { acknowledged = t .acknowledged; last = t .last; chips = cs }
 

@@ -9,7 +9,7 @@ ghost use Prim.Native.Nat.{_+_, _≤_, _<_, _^_};
 ghost use lib.ListN.{length};
 ghost use Rattle.sheet.specs.Plain.{lower, lastOf, lastAfter};
 ghost use Rattle.turns.specs.Asking.{answers, oneOr, alikeOf, nothingSaid, saidWith, taken, ranBy};
-ghost use Rattle.turns.specs.Turns.{onceEach, lastHeard, turnPast, mostOf, mostAfter, mostIn, takenBy};
+ghost use Rattle.turns.specs.Turns.{onceEach, lastHeard, turnPast, mostOf, mostAfter, mostIn, takenBy, reachOf};
 
 // ---- one chip, by value
 
@@ -266,4 +266,23 @@ pub fn take(bytes: &[u8], chip: Chip, turn: Turn, count: usize) -> Chip
     } else {
         take_run(&bytes[from..from + count], chip, heard)
     }
+}
+
+// How many of the chips such a turn changes: a control byte changes none.
+fn reach_after(expect: Expect, count: usize, chips: usize) -> usize
+    ensures { λ r. ⌜ r ≡ reachOf expect count chips ⌝ }
+{
+    match expect {
+        Expect::Control => { if count < 2 { 0 } else { chips } }
+        Expect::One(_) => chips,
+        Expect::All(_) => chips,
+    }
+}
+
+pub fn reach(turn: Turn, count: usize, chips: usize) -> usize
+    ensures { λ r. ⌜ r ≡ reachOf (turn .heard .expect) count chips ⌝ }
+{
+    let heard = turn.heard;
+    let expect = heard.expect;
+    reach_after(expect, count, chips)
 }
