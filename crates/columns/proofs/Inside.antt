@@ -1,7 +1,7 @@
 -- Data bytes that end in the columns from P to the chip's last: A stays at each of their columns, so that one chip alone stores and acknowledges them all.
 -- Assumes nothing.
 use mathlib.Core.Path.{_≡_, refl, sym, ap, ap₂, _∙_, subst}
-use mathlib.Core.Bool.{Bool, false, cond}
+use mathlib.Core.Bool.{Bool, true, false, cond}
 use mathlib.Core.List.{List, [], _∷_}
 use Prim.Native.Nat.{ℕ, zero, suc, _+_, _-_, _*_, _/_, _≤_, _<_}
 use native.Mathlib.Nat.{add-zero, add-suc, mul-zero, mul-one, mul-suc, le-div-iff-mul-le}
@@ -15,10 +15,11 @@ use Rattle.sheet.specs.Parts.{Part}
 use Rattle.sheet.specs.Registers.{atPlace, backplanes, bankRow}
 use Rattle.sheet.specs.Plain.{putRows, chipData, acknowledgesData}
 use Rattle.sheet.specs.Places.{advanced, advancedBy}
-use Rattle.sheet.specs.Data.{changed, widthOf}
-use Rattle.laws.proofs.Ranges.{InRange}
+use Rattle.sheet.specs.Data.{changed, putBits, widthOf}
+use Rattle.laws.proofs.Ranges.{InRange, planes-pos}
 use Rattle.laws.proofs.Steps.{columns-move}
 use Rattle.laws.proofs.Runs.{unchanged}
+use Rattle.agreement.proofs.Byte.{putColumns, by-columns}
 use Rattle.columns.specs.Stored.{storedIn, columnsAfter, ranOver, roomIn}
 use Rattle.columns.proofs.Apart.{with, byte-apart, on-in, on-planes}
 
@@ -92,7 +93,27 @@ passed K (x ∷ y ∷ ys) c h other fits =
     ∙ passed K (y ∷ ys) next (on-in K w r h) (ap (λ (a : ℕ). eqb a (c .subaddress)) (more .1) ∙ other) (more .0)
     ∙ ap (with c (c .columns)) (ap (λ (m : ℕ). advancedBy K (widthOf m * n) (advancedBy K w r)) (on-planes K w r h) ∙ on-on K (w * n) w r ∙ ap (λ (k : ℕ). advancedBy K k r) all)
 
--- the chip that A names acknowledges each of them, and no other
+-- ---- the chip that A names
+
+-- the first n columns of a byte
+named : (K : Part) (s x : ℕ) (r : Registers) (n : ℕ) (l : List ℕ) → eqb (r .a) s ≡ true → r .p + n ≤ K .columns
+    → columnsAfter K s x r n l ≡ putColumns n (backplanes r) (bankRow (backplanes r) (r .i)) (r .p) x l
+unfolding columnsAfter putColumns changed backplanes
+named K s x r zero l own fits = refl
+named K s x r (suc n) l own fits =
+    let m = backplanes r in
+    let b = bankRow m (r .i) in
+    let before = putColumns n m b (r .p) x l in
+    ap₂ (λ (t : Registers) (k : List ℕ). set k (t .p) (storedIn t s x n (getD k (t .p) 0))) (still K n r (omega arith)) (named K s x r n l own (omega arith))
+    ∙ ap (λ (c : Bool). set before (r .p + n) (cond c (putRows m b (m * n) x (getD before (r .p + n) 0)) (getD before (r .p + n) 0))) own
+
+-- all of them, bit by bit
+pub stored-inside : (K : Part) (s x : ℕ) (r : Registers) (l : List ℕ) → eqb (r .a) s ≡ true → r .p + widthOf (backplanes r) ≤ K .columns
+    → columnsAfter K s x r (widthOf (backplanes r)) l ≡ putBits 8 (backplanes r) (bankRow (backplanes r) (r .i)) (r .p) x l
+stored-inside K s x r l own fits =
+    named K s x r (widthOf (backplanes r)) l own fits ∙ sym (by-columns (backplanes r) (bankRow (backplanes r) (r .i)) (r .p) x l (planes-pos r))
+
+-- it acknowledges each of several, and no other
 pub acknowledged-inside : (K : Part) (x n : ℕ) (c : Chip) → Inside K (c .registers) (suc n) → acknowledgesData K x c ≡ eqb (c .registers .a) (c .subaddress)
 unfolding acknowledgesData
 acknowledged-inside K x n c fits =

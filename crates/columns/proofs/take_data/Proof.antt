@@ -18,12 +18,12 @@ use Rattle.columns.proofs.take_data.Statement.{statement}
 use Rattle.columns.proofs.take_data.Tie as tie
 
 put-byte-requires : tie.Need-put-byte-requires
-put-byte-requires c κs = let s = c .before .before in
+put-byte-requires c κs = let s = c .before .before .before in
     let all : length (s .args .chip .columns) ≡ 160 = search needs in
     (omega (arith, all, columns-small (s .args .part)), s .pre)
 
 returns : tie.Need-returns
-returns c = let a = c .before .before .before .before .before .args in
+returns c = let a = c .before .before .before .before .before .before .args in
     let K = partOf (a .part) in
     let r = a .chip .registers in
     ap₂ (with (a .chip)) (c .before .before .put-byte .ensures) (c .pass .ensures ∙ ap (λ (n : ℕ). advancedBy K n r) (mul-one (widthOf (backplanes r)))) ∙ sym (byte-apart K (a .byte) (a .chip))
