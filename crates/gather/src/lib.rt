@@ -51,12 +51,15 @@ fn three_byte(columns: &[u8], at: usize) -> u8
     words::reversed(columns[at] % 8 + columns[at + 1] % 8 * 8 + columns[at + 2] % 4 * 64)
 }
 
-// 1:4: two columns of four rows.
+// 1:4: two columns of four rows, as one number, so that the compiler takes several at a time: their rows the other way round in two steps, and the first above the second.
 fn four_byte(columns: &[u8], at: usize) -> u8
     requires { ⌜ at + 2 ≤ length (now columns) ⌝ }
     ensures { λ r. ⌜ r ≡ bitsFrom 8 4 0 at (now (columns .entry)) ⌝ }
 {
-    words::reversed(columns[at] % 16 + columns[at + 1] % 16 * 16)
+    let word = columns[at] as u16 + 256 * (columns[at + 1] as u16);
+    let swapped = (word & 0x0303) * 4 | word / 4 & 0x0303;
+    let reversed = (swapped & 0x0505) * 2 | swapped / 2 & 0x0505;
+    (reversed % 16 * 16 + reversed / 256) as u8
 }
 
 // 1:3 at an even column: two columns of three rows, and two bits that are 0.
