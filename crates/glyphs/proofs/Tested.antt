@@ -9,10 +9,10 @@ use Rattle.lemmas.proofs.Tests.{all, all-at, and-left, and-right}
 use Rattle.price_sheet.specs.declared.Symbol.{Symbol}
 use Rattle.price_sheet.specs.declared.Symbol.the-variants.{Digit, Pointed, Space, Minus, LongMinus}
 use Rattle.price_sheet.specs.Price.{isSymbol, segmentsOf, byteOf}
-use Rattle.glyphs.specs.Tables.{orderOf, litOf, arranged}
+use Rattle.glyphs.specs.Tables.{orderOf, pushed, arranged, bytesIn, byteIn, byteBy}
 
 abbrev same : ℕ → Symbol → Bool
-same mode s = eqb (arranged (orderOf mode) (litOf (segmentsOf s))) (byteOf mode s)
+same mode s = eqb (byteBy (bytesIn (orderOf mode)) s) (byteOf mode s)
 
 abbrev digits : ℕ → Bool
 digits mode = all 10 (λ n. same mode (Digit n) && same mode (Pointed n))
@@ -21,7 +21,7 @@ abbrev others : ℕ → Bool
 others mode = same mode Space && (same mode Minus && same mode LongMinus)
 
 tested : (mode : ℕ) → mode < 4 → T (digits mode && others mode)
-unfolding arranged byteOf segmentsOf
+unfolding pushed arranged byteIn byteBy byteOf segmentsOf
 tested mode h = all-at 4 (λ m. digits m && others m) tt mode h
 
 module _ (mode : ℕ) (h : mode < 4) where
@@ -38,5 +38,5 @@ module _ (mode : ℕ) (h : mode < 4) where
   test Minus e = and-left (same mode Minus) (same mode LongMinus) (and-right (same mode Space) (same mode Minus && same mode LongMinus) other)
   test LongMinus e = and-right (same mode Minus) (same mode LongMinus) (and-right (same mode Space) (same mode Minus && same mode LongMinus) other)
 
-  pub byte-is : (s : Symbol) → isSymbol s ≡ true → arranged (orderOf mode) (litOf (segmentsOf s)) ≡ byteOf mode s
-  byte-is s e = eqb→eq (arranged (orderOf mode) (litOf (segmentsOf s))) (byteOf mode s) (test s e)
+  pub byte-is : (s : Symbol) → isSymbol s ≡ true → byteBy (bytesIn (orderOf mode)) s ≡ byteOf mode s
+  byte-is s e = eqb→eq (byteBy (bytesIn (orderOf mode)) s) (byteOf mode s) (test s e)
