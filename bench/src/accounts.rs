@@ -88,6 +88,6 @@ fn measure(setup: Setup) -> [Figure; 3] {
     figures(calls).map(|figure| figure.per(setup.data_bytes()))
 }
 
-pub fn run() {
-    report::accounts(&measure::all(&samples::filled(), measure));
+pub fn run() -> Vec<report::Target> {
+    report::accounts(&measure::all(&samples::filled(), measure))
 }

@@ -109,9 +109,9 @@ fn rows(mode: Mode, limit: usize) -> [report::Row; 2] {
     ]
 }
 
-pub fn run() {
+pub fn run() -> Vec<report::Target> {
     let limits = |mode| LIMITS.into_iter().flat_map(move |limit| rows(mode, limit));
     let rows: Vec<report::Row> = MODES.into_iter().flat_map(limits).collect();
     let title = "A price, of up to so many bytes of text written or of data bytes read: ns a call";
-    report::rows(title, "price   | mode   | bytes", &rows);
+    report::rows(title, "price   | mode   | bytes", &rows)
 }

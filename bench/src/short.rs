@@ -137,10 +137,15 @@ pub fn check() -> Result<(), String> {
     short().iter().chain(&refused()).try_for_each(Case::check)
 }
 
-pub fn run() {
+pub fn run() -> Vec<report::Target> {
     let head = format!("part     | chips | {:34}", "transfer");
     let rows = |cases: Vec<Case>| cases.iter().map(Case::row).collect::<Vec<_>>();
-    report::rows("Short transfers: ns a call", &head, &rows(short()));
+    let mut targets = report::rows("Short transfers: ns a call", &head, &rows(short()));
     let head = format!("part     | chips | {:34}", "refused by");
-    report::rows("Refused transfers: ns a call", &head, &rows(refused()));
+    targets.extend(report::rows(
+        "Refused transfers: ns a call",
+        &head,
+        &rows(refused()),
+    ));
+    targets
 }
