@@ -27,7 +27,7 @@ pub fn rows(title: &str, head: &str, rows: &[Row]) -> Vec<Target> {
         );
     }
     println!();
-    let (what, _) = title.split_once(':').unwrap_or((title, ""));
+    let (what, _) = title.rsplit_once(':').unwrap_or((title, ""));
     let target = |(name, [a, _, c]): &Row| {
         let parts: Vec<&str> = name.split('|').map(str::trim).collect();
         against(&format!("{what}, {}", parts.join(", ")), BY_HAND, *a, *c)
