@@ -6,7 +6,7 @@ use crate::report;
 use crate::same::{agreed, answered, transferred};
 use crate::samples::{self, Bus, Setup, TURNS};
 use crate::timing::{figures, Call, Figure};
-use crate::ways::{Plain, PLAIN, TRANSFERS};
+use crate::ways::{answer_of, Plain, PLAIN, TRANSFERS};
 use humtrellis::raw::{ACKNOWLEDGED, ACKNOWLEDGED_BY, CHIP, CHIP_REGISTERS, CHIP_SUBADDRESS};
 use humtrellis_tests::generate::shape;
 use humtrellis_tests::model::{SET, WHOLE};
@@ -32,9 +32,11 @@ pub fn plain_call<'a>(
     mut chips: Vec<u8>,
     transfers: &'a [Vec<u8>],
 ) -> Call<'a> {
+    let mut answer = Numbers::default();
     Box::new(move |turn| {
         let bytes = black_box(transfers[turn % TURNS].as_slice());
-        black_box(way(part, &mut chips, bytes, WHOLE));
+        way(part, &mut chips, bytes, WHOLE, &mut answer);
+        black_box(&answer);
     })
 }
 
@@ -47,7 +49,8 @@ pub fn agreed_plain(
 ) -> Result<(Numbers, Vec<u8>), String> {
     agreed(what, &PLAIN, |way| {
         let mut chips = chips.to_vec();
-        (way(part, &mut chips, bytes, WHOLE), chips)
+        let answer = answer_of(|answer| way(part, &mut chips, bytes, WHOLE, answer));
+        (answer, chips)
     })
 }
 
@@ -85,6 +88,6 @@ fn measure(setup: Setup) -> [Figure; 3] {
     figures(calls).map(|figure| figure.per(setup.data_bytes()))
 }
 
-pub fn run() {
-    report::accounts(&measure::all(&samples::filled(), measure));
+pub fn run() -> Vec<report::Target> {
+    report::accounts(&measure::all(&samples::filled(), measure))
 }

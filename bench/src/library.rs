@@ -1,5 +1,6 @@
 //! (a): the proved library, through the calls of include/humtrellis.h.
 
+use crate::samples::Bus;
 use crate::ways::Asked;
 use humtrellis::raw::*;
 use humtrellis_tests::model::View;
@@ -12,37 +13,27 @@ pub type Numbers = [usize; ANSWER];
 /// A transfer and a picture in the form that the calls take the RAM in.
 macro_rules! forms {
     ($transfer:ident by $called:ident, $picture:ident by $shown:ident) => {
-        pub fn $transfer(
-            part: u8,
-            [chips0, chips1]: [u8; 2],
-            registers: &mut RegisterBytes,
-            ram: &mut [u8],
-            bytes: &[u8],
-            bits: u8,
-        ) -> Numbers {
-            let mut answer = [0; ANSWER];
+        pub fn $transfer(bus: &mut Bus, bytes: &[u8], bits: u8, answer: &mut Numbers) {
             // Safety: each pointer goes with the length of the buffer that it points to.
             unsafe {
                 $called(
-                    part,
-                    chips0,
-                    chips1,
-                    registers.as_mut_ptr(),
-                    registers.len(),
-                    ram.as_mut_ptr(),
-                    ram.len(),
+                    bus.part,
+                    bus.chips[0],
+                    bus.chips[1],
+                    bus.registers.as_mut_ptr(),
+                    bus.registers.len(),
+                    bus.ram.as_mut_ptr(),
+                    bus.ram.len(),
                     bytes.as_ptr(),
                     bytes.len(),
                     bits,
                     answer.as_mut_ptr(),
                     answer.len(),
-                )
-            };
-            answer
+                );
+            }
         }
 
-        pub fn $picture(view: View, out: &mut [u8]) -> Numbers {
-            let mut answer = [0; ANSWER];
+        pub fn $picture(view: &View, out: &mut [u8], answer: &mut Numbers) {
             // Safety: each pointer goes with the length of the buffer that it points to.
             unsafe {
                 $shown(
@@ -59,9 +50,8 @@ macro_rules! forms {
                     out.len(),
                     answer.as_mut_ptr(),
                     answer.len(),
-                )
-            };
-            answer
+                );
+            }
         }
     };
 }
@@ -69,8 +59,7 @@ macro_rules! forms {
 forms!(transfer by humtrellis_transfer, picture by humtrellis_picture);
 forms!(packed_transfer by humtrellis_packed_transfer, packed_picture by humtrellis_packed_picture);
 
-pub fn write_rows(asked: Asked, out: &mut [u8]) -> Numbers {
-    let mut answer = [0; ANSWER];
+pub fn write_rows(asked: &Asked, out: &mut [u8], answer: &mut Numbers) {
     // Safety: each pointer goes with the length of the buffer that it points to.
     unsafe {
         humtrellis_write_rows(
@@ -90,11 +79,9 @@ pub fn write_rows(asked: Asked, out: &mut [u8]) -> Numbers {
             answer.len(),
         )
     };
-    answer
 }
 
-pub fn write_three(asked: Asked, out: &mut [u8]) -> Numbers {
-    let mut answer = [0; ANSWER];
+pub fn write_three(asked: &Asked, out: &mut [u8], answer: &mut Numbers) {
     // Safety: each pointer goes with the length of the buffer that it points to.
     unsafe {
         humtrellis_write_three(
@@ -112,14 +99,12 @@ pub fn write_three(asked: Asked, out: &mut [u8]) -> Numbers {
             answer.len(),
         )
     };
-    answer
 }
 
 /// A price, text to data bytes or back.
 macro_rules! price {
     ($price:ident by $called:ident) => {
-        pub fn $price(mode: u8, given: &[u8], out: &mut [u8]) -> Numbers {
-            let mut answer = [0; ANSWER];
+        pub fn $price(mode: u8, given: &[u8], out: &mut [u8], answer: &mut Numbers) {
             // Safety: each pointer goes with the length of the buffer that it points to.
             unsafe {
                 $called(
@@ -130,9 +115,8 @@ macro_rules! price {
                     out.len(),
                     answer.as_mut_ptr(),
                     answer.len(),
-                )
-            };
-            answer
+                );
+            }
         }
     };
 }
@@ -140,8 +124,7 @@ macro_rules! price {
 price!(price_write by humtrellis_price_write);
 price!(price_read by humtrellis_price_read);
 
-pub fn plain_transfer(part: u8, chips: &mut [u8], bytes: &[u8], bits: u8) -> Numbers {
-    let mut answer = [0; ANSWER];
+pub fn plain_transfer(part: u8, chips: &mut [u8], bytes: &[u8], bits: u8, answer: &mut Numbers) {
     // Safety: each pointer goes with the length of the buffer that it points to.
     unsafe {
         humtrellis_plain_transfer(
@@ -155,7 +138,6 @@ pub fn plain_transfer(part: u8, chips: &mut [u8], bytes: &[u8], bits: u8) -> Num
             answer.len(),
         )
     };
-    answer
 }
 
 /// Writes the text of a log and gives its length.

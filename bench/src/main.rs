@@ -23,34 +23,27 @@ mod ways;
 use std::process::ExitCode;
 
 fn time() -> Result<(), String> {
-    let transfers = measure::all(&samples::filled(), measure::transfers);
-    report::transfers(&transfers);
-    short::run();
-    let pictures = measure::all(&samples::shown(), measure::pictures);
-    report::pictures(&pictures);
-    let writings = measure::all(&samples::filled(), measure::writings);
-    report::writings(&writings);
-    three::run();
-    prices::run();
-    let even = measure::all(&samples::filled(), |setup| {
-        measure::packed_transfers(setup, 0)
-    });
-    report::packed("a transfer from column 0 on, a data byte", &even);
-    let odd = measure::all(&samples::filled(), |setup| {
-        measure::packed_transfers(setup, 1)
-    });
-    report::packed("a transfer from column 1 on, a data byte", &odd);
-    let shown = measure::all(&samples::shown(), measure::packed_pictures);
-    report::packed("a picture, a column", &shown);
-    replay::run();
+    let filled = samples::filled();
+    let shown = samples::shown();
+    let mut targets = report::transfers(&measure::all(&filled, measure::transfers));
+    targets.extend(short::run());
+    targets.extend(report::pictures(&measure::all(&shown, measure::pictures)));
+    targets.extend(report::writings(&measure::all(&filled, measure::writings)));
+    targets.extend(three::run());
+    targets.extend(prices::run());
+    for start in samples::STARTS {
+        let rows = measure::all(&filled, |setup| measure::packed_transfers(setup, start));
+        let what = format!("a transfer from column {start} on, a data byte");
+        targets.extend(report::packed(&what, &rows));
+    }
+    let rows = measure::all(&shown, measure::packed_pictures);
+    targets.extend(report::packed("a picture, a column", &rows));
+    targets.extend(replay::run());
     images::run()?;
-    accounts::run();
+    targets.extend(accounts::run());
     limit::run();
     growth::run();
-    report::targets(&transfers, &pictures, &writings);
-    report::packed_targets("from column 0", &even);
-    report::packed_targets("from column 1", &odd);
-    report::packed_targets("picture", &shown);
+    report::targets(&targets);
     Ok(())
 }
 

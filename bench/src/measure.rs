@@ -1,5 +1,6 @@
 //! What is timed: a transfer that fills a setup's chips, their pictures, and the transfer for wanted rows, in each way.
 
+use crate::library::Numbers;
 use crate::samples::{Bus, Setup, Writing, TURNS};
 use crate::timing::{figures, Call, Figure};
 use crate::ways::{Picture, Transfer, Writer};
@@ -20,9 +21,11 @@ pub fn all<const WAYS: usize>(
 }
 
 pub fn transfer_call<'a>(transfer: Transfer, mut bus: Bus, transfers: &'a [Vec<u8>]) -> Call<'a> {
+    let mut answer = Numbers::default();
     Box::new(move |turn| {
         let bytes = black_box(transfers[turn % TURNS].as_slice());
-        black_box(bus.send(transfer, bytes, WHOLE));
+        transfer(&mut bus, bytes, WHOLE, &mut answer);
+        black_box(&answer);
     })
 }
 
@@ -51,10 +54,12 @@ pub fn packed_transfers(setup: Setup, start: u8) -> [Figure; 3] {
 pub fn picture_call<'a>(picture: Picture, buses: &'a [Bus]) -> Call<'a> {
     let rooms = [0, 1].map(|group| buses[0].columns(group));
     let mut out = vec![0; rooms[0].max(rooms[1])];
+    let mut answer = Numbers::default();
     Box::new(move |turn| {
         let bus = black_box(&buses[turn % TURNS]);
         for (group, room) in rooms.iter().enumerate().filter(|(_, room)| **room > 0) {
-            black_box(picture(bus.view(group as u8, 0), &mut out[..*room]));
+            picture(&bus.view(group as u8, 0), &mut out[..*room], &mut answer);
+            black_box(&answer);
         }
     })
 }
@@ -82,9 +87,11 @@ pub fn packed_pictures(setup: Setup) -> [Figure; 3] {
 /// With room for just the transfer.
 pub fn writer_call<'a>(writer: Writer, writings: &'a [Writing], room: usize) -> Call<'a> {
     let mut out = vec![0; room];
+    let mut answer = Numbers::default();
     Box::new(move |turn| {
         let writing = black_box(&writings[turn % TURNS]);
-        black_box(writer(writing.asked(), &mut out));
+        writer(&writing.asked(), &mut out, &mut answer);
+        black_box(&answer);
     })
 }
 

@@ -5,7 +5,7 @@ use crate::report;
 use crate::same::{agreed, answered};
 use crate::samples::{Mode, MODES, TURNS};
 use crate::timing::{figures, Call};
-use crate::ways::{Price, PRICE_READERS, PRICE_WRITERS};
+use crate::ways::{answer_of, Price, PRICE_READERS, PRICE_WRITERS};
 use humtrellis::raw::{PRICE, PRICE_TEXT};
 use humtrellis_tests::price_texts::{self, damage};
 use humtrellis_tests::random::Random;
@@ -25,7 +25,7 @@ fn prices(mode: Mode, limit: usize) -> Vec<price_texts::Price> {
 
 fn done(way: Price, mode: u8, given: &[u8], room: usize) -> (Numbers, Vec<u8>) {
     let mut out = vec![0xEE; room];
-    let answer = way(mode, given, &mut out);
+    let answer = answer_of(|answer| way(mode, given, &mut out, answer));
     (answer, out)
 }
 
@@ -83,9 +83,11 @@ pub fn check() -> Result<(), String> {
 
 fn call<'a>(way: Price, mode: u8, given: &'a [Vec<u8>], room: usize) -> Call<'a> {
     let mut out = vec![0; room];
+    let mut answer = Numbers::default();
     Box::new(move |turn| {
         let given = black_box(given[turn % TURNS].as_slice());
-        black_box(way(mode, given, &mut out));
+        way(mode, given, &mut out, &mut answer);
+        black_box(&answer);
     })
 }
 
@@ -107,9 +109,9 @@ fn rows(mode: Mode, limit: usize) -> [report::Row; 2] {
     ]
 }
 
-pub fn run() {
+pub fn run() -> Vec<report::Target> {
     let limits = |mode| LIMITS.into_iter().flat_map(move |limit| rows(mode, limit));
     let rows: Vec<report::Row> = MODES.into_iter().flat_map(limits).collect();
     let title = "A price, of up to so many bytes of text written or of data bytes read: ns a call";
-    report::rows(title, "price   | mode   | bytes", &rows);
+    report::rows(title, "price   | mode   | bytes", &rows)
 }

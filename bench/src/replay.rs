@@ -105,8 +105,8 @@ pub fn check() -> Result<(), String> {
     Ok(())
 }
 
-pub fn run() {
+pub fn run() -> Vec<report::Target> {
     let head = format!("{:24} |  bytes", "replay");
     let rows = all().map(|logs| logs.row());
-    report::rows("The replay of logs: ms", &head, &rows);
+    report::rows("The replay of logs: ms", &head, &rows)
 }

@@ -2,7 +2,7 @@
 
 use crate::library::Numbers;
 use crate::samples::{Bus, Writing};
-use crate::ways::{Picture, Transfer, Writer};
+use crate::ways::{answer_of, Picture, Transfer, Writer};
 use std::fmt::Debug;
 
 /// The answer and what is left, if every way has the same.
@@ -38,7 +38,7 @@ pub fn answered<Left>(
 
 pub fn transferred(transfer: Transfer, before: &Bus, bytes: &[u8], bits: u8) -> (Numbers, Bus) {
     let mut bus = before.clone();
-    let answer = bus.send(transfer, bytes, bits);
+    let answer = answer_of(|answer| transfer(&mut bus, bytes, bits, answer));
     (answer, bus)
 }
 
@@ -49,12 +49,12 @@ pub fn pictured(
     length: usize,
 ) -> (Numbers, Vec<u8>) {
     let mut out = vec![0xEE; length];
-    let answer = picture(bus.view(group, phase), &mut out);
+    let answer = answer_of(|answer| picture(&bus.view(group, phase), &mut out, answer));
     (answer, out)
 }
 
 pub fn written(writer: Writer, writing: &Writing, length: usize) -> (Numbers, Vec<u8>) {
     let mut out = vec![0xEE; length];
-    let answer = writer(writing.asked(), &mut out);
+    let answer = answer_of(|answer| writer(&writing.asked(), &mut out, answer));
     (answer, out)
 }

@@ -1,7 +1,7 @@
 //! The inputs: setups, transfers that fill their chips, buses to show, and wanted rows; the same in every run.
 
-use crate::library::{Numbers, RegisterBytes};
-use crate::ways::{Asked, Transfer};
+use crate::library::RegisterBytes;
+use crate::ways::Asked;
 use humtrellis_tests::generate::{commands_then_data, shape};
 use humtrellis_tests::model::{Part, Registers, View, REGISTERS, SET};
 use humtrellis_tests::random::Random;
@@ -90,11 +90,6 @@ impl Bus {
     /// Columns of a group.
     pub fn columns(&self, group: usize) -> usize {
         columns_of(self.part, self.chips[group])
-    }
-
-    pub fn send(&mut self, transfer: Transfer, bytes: &[u8], bits: u8) -> Numbers {
-        let (registers, ram) = (&mut self.registers, &mut self.ram);
-        transfer(self.part, self.chips, registers, ram, bytes, bits)
     }
 
     pub fn view(&self, group: u8, phase: u8) -> View<'_> {

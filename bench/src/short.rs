@@ -1,5 +1,6 @@
 //! Short and refused transfers, where the fixed cost of a call shows.
 
+use crate::library::Numbers;
 use crate::report;
 use crate::same::{agreed, answered, transferred};
 use crate::samples::{part_name, Bus, TURNS};
@@ -47,11 +48,13 @@ impl Case {
 
     fn call(&self, way: Transfer) -> Call<'_> {
         let mut bus = self.bus.clone();
+        let mut answer = Numbers::default();
         Box::new(move |turn| {
             // The data goes to the same columns in each call, and not on to where no chip is.
             bus.registers = self.bus.registers;
             let bytes = black_box(self.transfers[turn % TURNS].as_slice());
-            black_box(bus.send(way, bytes, WHOLE));
+            way(&mut bus, bytes, WHOLE, &mut answer);
+            black_box(&answer);
         })
     }
 
@@ -134,10 +137,15 @@ pub fn check() -> Result<(), String> {
     short().iter().chain(&refused()).try_for_each(Case::check)
 }
 
-pub fn run() {
+pub fn run() -> Vec<report::Target> {
     let head = format!("part     | chips | {:34}", "transfer");
     let rows = |cases: Vec<Case>| cases.iter().map(Case::row).collect::<Vec<_>>();
-    report::rows("Short transfers: ns a call", &head, &rows(short()));
+    let mut targets = report::rows("Short transfers: ns a call", &head, &rows(short()));
     let head = format!("part     | chips | {:34}", "refused by");
-    report::rows("Refused transfers: ns a call", &head, &rows(refused()));
+    targets.extend(report::rows(
+        "Refused transfers: ns a call",
+        &head,
+        &rows(refused()),
+    ));
+    targets
 }

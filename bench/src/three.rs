@@ -49,9 +49,9 @@ fn row(setup: Setup) -> report::Row {
     (name, figures(calls).map(|figure| figure.per(data)))
 }
 
-pub fn run() {
+pub fn run() -> Vec<report::Target> {
     let title =
         "The transfer for every element of four PCF8532 or eight PCA85133 in 1:3: ns a data byte";
     let rows: Vec<report::Row> = setups().map(row).collect();
-    report::rows(title, "part     | data/all bytes", &rows);
+    report::rows(title, "part     | data/all bytes", &rows)
 }

@@ -1,11 +1,19 @@
 //! The ways to carry out a call, behind one signature each, so that all are called alike.
 
 use crate::library::{self, Numbers, RegisterBytes};
+use crate::samples::Bus;
 use crate::{model, table_loop};
 use humtrellis_tests::model::View;
 
-pub type Transfer = fn(u8, [u8; 2], &mut RegisterBytes, &mut [u8], &[u8], u8) -> Numbers;
-pub type Picture = fn(View, &mut [u8]) -> Numbers;
+/// As the C calls do, each way writes its answer where it is told to, so that no way is timed with a copy of it.
+pub fn answer_of(call: impl FnOnce(&mut Numbers)) -> Numbers {
+    let mut answer = Numbers::default();
+    call(&mut answer);
+    answer
+}
+
+pub type Transfer = fn(&mut Bus, &[u8], u8, &mut Numbers);
+pub type Picture = fn(&View, &mut [u8], &mut Numbers);
 /// What a writer is asked for: rows of a group, in a mode and an input bank.
 #[derive(Clone, Copy)]
 pub struct Asked<'a> {
@@ -18,11 +26,11 @@ pub struct Asked<'a> {
     pub rows: &'a [u8],
 }
 
-pub type Writer = fn(Asked, &mut [u8]) -> Numbers;
+pub type Writer = fn(&Asked, &mut [u8], &mut Numbers);
 /// To a list of plain chips, as the C interface has them.
-pub type Plain = fn(u8, &mut [u8], &[u8], u8) -> Numbers;
+pub type Plain = fn(u8, &mut [u8], &[u8], u8, &mut Numbers);
 /// A price in a mode, either way.
-pub type Price = fn(u8, &[u8], &mut [u8]) -> Numbers;
+pub type Price = fn(u8, &[u8], &mut [u8], &mut Numbers);
 /// Gives the length of a log's text.
 pub type Replay = fn(&[u8], &mut [u8]) -> usize;
 
@@ -30,7 +38,7 @@ pub type Replay = fn(&[u8], &mut [u8]) -> usize;
 pub const TRANSFERS: [(&str, Transfer); 3] = [
     ("library", library::transfer),
     ("model", model::transfer),
-    ("loop", table_loop::transfer),
+    ("loop", loop_transfer),
 ];
 
 /// The same of a picture; (c) is two loops, one that counts a column at a time, as the library does, and one by words.
@@ -45,7 +53,7 @@ pub const PICTURES: [(&str, Picture); 4] = [
 pub const PACKED_TRANSFERS: [(&str, Transfer); 3] = [
     ("library", library::packed_transfer),
     ("unpacked", unpacked_transfer),
-    ("loop", table_loop::packed_transfer),
+    ("loop", loop_packed_transfer),
 ];
 
 pub const PACKED_PICTURES: [(&str, Picture); 3] = [
@@ -97,24 +105,27 @@ fn unpacked(ram: &[u8]) -> Vec<u8> {
     ram.iter().flat_map(columns).collect()
 }
 
-fn unpacked_transfer(
-    part: u8,
-    chips: [u8; 2],
-    registers: &mut RegisterBytes,
-    ram: &mut [u8],
-    bytes: &[u8],
-    bits: u8,
-) -> Numbers {
-    let mut columns = unpacked(ram);
-    let answer = library::transfer(part, chips, registers, &mut columns, bytes, bits);
-    let pairs = columns.as_chunks::<2>().0.iter();
-    for (pair, [even, odd]) in ram.iter_mut().zip(pairs) {
-        *pair = even | odd << 4;
-    }
-    answer
+fn loop_transfer(bus: &mut Bus, bytes: &[u8], bits: u8, answer: &mut Numbers) {
+    let (registers, ram) = (&mut bus.registers, &mut bus.ram);
+    table_loop::transfer(bus.part, bus.chips, registers, ram, bytes, bits, answer)
 }
 
-fn unpacked_picture(view: View, out: &mut [u8]) -> Numbers {
+fn loop_packed_transfer(bus: &mut Bus, bytes: &[u8], bits: u8, answer: &mut Numbers) {
+    let (registers, ram) = (&mut bus.registers, &mut bus.ram);
+    table_loop::packed_transfer(bus.part, bus.chips, registers, ram, bytes, bits, answer)
+}
+
+fn unpacked_transfer(bus: &mut Bus, bytes: &[u8], bits: u8, answer: &mut Numbers) {
+    let mut whole = Bus {
+        ram: unpacked(&bus.ram),
+        ..bus.clone()
+    };
+    library::transfer(&mut whole, bytes, bits, answer);
+    bus.registers = whole.registers;
+    bus.ram = whole.packed().ram;
+}
+
+fn unpacked_picture(view: &View, out: &mut [u8], answer: &mut Numbers) {
     let ram = &unpacked(view.ram);
-    library::picture(View { ram, ..view }, out)
+    library::picture(&View { ram, ..*view }, out, answer)
 }

@@ -1,6 +1,6 @@
 //! Tables of whole calls, of the two accounts, of the memory's limit and of growth.
 
-use super::{ratio, row_name, spread};
+use super::{against, ratio, row_name, spread, Target, BY_HAND};
 use crate::measure;
 use crate::timing::{Figure, SAMPLES};
 
@@ -10,7 +10,7 @@ pub type Row = (String, [Figure; 3]);
 pub type Grown = (String, Vec<(usize, Figure)>);
 
 /// Library, model and loop; `head` stands over what each row begins with.
-pub fn rows(title: &str, head: &str, rows: &[Row]) {
+pub fn rows(title: &str, head: &str, rows: &[Row]) -> Vec<Target> {
     println!("{title}, median of {SAMPLES} samples, and the library's lowest and highest");
     println!(
         "{head} |    library |      model |       loop | library/model | library/loop | library"
@@ -27,10 +27,16 @@ pub fn rows(title: &str, head: &str, rows: &[Row]) {
         );
     }
     println!();
+    let (what, _) = title.rsplit_once(':').unwrap_or((title, ""));
+    let target = |(name, [a, _, c]): &Row| {
+        let parts: Vec<&str> = name.split('|').map(str::trim).collect();
+        against(&format!("{what}, {}", parts.join(", ")), BY_HAND, *a, *c)
+    };
+    rows.iter().map(target).collect()
 }
 
 /// Plain account, long account and the model's plain one.
-pub fn accounts(rows: &[measure::Row<3>]) {
+pub fn accounts(rows: &[measure::Row<3>]) -> Vec<Target> {
     println!("The plain account of four PCF8532 or eight PCA85133 that a transfer fills: ns a data byte, median of {SAMPLES} samples, and the plain one's lowest and highest");
     println!("part     | mode   |      plain |       long |      model | plain/long | plain/model | plain");
     for (setup, [a, b, c]) in rows {
@@ -46,6 +52,11 @@ pub fn accounts(rows: &[measure::Row<3>]) {
         );
     }
     println!();
+    let target = |(setup, [a, _, c]): &measure::Row<3>| {
+        let name = format!("plain account, {}", setup.name());
+        against(&name, "plain/model", *a, *c)
+    };
+    rows.iter().map(target).collect()
 }
 
 /// Library, loop and a copy of the same bytes.

@@ -18,7 +18,7 @@ const ROWS: [u64; 4] = [
 type Show = fn(&[u8], u8, u64, &mut [u8]) -> usize;
 
 #[inline(always)]
-fn picture<Form: Held>(view: View, out: &mut [u8], show: Show) -> [usize; ANSWER] {
+fn picture<Form: Held>(view: &View, out: &mut [u8], show: Show) -> [usize; ANSWER] {
     match view.part {
         0 => picture_of::<Pcf8532, Form>(view, out, show),
         1 => picture_of::<Pca85133, Form>(view, out, show),
@@ -27,7 +27,11 @@ fn picture<Form: Held>(view: View, out: &mut [u8], show: Show) -> [usize; ANSWER
 }
 
 #[inline(always)]
-fn picture_of<Chosen: Part, Form: Held>(view: View, out: &mut [u8], show: Show) -> [usize; ANSWER] {
+fn picture_of<Chosen: Part, Form: Held>(
+    view: &View,
+    out: &mut [u8],
+    show: Show,
+) -> [usize; ANSWER] {
     if let Err(refusal) = check::<Chosen, Form>(view, out.len()) {
         return refused(refusal, 0);
     }
@@ -39,21 +43,21 @@ fn picture_of<Chosen: Part, Form: Held>(view: View, out: &mut [u8], show: Show) 
 }
 
 #[inline(never)]
-pub fn picture_by_columns(view: View, out: &mut [u8]) -> [usize; ANSWER] {
-    picture::<Bytes>(view, out, show_columns)
+pub fn picture_by_columns(view: &View, out: &mut [u8], answer: &mut [usize; ANSWER]) {
+    *answer = picture::<Bytes>(view, out, show_columns);
 }
 
 #[inline(never)]
-pub fn picture_by_words(view: View, out: &mut [u8]) -> [usize; ANSWER] {
-    picture::<Bytes>(view, out, show_words)
+pub fn picture_by_words(view: &View, out: &mut [u8], answer: &mut [usize; ANSWER]) {
+    *answer = picture::<Bytes>(view, out, show_words);
 }
 
 #[inline(never)]
-pub fn packed_picture(view: View, out: &mut [u8]) -> [usize; ANSWER] {
-    picture::<Packed>(view, out, packed::show)
+pub fn packed_picture(view: &View, out: &mut [u8], answer: &mut [usize; ANSWER]) {
+    *answer = picture::<Packed>(view, out, packed::show);
 }
 
-fn check<Chosen: Part, Form: Held>(view: View, length: usize) -> Result<(), Refusal> {
+fn check<Chosen: Part, Form: Held>(view: &View, length: usize) -> Result<(), Refusal> {
     let chips = [view.chips0, view.chips1];
     checks::check_state::<Chosen, Form>(chips, view.registers, view.ram)?;
     if view.group > 1 || view.phase > 1 {

@@ -93,9 +93,9 @@ fn check(mode: u8, given: &[u8], room: usize, least: usize) -> Result<(), Refusa
 }
 
 #[inline(never)]
-pub fn price_write(mode: u8, text: &[u8], out: &mut [u8]) -> [usize; ANSWER] {
+pub fn price_write(mode: u8, text: &[u8], out: &mut [u8], answer: &mut [usize; ANSWER]) {
     let checked = check(mode, text, out.len(), MOST);
-    written(checked.and_then(|()| write(mode as usize, text, out)))
+    *answer = written(checked.and_then(|()| write(mode as usize, text, out)));
 }
 
 /// The data bytes go to the output at the end, since a refused text leaves it as it was.
@@ -119,9 +119,9 @@ fn write(mode: usize, text: &[u8], out: &mut [u8]) -> Result<usize, Refusal> {
 }
 
 #[inline(never)]
-pub fn price_read(mode: u8, segments: &[u8], out: &mut [u8]) -> [usize; ANSWER] {
+pub fn price_read(mode: u8, segments: &[u8], out: &mut [u8], answer: &mut [usize; ANSWER]) {
     let checked = check(mode, segments, out.len(), TEXT);
-    written(checked.and_then(|()| read(mode as usize, segments, out)))
+    *answer = written(checked.and_then(|()| read(mode as usize, segments, out)));
 }
 
 /// Each symbol as two bytes, of which the next one overwrites a 0.

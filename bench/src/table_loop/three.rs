@@ -11,12 +11,12 @@ const HEAD: usize = 3;
 const MODE: u8 = 3;
 
 #[inline(never)]
-pub fn write_three(asked: Asked, out: &mut [u8]) -> [usize; ANSWER] {
-    written(match asked.part {
-        0 => write::<Pcf8532>(asked, out),
-        1 => write::<Pca85133>(asked, out),
+pub fn write_three(asked: &Asked, out: &mut [u8], answer: &mut [usize; ANSWER]) {
+    *answer = written(match asked.part {
+        0 => write::<Pcf8532>(*asked, out),
+        1 => write::<Pca85133>(*asked, out),
         _ => Err(UNKNOWN_PART),
-    })
+    });
 }
 
 fn write<Chosen: Part>(asked: Asked, out: &mut [u8]) -> Result<usize, Refusal> {

@@ -14,8 +14,9 @@ pub fn transfer(
     ram: &mut [u8],
     bytes: &[u8],
     bits: u8,
-) -> [usize; ANSWER] {
-    transfer_in::<Bytes>(part, chips, registers, ram, bytes, bits)
+    answer: &mut [usize; ANSWER],
+) {
+    *answer = transfer_in::<Bytes>(part, chips, registers, ram, bytes, bits);
 }
 
 #[inline(never)]
@@ -26,8 +27,9 @@ pub fn packed_transfer(
     ram: &mut [u8],
     bytes: &[u8],
     bits: u8,
-) -> [usize; ANSWER] {
-    transfer_in::<Packed>(part, chips, registers, ram, bytes, bits)
+    answer: &mut [usize; ANSWER],
+) {
+    *answer = transfer_in::<Packed>(part, chips, registers, ram, bytes, bits);
 }
 
 #[inline(always)]

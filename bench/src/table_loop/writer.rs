@@ -9,12 +9,12 @@ use crate::ways::Asked;
 const SETTINGS: usize = 7;
 
 #[inline(never)]
-pub fn write_rows(asked: Asked, out: &mut [u8]) -> [usize; ANSWER] {
-    written(match asked.part {
-        0 => write::<Pcf8532>(asked, out),
-        1 => write::<Pca85133>(asked, out),
+pub fn write_rows(asked: &Asked, out: &mut [u8], answer: &mut [usize; ANSWER]) {
+    *answer = written(match asked.part {
+        0 => write::<Pcf8532>(*asked, out),
+        1 => write::<Pca85133>(*asked, out),
         _ => Err(UNKNOWN_PART),
-    })
+    });
 }
 
 /// The length of the transfer, which is at the start of the output then.

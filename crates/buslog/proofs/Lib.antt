@@ -4,3 +4,4 @@ pub mod States
 pub mod Widths
 pub mod Numbers
 pub mod Room
+pub mod Sent

@@ -14,6 +14,8 @@ ghost use Rattle.sheet.specs.Long.{stateOf, stateAfterAll};
 ghost use Rattle.log_sheet.specs.Logs.{seenBytes, logRecords, logTransfers, checkLog, transferLines, columnLines, shownAt, endLines, logLines, textOf};
 ghost use Rattle.sheet.specs.Agree.{Valid};
 ghost use Rattle.text.specs.Texts.{Puts};
+ghost use Rattle.wire.specs.Bytes.{bothOf};
+ghost use Rattle.lent_long.specs.LongCalls.{Sendable};
 ghost use Rattle.records.specs.Found.{AllCounted};
 ghost use Rattle.buslog.specs.Asked.{Listable, Playable};
 ghost use Rattle.buslog.specs.Replays.{replayCall, Inside};
@@ -33,35 +35,33 @@ pub fn check_log(log: &[u8]) -> Check
 
 // ---- the text
 
-// Where the text has come to, and the registers then.
-struct Played {
-    at: usize,
-    registers: Both,
-}
-
-// Carries out a log's transfers and writes each record's lines.
-fn put_transfers(log: &[u8], chips: Chips, initial: Both, ram: &mut [u8], out: &mut [u8]) -> Played
+// Carries out a log's transfers on a bus that is in range, and writes each record's lines. Where the text has come to.
+fn put_transfers(
+    log: &[u8],
+    chips: Chips,
+    registers: &mut [u8],
+    ram: &mut [u8],
+    out: &mut [u8],
+) -> usize
     requires { ⌜ logRecords (now log) .tear ≡ Check.Passed ⌝ }
-    requires { ⌜ length (transferLines (seenBytes (now log)) chips 0 (stateOf initial (now ram)) (logRecords (now log) .bodies)) ≤ length (now out) ⌝ }
-    ensures { λ r. ⌜ stateOf (r .registers) (now (ram .exit)) ≡ stateAfterAll pcf8532 chips (stateOf initial (now (ram .entry))) (logTransfers (now (log .entry))) ⌝ }
-    ensures { λ r. ⌜ Puts 0 (transferLines (seenBytes (now (log .entry))) chips 0 (stateOf initial (now (ram .entry))) (logRecords (now (log .entry)) .bodies)) (now (out .entry)) (now (out .exit)) (r .at) ⌝ }
+    requires { ⌜ Sendable pcf8532 chips (now registers) (now ram) × (length (transferLines (seenBytes (now log)) chips 0 (stateOf (bothOf (now registers)) (now ram)) (logRecords (now log) .bodies)) ≤ length (now out)) ⌝ }
+    ensures { λ _. ⌜ stateOf (bothOf (now (registers .exit))) (now (ram .exit)) ≡ stateAfterAll pcf8532 chips (stateOf (bothOf (now (registers .entry))) (now (ram .entry))) (logTransfers (now (log .entry))) ⌝ }
+    ensures { λ r. ⌜ Puts 0 (transferLines (seenBytes (now (log .entry))) chips 0 (stateOf (bothOf (now (registers .entry))) (now (ram .entry))) (logRecords (now (log .entry)) .bodies)) (now (out .entry)) (now (out .exit)) r ⌝ }
 {
     let seen = records::seen_bytes(log);
-    let mut registers = initial;
     let mut index = 0;
     let mut at = 0;
     let mut cursor = Cursor { at: 3, seen };
     while let Record::Body { start, size, count } = cursor.read(log) {
         let end = start + size;
         let from = start + seen;
-        let done = long::transfer(sheet::PCF8532, chips, registers, ram, &log[from..end], 8);
-        registers = done.registers;
-        let answer = done.answer;
+        let part = sheet::PCF8532;
+        let answer = lent_long::send(part, chips, registers, ram, false, &log[from..end], 8);
         at = lines::put_record(out, at, seen, index, count, answer);
         index += 1;
         cursor = Cursor { at: end, seen };
     }
-    Played { at, registers }
+    at
 }
 
 // Where the text has come to after a group's columns, and what the group has lit.
@@ -128,10 +128,11 @@ fn play(log: &[u8], chips: Chips, ram: &mut [u8], out: &mut [u8]) -> usize
     requires { ⌜ Playable (now log) chips (now ram) (now out) ⌝ }
     ensures { λ r. ⌜ Puts 0 (logLines (seenBytes (now (log .entry))) chips (logRecords (now (log .entry)) .bodies)) (now (out .entry)) (now (out .exit)) r ⌝ }
 {
-    let start = long::power_on(sheet::PCF8532, chips, ram);
-    let played = put_transfers(log, chips, start.registers, ram, out);
-    let registers = played.registers;
-    put_end(chips, registers, ram, out, played.at)
+    let on = long::power_on(sheet::PCF8532, chips, ram);
+    let mut registers = [0; 24];
+    wire::put_both(on.registers, &mut registers);
+    let at = put_transfers(log, chips, &mut registers, ram, out);
+    put_end(chips, wire::both_of(&registers), ram, out, at)
 }
 
 // RAM all 0, for eight chips.

@@ -18,6 +18,7 @@ ghost use Rattle.sheet.specs.Registers.{inRange};
 ghost use Rattle.sheet.specs.Commands.{obeyed};
 ghost use Rattle.sheet.specs.Checks.{orElse, checkPart, overIn, passed};
 ghost use Rattle.sheet.specs.Pictures.{pictureOf, litIn};
+ghost use Rattle.columns.specs.Stored.{chipRan};
 ghost use Rattle.sheet.specs.Plain.{withRegisters, chipByteOf, chipByte, acknowledgesOf, acknowledgesByte, chipStepped, chipAnswers, chipLost, hears, chipFits, chipPowerOn, checkChipPicture, chipPowerOnPart, chipPicturePart};
 
 // The chip's registers after a command byte: it obeys every command, selected or not.
@@ -65,6 +66,17 @@ pub fn step(part: u8, chip: Chip, expect: Expect, byte: u8) -> Chip
 {
     if registers::in_range(part, chip.registers) {
         follow(part, chip, expect, byte)
+    } else {
+        chip
+    }
+}
+
+// The chip after data bytes, one after the other. With a register out of range it stays as it is.
+pub fn run(part: u8, chip: Chip, bytes: &[u8]) -> Chip
+    ensures { λ r. ⌜ r ≡ chipRan (partOf part) (now (bytes .entry)) chip ⌝ }
+{
+    if registers::in_range(part, chip.registers) {
+        columns::take_run(part, chip, bytes)
     } else {
         chip
     }

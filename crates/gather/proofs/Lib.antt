@@ -1,3 +1,4 @@
 pub mod Lows
 pub mod Products
+pub mod Exchanged
 pub mod Gathering

@@ -19,7 +19,7 @@ and-joined (suc n) p q lp lq =
     and-block 8 (joined n (λ j. p (suc j))) (joined n (λ j. q (suc j))) (p 0) (q 0) (lp 0) (lq 0)
     ∙ ap (λ (k : ℕ). k * 256 + bitAnd (p 0) (q 0)) (and-joined n (λ j. p (suc j)) (λ j. q (suc j)) (λ j. lp (suc j)) (λ j. lq (suc j)))
 
-joined-alike : (n : ℕ) (p q : ℕ → ℕ) → ((j : ℕ) → p j ≡ q j) → joined n p ≡ joined n q
+pub joined-alike : (n : ℕ) (p q : ℕ → ℕ) → ((j : ℕ) → p j ≡ q j) → joined n p ≡ joined n q
 unfolding joined
 joined-alike zero p q e = refl
 joined-alike (suc n) p q e = ap₂ (λ (a b : ℕ). a * 256 + b) (joined-alike n (λ j. p (suc j)) (λ j. q (suc j)) (λ j. e (suc j))) (e 0)

@@ -2,11 +2,13 @@
 // Bytes whose columns are all there are gathered without a test a column; only the byte at the edge is tested.
 ghost use mathlib.Core.Path.{_≡_};
 ghost use Prim.Native.Nat.{_+_, _*_, _≤_, _<_, _^_};
+ghost use mathlib.Core.List.{[], _∷_};
 ghost use lib.ListN.{length};
 ghost use Rattle.sheet.specs.Registers.{bankRow};
 ghost use Rattle.sheet.specs.Data.{widthOf};
 ghost use Rattle.writer_sheet.specs.Writer.{bitsFrom, dataFrom, bytesFor};
 ghost use Rattle.writer_sheet.specs.Three.{pairOf};
+ghost use Rattle.words.specs.Fields.{joined, columnOf};
 ghost use Rattle.gather.specs.Lows.{lowBits, Gathered, Whole};
 
 // ---- a byte whose columns are all there: its bits with the first lowest, and then in the other order
@@ -59,6 +61,33 @@ fn four_byte(columns: &[u8], at: usize) -> u8
     words::reversed(columns[at] % 16 + columns[at + 1] % 16 * 16)
 }
 
+// The same of eight columns as one number: their rows the other way round in two steps, each beside the next, and of those every second one. The compiler takes several at a time.
+fn four_bytes(columns: &[u8]) -> u32
+    requires { ⌜ length (now columns) ≡ 8 ⌝ }
+    ensures { λ r. ⌜ r ≡ joined 4 (λ i. bitsFrom 8 4 0 (2 * i) (now (columns .entry))) ⌝ }
+{
+    let low = words::four_columns(columns, 0) as u64;
+    let high = words::four_columns(columns, 4) as u64;
+    let word = low + 0x100000000 * high;
+    let swapped = (word & 0x0303030303030303) * 4 | word / 4 & 0x0303030303030303;
+    let reversed = (swapped & 0x0505050505050505) * 2 | swapped / 2 & 0x0505050505050505;
+    let beside = reversed * 16 + reversed / 256;
+    let first = beside % 256 + beside / 0x10000 % 256 * 0x100;
+    let second = beside / 0x100000000 % 256 + beside / 0x1000000000000 % 256 * 0x100;
+    (first + second * 0x10000) as u32
+}
+
+// Four bytes of a number: the four stores become one.
+fn put_word(out: &mut [u8], word: u32)
+    requires { ⌜ length (now out) ≡ 4 ⌝ }
+    ensures { λ _. ⌜ now (out .exit) ≡ columnOf word 0 ∷ columnOf word 1 ∷ columnOf word 2 ∷ columnOf word 3 ∷ [] ⌝ }
+{
+    out[0] = (word % 256) as u8;
+    out[1] = (word / 0x100 % 256) as u8;
+    out[2] = (word / 0x10000 % 256) as u8;
+    out[3] = (word / 0x1000000 % 256) as u8;
+}
+
 // 1:3 at an even column: two columns of three rows, and two bits that are 0.
 pub fn pair_byte(columns: &[u8], at: usize) -> u8
     requires { ⌜ at + 2 ≤ length (now columns) ⌝ }
@@ -106,7 +135,13 @@ fn four_data(columns: &[u8], out: &mut [u8])
     requires { ⌜ 2 * length (now out) ≤ length (now columns) ⌝ }
     ensures { λ _. ⌜ now (out .exit) ≡ dataFrom (length (now (out .entry))) 4 0 (now (columns .entry)) ⌝ }
 {
+    let last = out.len() / 4 * 4;
     let mut j: usize = 0;
+    while j < last {
+        let word = four_bytes(&columns[2 * j..2 * j + 8]);
+        put_word(&mut out[j..j + 4], word);
+        j += 4;
+    }
     while j < out.len() {
         out[j] = four_byte(columns, 2 * j);
         j += 1;

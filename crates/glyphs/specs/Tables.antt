@@ -1,12 +1,17 @@
--- The segments as the tables hold them: segment s is the bit 2 ^ s.
+-- The segments as the tables hold them: segment s is the bit 2 ^ s, and a number holds eight bytes, the first lowest.
 -- Assumes nothing.
-use Prim.Native.Nat.{ℕ, _+_, _*_, _/_, _^_}
+use Prim.Native.Nat.{ℕ, _+_, _-_, _*_, _/_, _%_, _^_, _<_}
 use mathlib.Core.Bool.{cond}
-use mathlib.Core.List.{List, [], _∷_, map}
-use lib.Bits.{bitAnd}
-use lib.Dec.{eqb}
-use lib.ListN.{getD}
-use Rattle.price_sheet.specs.Price.{orders}
+use mathlib.Core.List.{List, [], _∷_, _++_, map}
+use mathlib.Core.Path.{_≡_}
+use lib.Bits.{bitAnd, bitOr}
+use lib.Dec.{ltb}
+use lib.ListN.{getD, take, drop}
+use Rattle.price_sheet.specs.declared.Symbol.{Symbol}
+use Rattle.price_sheet.specs.declared.Symbol.the-variants.{Digit, Pointed, Space, Minus, LongMinus}
+use Rattle.price_sheet.specs.declared.Found.{Found}
+use Rattle.price_sheet.specs.Price.{g, DP, shapes, orders, shown}
+use Rattle.glyphs.specs.declared.Bytes.{Bytes}
 
 abbrev pub weightOf : ℕ → ℕ
 weightOf s = 2 ^ s
@@ -20,11 +25,58 @@ abbrev pub litOf : List ℕ → ℕ
 litOf [] = 0
 litOf (s ∷ ss) = weightOf s + litOf ss
 
--- 1 where one is lit
-abbrev pub lightOf : ℕ → ℕ → ℕ
-lightOf lit segment = cond (eqb (bitAnd lit segment) 0) 0 1
+-- bytes as a number
+abbrev pub wordOf : List ℕ → ℕ
+wordOf [] = 0
+wordOf (x ∷ xs) = x + 256 * wordOf xs
 
--- a byte's bits, the last one first: each comes in at the top
+-- ---- the data bytes of an order
+
+-- what the digits 0 to 7 light, and then 8, 9, a space, a minus and the point
+abbrev pub firstLit : ℕ
+firstLit = wordOf (map litOf (take 8 shapes))
+
+abbrev pub secondLit : ℕ
+secondLit = wordOf (map litOf (drop 8 shapes ++ ([] ∷ (g ∷ []) ∷ (DP ∷ []) ∷ [])))
+
+-- a segment comes in at the top of each byte: 1 where it is lit
+unfoldable pub pushed : ℕ → ℕ → ℕ → ℕ
+pushed bytes lit segment = bitOr (bytes / 2) (128 * bitAnd (lit / segment) 0x0101010101010101)
+
+-- the last one first
 unfoldable pub arranged : List ℕ → ℕ → ℕ
 arranged [] lit = 0
-arranged (segment ∷ order) lit = arranged order lit / 2 + 128 * lightOf lit segment
+arranged (segment ∷ order) lit = pushed (arranged order lit) lit segment
+
+abbrev pub bytesIn : List ℕ → Bytes
+bytesIn order = record { first = arranged order firstLit; second = arranged order secondLit }
+
+-- ---- a symbol's
+
+abbrev pub byteAt : ℕ → ℕ → ℕ
+byteAt word k = word / 2 ^ (8 * k) % 256
+
+unfoldable pub byteIn : Bytes → ℕ → ℕ
+byteIn bytes k = cond (ltb k 8) (byteAt (bytes .first) k) (byteAt (bytes .second) (k - 8))
+
+unfoldable pub byteBy : Bytes → Symbol → ℕ
+byteBy bytes (Digit n) = byteIn bytes n
+byteBy bytes (Pointed n) = bitOr (byteIn bytes n) (byteIn bytes 12)
+byteBy bytes Space = 0
+byteBy bytes Minus = byteIn bytes 11
+byteBy bytes LongMinus = byteIn bytes 11
+
+-- ---- and back
+
+-- the first byte of its text, and 128 more where a point follows; 0 for none
+abbrev pub codeOf : Found → ℕ
+codeOf (Found.Symbol (Digit n)) = 48 + n
+codeOf (Found.Symbol (Pointed n)) = 176 + n
+codeOf (Found.Symbol Space) = 0x20
+codeOf (Found.Symbol Minus) = 0x2D
+codeOf (Found.Symbol LongMinus) = 0x2D
+codeOf Found.None = 0
+
+-- the code of what each byte shows
+abbrev pub Codes : ℕ → List ℕ → Type 0
+Codes mode codes = (x : ℕ) → x < 256 → getD codes x 0 ≡ codeOf (shown mode x)

@@ -1,12 +1,12 @@
 // What each symbol lights, and its data byte in each mode, by tables; and back (paper 02, request 1).
-use price_sheet::Found;
 use price_sheet::Symbol;
 ghost use mathlib.Core.Bool.{true};
 ghost use mathlib.Core.Path.{_≡_};
-ghost use Prim.Native.Nat.{_≤_, _<_};
-ghost use lib.ListN.{drop};
-ghost use Rattle.price_sheet.specs.Price.{isSymbol, segmentsOf, byteOf, shownAs, shown};
-ghost use Rattle.glyphs.specs.Tables.{orderOf, litOf, lightOf, arranged};
+ghost use Prim.Native.Nat.{_<_};
+ghost use lib.ListN.{length, replicate, set};
+ghost use Rattle.price_sheet.specs.declared.Found.{Found};
+ghost use Rattle.price_sheet.specs.Price.{isSymbol};
+ghost use Rattle.glyphs.specs.Tables.{orderOf, pushed, bytesIn, byteAt, byteIn, byteBy, codeOf, Codes};
 
 // The segments, a bit each.
 const A: u8 = 1;
@@ -61,75 +61,157 @@ fn order_of(mode: u8) -> [u8; 8]
     }
 }
 
-// What a symbol lights: a minus segment g alone.
-fn lit_by(symbol: Symbol) -> u8
-    requires { ⌜ isSymbol symbol ≡ true ⌝ }
-    ensures { λ r. ⌜ r ≡ litOf (segmentsOf symbol) ⌝ }
-{
-    match symbol {
-        Symbol::Digit(digit) => SHAPES[digit as usize],
-        Symbol::Pointed(digit) => DP + SHAPES[digit as usize],
-        Symbol::Space => 0,
-        Symbol::Minus => G,
-        Symbol::LongMinus => G,
-    }
+// ---- the data bytes of a mode
+
+// A byte each, the first lowest, in two numbers: digits 0 to 7; then 8, 9, a space, a minus and the point.
+pub struct Bytes {
+    pub first: u64,
+    pub second: u64,
 }
 
-// 1 where a segment is lit.
-fn light(lit: u8, segment: u8) -> u8
-    ensures { λ r. ⌜ (r ≡ lightOf lit segment) × (r ≤ 1) ⌝ }
+// What they light: a minus segment g alone.
+const FIRST: u64 = SHAPES[0] as u64
+    + 0x100 * SHAPES[1] as u64
+    + 0x10000 * SHAPES[2] as u64
+    + 0x1000000 * SHAPES[3] as u64
+    + 0x100000000 * SHAPES[4] as u64
+    + 0x10000000000 * SHAPES[5] as u64
+    + 0x1000000000000 * SHAPES[6] as u64
+    + 0x100000000000000 * SHAPES[7] as u64;
+
+const SECOND: u64 = SHAPES[8] as u64
+    + 0x100 * SHAPES[9] as u64
+    + 0x1000000 * G as u64
+    + 0x100000000 * DP as u64;
+
+// A segment comes in at the top of each byte: 1 where it is lit.
+fn pushed(bytes: u64, lit: u64, segment: u8) -> u64
+    requires { ⌜ 0 < segment ⌝ }
+    ensures { λ r. ⌜ r ≡ pushed bytes lit segment ⌝ }
 {
-    if lit & segment == 0 { 0 } else { 1 }
+    bytes / 2 | 128 * (lit / segment as u64 & 0x0101010101010101)
 }
 
-// The byte of what is lit, its last bit first: each comes in at the top.
-fn arranged(order: [u8; 8], lit: u8) -> u8
-    ensures { λ r. ⌜ r ≡ arranged order lit ⌝ }
+// What is lit, in the order of an M, its last segment first.
+fn arranged(mode: u8) -> Bytes
+    requires { ⌜ mode < 4 ⌝ }
+    ensures { λ r. ⌜ r ≡ bytesIn (orderOf mode) ⌝ }
 {
-    let mut byte: u8 = 0;
+    let order = order_of(mode);
+    let mut first: u64 = 0;
+    let mut second: u64 = 0;
     let mut left: usize = 8;
     while 0 < left {
         left -= 1;
-        byte = byte / 2 + 128 * light(lit, order[left]);
+        first = pushed(first, FIRST, order[left]);
+        second = pushed(second, SECOND, order[left]);
     }
-    byte
+    Bytes { first, second }
 }
 
-// A symbol's data byte.
-pub fn byte_of(mode: u8, symbol: Symbol) -> u8
-    requires { ⌜ (mode < 4) × (isSymbol symbol ≡ true) ⌝ }
-    ensures { λ r. ⌜ r ≡ byteOf mode symbol ⌝ }
-{
-    arranged(order_of(mode), lit_by(symbol))
-}
-
-// The 22 symbols that a byte may show.
-fn shown_as(k: usize) -> Symbol
-    ensures { λ r. ⌜ r ≡ shownAs k ⌝ }
-{
-    if k < 10 {
-        Symbol::Digit(k as u8)
-    } else if k < 20 {
-        Symbol::Pointed((k - 10) as u8)
-    } else if k == 20 {
-        Symbol::Space
-    } else {
-        Symbol::Minus
-    }
-}
-
-// The symbol whose data byte it is.
-pub fn symbol_of(mode: u8, byte: u8) -> Found
+// The data bytes of an M. Each is named, so that the compiler works them out and a call only looks them up.
+pub fn bytes_of(mode: u8) -> Bytes
     requires { ⌜ mode < 4 ⌝ }
-    ensures { λ r. ⌜ r ≡ shown mode byte ⌝ }
+    ensures { λ r. ⌜ r ≡ bytesIn (orderOf mode) ⌝ }
 {
-    let mut left: usize = 22;
-    while 0 < left {
-        left -= 1;
-        let symbol = shown_as(left);
-        if byte_of(mode, symbol) == byte {
-            return Found::Symbol(symbol);
-        }
+    match mode {
+        0 => arranged(0),
+        1 => arranged(1),
+        2 => arranged(2),
+        _ => arranged(3),
     }
-    Found::None
+}
+
+// ---- a symbol's data byte
+
+fn byte_at(word: u64, k: u8) -> u8
+    requires { ⌜ k < 8 ⌝ }
+    ensures { λ r. ⌜ r ≡ byteAt word k ⌝ }
+{
+    ((word >> (8 * k)) % 256) as u8
+}
+
+fn byte_in(bytes: Bytes, k: u8) -> u8
+    requires { ⌜ k < 16 ⌝ }
+    ensures { λ r. ⌜ r ≡ byteIn bytes k ⌝ }
+{
+    if k < 8 {
+        byte_at(bytes.first, k)
+    } else {
+        byte_at(bytes.second, k - 8)
+    }
+}
+
+// A symbol's data byte among those of an M.
+pub fn byte_of(bytes: Bytes, symbol: Symbol) -> u8
+    requires { ⌜ isSymbol symbol ≡ true ⌝ }
+    ensures { λ r. ⌜ r ≡ byteBy bytes symbol ⌝ }
+{
+    match symbol {
+        Symbol::Digit(digit) => byte_in(bytes, digit),
+        Symbol::Pointed(digit) => byte_in(bytes, digit) | byte_in(bytes, 12),
+        Symbol::Space => 0,
+        Symbol::Minus => byte_in(bytes, 11),
+        Symbol::LongMinus => byte_in(bytes, 11),
+    }
+}
+
+// ---- and back
+
+// The first byte of a symbol's text, and 128 more where a point follows.
+fn code_of(symbol: Symbol) -> u8
+    requires { ⌜ isSymbol symbol ≡ true ⌝ }
+    ensures { λ r. ⌜ r ≡ codeOf (Found.Symbol symbol) ⌝ }
+{
+    match symbol {
+        Symbol::Digit(digit) => 48 + digit,
+        Symbol::Pointed(digit) => 176 + digit,
+        Symbol::Space => 0x20,
+        Symbol::Minus => 0x2D,
+        Symbol::LongMinus => 0x2D,
+    }
+}
+
+fn put_code(codes: &mut [u8], bytes: Bytes, symbol: Symbol)
+    requires { ⌜ (length (now codes) ≡ 256) × (isSymbol symbol ≡ true) ⌝ }
+    ensures { λ _. ⌜ now (codes .exit) ≡ set (now (codes .entry)) (byteBy bytes symbol) (codeOf (Found.Symbol symbol)) ⌝ }
+{
+    codes[byte_of(bytes, symbol) as usize] = code_of(symbol);
+}
+
+// No byte has a code yet.
+fn no_codes() -> [u8; 256]
+    ensures { λ r. ⌜ r ≡ replicate 256 0 ⌝ }
+{
+    [0; 256]
+}
+
+// The codes of the 22 symbols that a byte may show.
+fn put_codes(mode: u8, codes: &mut [u8])
+    requires { ⌜ (mode < 4) × (now codes ≡ replicate 256 0) ⌝ }
+    ensures { λ _. ⌜ Codes mode (now (codes .exit)) ⌝ }
+{
+    let bytes = bytes_of(mode);
+    let mut digit: u8 = 0;
+    while digit < 10 {
+        put_code(codes, bytes, Symbol::Digit(digit));
+        digit += 1;
+    }
+    let mut pointed: u8 = 0;
+    while pointed < 10 {
+        put_code(codes, bytes, Symbol::Pointed(pointed));
+        pointed += 1;
+    }
+    put_code(codes, bytes, Symbol::Space);
+    put_code(codes, bytes, Symbol::Minus);
+}
+
+// For each byte the code of the symbol whose data byte it is in an M, or 0.
+pub fn codes_of(mode: u8) -> [u8; 256]
+    requires { ⌜ mode < 4 ⌝ }
+    ensures { λ r. ⌜ Codes mode r ⌝ }
+{
+    let mut codes = no_codes();
+    put_codes(mode, &mut codes);
+    codes
 }

@@ -1,6 +1,6 @@
 -- What the first columns of a data byte leave of a chip's registers: P and A moved on, and all else as it was.
 -- Assumes nothing.
-use mathlib.Core.Path.{_≡_, sym, ap, _∙_, subst}
+use mathlib.Core.Path.{_≡_, sym, _∙_, subst}
 use mathlib.Core.Bool.{true}
 use Prim.Native.Nat.{ℕ, _+_}
 use Rattle.sheet.specs.declared.Chip.{Chip}
@@ -24,11 +24,6 @@ module _ (K : Part) (x n : ℕ) (c : Chip) (h : InRange K (c .registers)) where
   -- in range
   pub still-in : InRange K (afterColumns K x n c .registers)
   still-in = subst (InRange K) (sym placed) (stays-in K (position K (c .registers) + n) (c .registers) h)
-
-  -- and in the same mode
-  pub same-planes : backplanes (afterColumns K x n c .registers) ≡ backplanes (c .registers)
-  unfolding atPosition backplanes
-  same-planes = ap backplanes placed
 
 -- ---- a byte keeps a chip's registers in range, if the commands do
 

@@ -1,15 +1,48 @@
 -- The long account as C sees it: registers as bytes, answers as numbers, through the definitions of `sheet`. Assumes nothing.
 use Prim.Native.Nat.{ℕ}
+use mathlib.Core.Path.{_≡_}
 use mathlib.Core.Bool.{Bool, cond, _&&_}
 use mathlib.Core.List.{List}
 use lib.Dec.{eqb}
 use lib.ListN.{length, getD}
 use Rattle.sheet.specs.declared.Chips.{Chips}
+use Rattle.sheet.specs.declared.Answer.{Answer}
+use Rattle.sheet.specs.declared.Addressed.the-variants.{To}
+use Rattle.sheet.specs.declared.Check.the-variants.{Passed}
 use Rattle.sheet.specs.Refusals.{numbers, pictureNumbers, checkNumbers}
-use Rattle.sheet.specs.Parts.{partOf}
-use Rattle.sheet.specs.Protocol.{Sent}
-use Rattle.sheet.specs.Long.{powerOnPart, transferPart, picturePart}
+use Rattle.sheet.specs.Parts.{Part, partOf}
+use Rattle.sheet.specs.Protocol.{heardBy, Sent, addressByte}
+use Rattle.sheet.specs.Checks.{orElse, checkSent, checkBytes, checkState}
+use Rattle.sheet.specs.Long.{After, answered, taken, powerOnPart, transferPart, picturePart}
 use Rattle.wire.specs.Bytes.{bothOf, bothBytes}
+
+-- ---- a transfer over lent registers
+
+pub record LentAfter : Type 0 where
+  pub answer : Answer
+  pub registers : List ℕ
+  pub ram : List ℕ
+
+-- what a transfer leaves, its registers as bytes
+abbrev pub lentAfter : After → LentAfter
+lentAfter a = record { answer = a .result .answer; registers = bothBytes (a .result .registers); ram = a .ram }
+
+-- a bus that has passed 16, 3, 6, 4 and 5
+pub record Sendable (K : Part) (n : Chips) (registers ram : List ℕ) : Type 0 where
+  pub size : length registers ≡ 24
+  pub state : checkState K n (bothOf registers) ram ≡ Passed
+
+-- what is left to check then is 1, 2, 19, and 7, 17 and 18
+abbrev pub sentC : Part → Chips → List ℕ → List ℕ → Sent → LentAfter
+sentC K n registers ram t =
+    let r = bothOf registers in
+    let to = heardBy n (addressByte t) in
+    lentAfter (answered (orElse (checkSent t) (checkBytes K r to t)) r ram (taken K n r ram t to))
+
+-- and 7, 17 and 18 where group g hears it
+abbrev pub sentTo : Part → Chips → ℕ → List ℕ → List ℕ → Sent → LentAfter
+sentTo K n g registers ram t =
+    let r = bothOf registers in lentAfter (answered (checkBytes K r (To g) t) r ram (taken K n r ram t (To g)))
 
 -- ---- calls that lend registers and the RAM. Each gives the number returned and what each lent buffer holds after it
 

@@ -1,9 +1,21 @@
 // The long account over registers and an answer that C lends as bytes and numbers, and columns that are a byte each or packed. A buffer of another size is answered 255 and nothing is written.
+use sheet::Acknowledger;
+use sheet::Addressed;
+use sheet::Answer;
+use sheet::Check;
 use sheet::Chips;
+use sheet::Counts;
+use sheet::Pictured;
 ghost use mathlib.Core.Path.{_≡_};
+ghost use Prim.Native.Nat.{_<_};
+ghost use lib.ListN.{length};
+ghost use Rattle.sheet.specs.Parts.{partOf};
 ghost use Rattle.sheet.specs.Protocol.{sent};
+ghost use Rattle.sheet.specs.Long.{noCounts, transferPart, picturePart};
 ghost use Rattle.packed_sheet.specs.Packed.{columnsIn};
-ghost use Rattle.lent_long.specs.LongCalls.{powerOnC, transferC, pictureC};
+ghost use Rattle.refused.specs.Fitting.{fitting};
+ghost use Rattle.wire.specs.Bytes.{bothOf};
+ghost use Rattle.lent_long.specs.LongCalls.{Sendable, lentAfter, sentTo, sentC, powerOnC, transferC, pictureC};
 
 // Power-on, taken or refused by 16, 3, 4, 5.
 pub fn power_on(
@@ -27,6 +39,128 @@ pub fn power_on(
     }
 }
 
+// ---- a transfer to a bus that is in range, so that only the transfer is left to check
+
+// Whether every register of both groups is in range.
+fn fits(part: u8, registers: &[u8]) -> bool
+    requires { ⌜ length (now registers) ≡ 24 ⌝ }
+    ensures { λ r. ⌜ r ≡ fitting (partOf part) (bothOf (now (registers .entry))) ⌝ }
+{
+    registers::in_range(part, wire::registers_of(&registers[..12]))
+        & registers::in_range(part, wire::registers_of(&registers[12..]))
+}
+
+// What nobody hears.
+fn unheard() -> Answer
+    ensures { λ r. ⌜ r ≡ Answer.Taken noCounts Acknowledger.None ⌝ }
+{
+    Answer::Taken {
+        counts: Counts {
+            acknowledged: 0,
+            stored: 0,
+            discarded: 0,
+        },
+        last: Acknowledger::None,
+    }
+}
+
+// To the group that hears it: 7, 17 and 18. Only its registers are read, and written if it is taken.
+fn send_to(
+    part: u8,
+    bus: Chips,
+    group: u8,
+    registers: &mut [u8],
+    ram: &mut [u8],
+    packed: bool,
+    bytes: &[u8],
+    bits: u8,
+) -> Answer
+    requires { ⌜ Sendable (partOf part) bus (now registers) (columnsIn packed (now ram)) × (group < 2) × (length (now bytes) < 4097) ⌝ }
+    ensures { λ r. ⌜ record { answer = r; registers = now (registers .exit); ram = columnsIn packed (now (ram .exit)) } ≡ sentTo (partOf part) bus group (now (registers .entry)) (columnsIn packed (now (ram .entry))) (sent (now (bytes .entry)) bits) ⌝ }
+{
+    let at = 12 * (group as usize);
+    let before = wire::registers_of(&registers[at..at + 12]);
+    match protocol::first_fault(part, before.unknown, bytes, bits) {
+        Check::Refused(refusal) => Answer::Refused(refusal),
+        Check::Passed => {
+            let heard = long::hear_in(part, bus, group, before, ram, packed, bytes, bits);
+            let after = heard.registers;
+            let counts = heard.counts;
+            let last = heard.last;
+            wire::put_registers(after, &mut registers[at..at + 12]);
+            Answer::Taken { counts, last }
+        }
+    }
+}
+
+// A transfer, of whose last byte so many bits came, taken or refused by 1, 2, 19, then 7, 17 and 18.
+pub fn send(
+    part: u8,
+    bus: Chips,
+    registers: &mut [u8],
+    ram: &mut [u8],
+    packed: bool,
+    bytes: &[u8],
+    bits: u8,
+) -> Answer
+    requires { ⌜ Sendable (partOf part) bus (now registers) (columnsIn packed (now ram)) ⌝ }
+    ensures { λ r. ⌜ record { answer = r; registers = now (registers .exit); ram = columnsIn packed (now (ram .exit)) } ≡ sentC (partOf part) bus (now (registers .entry)) (columnsIn packed (now (ram .entry))) (sent (now (bytes .entry)) bits) ⌝ }
+{
+    match checks::check_sent(bytes.len(), bits) {
+        Check::Refused(refusal) => Answer::Refused(refusal),
+        Check::Passed => match groups::heard_by(bus, checks::address_byte(bytes, bits)) {
+            Addressed::To(group) => send_to(part, bus, group, registers, ram, packed, bytes, bits),
+            Addressed::Nobody => unheard(),
+        },
+    }
+}
+
+// ---- the calls
+
+// Registers of the right size: a transfer, taken or refused.
+fn answered(
+    part: u8,
+    bus: Chips,
+    registers: &mut [u8],
+    ram: &mut [u8],
+    packed: bool,
+    bytes: &[u8],
+    bits: u8,
+) -> Answer
+    requires { ⌜ length (now registers) ≡ 24 ⌝ }
+    ensures { λ r. ⌜ record { answer = r; registers = now (registers .exit); ram = columnsIn packed (now (ram .exit)) } ≡ lentAfter (transferPart part bus (bothOf (now (registers .entry))) (columnsIn packed (now (ram .entry))) (sent (now (bytes .entry)) bits)) ⌝ }
+{
+    match refused::check_state(part, bus, fits(part, registers), ram, packed) {
+        Check::Refused(refusal) => Answer::Refused(refusal),
+        Check::Passed => send(part, bus, registers, ram, packed, bytes, bits),
+    }
+}
+
+// And a picture.
+fn pictured(
+    part: u8,
+    bus: Chips,
+    registers: &[u8],
+    ram: &[u8],
+    packed: bool,
+    group: u8,
+    phase: u8,
+    out: &mut [u8],
+) -> Pictured
+    requires { ⌜ length (now registers) ≡ 24 ⌝ }
+    ensures { λ r. ⌜ record { result = r; out = now (out .exit) } ≡ picturePart part bus (bothOf (now (registers .entry))) (columnsIn packed (now (ram .entry))) group phase (now (out .entry)) ⌝ }
+{
+    let fit = fits(part, registers);
+    match refused::check_picture(part, bus, fit, ram, packed, group, phase, out.len()) {
+        Check::Refused(refusal) => Pictured::Refused(refusal),
+        Check::Passed => {
+            let at = 12 * (group as usize);
+            let shown = wire::registers_of(&registers[at..at + 12]);
+            Pictured::Lit(long::show_in(part, bus, group, shown, ram, packed, phase, out))
+        }
+    }
+}
+
 // A transfer, of whose last byte so many bits came, taken or refused by 16, 3, 6, 4, 5, 1, 2, 19, then 7, 17 and 18.
 pub fn transfer(
     part: u8,
@@ -41,11 +175,7 @@ pub fn transfer(
     ensures { λ r. ⌜ transferC part bus (now (registers .entry)) (columnsIn packed (now (ram .entry))) (sent (now (bytes .entry)) bits) (now (answer .entry)) ≡ record { number = r; registers = now (registers .exit); buffer = columnsIn packed (now (ram .exit)); answer = now (answer .exit) } ⌝ }
 {
     if (registers.len() == 24) & (answer.len() == 6) {
-        let before = wire::both_of(registers);
-        let done = long::transfer_in(part, bus, before, ram, packed, bytes, bits);
-        let after = done.registers;
-        let said = done.answer;
-        wire::put_both(after, registers);
+        let said = answered(part, bus, registers, ram, packed, bytes, bits);
         wire::put_numbers(answers::numbers(part, said), answer)
     } else {
         255
@@ -67,8 +197,7 @@ pub fn picture(
     ensures { λ r. ⌜ pictureC part bus (now (registers .entry)) (columnsIn packed (now (ram .entry))) group phase (now (out .entry)) (now (answer .entry)) ≡ record { number = r; buffer = now (out .exit); answer = now (answer .exit) } ⌝ }
 {
     if (registers.len() == 24) & (answer.len() == 6) {
-        let before = wire::both_of(registers);
-        let shown = long::picture_in(part, bus, before, ram, packed, group, phase, out);
+        let shown = pictured(part, bus, registers, ram, packed, group, phase, out);
         wire::put_numbers(answers::picture_numbers(shown), answer)
     } else {
         255

@@ -1,4 +1,5 @@
 // THE LONG ACCOUNT: one register set a group and one long RAM, a byte a column or packed. Every input gets an answer; a refused call changes nothing.
+use listener::Listener;
 use sheet::Acknowledger;
 use sheet::Addressed;
 use sheet::Answer;
@@ -8,6 +9,7 @@ use sheet::Chips;
 use sheet::Counts;
 use sheet::Pictured;
 use sheet::PowerOn;
+use sheet::Registers;
 use sheet::Transferred;
 ghost use mathlib.Core.Path.{_≡_};
 ghost use Prim.Native.Nat.{_<_};
@@ -16,7 +18,10 @@ ghost use Rattle.sheet.specs.Refusals.{numbers, pictureNumbers, checkNumbers};
 ghost use Rattle.sheet.specs.Parts.{partOf};
 ghost use Rattle.sheet.specs.Protocol.{sent};
 ghost use Rattle.sheet.specs.Checks.{checkState};
-ghost use Rattle.sheet.specs.Long.{noCounts, replaced, taken, powerOnPart, transferPart, picturePart};
+ghost use Rattle.sheet.specs.Pictures.{pictureOf, litIn};
+ghost use Rattle.sheet.specs.Long.{noCounts, replaced, columnsOf, taken, powerOnPart, transferPart, picturePart};
+ghost use Rattle.listener.specs.Listeners.{groupOf};
+ghost use Rattle.long.specs.Heard.{Passes, Shows, heardInRam};
 ghost use Rattle.packed_sheet.specs.Packed.{columnsIn, powerOnPacked, transferPacked, picturePacked};
 
 // ---- over columns that are a byte each, or packed
@@ -33,6 +38,25 @@ pub fn power_on_in(part: u8, chips: Chips, ram: &[u8], packed: bool) -> PowerOn
     PowerOn { check, registers }
 }
 
+// What a group, its registers given, makes of a transfer that passed its checks, in its part of the RAM.
+pub fn hear_in(
+    part: u8,
+    chips: Chips,
+    group: u8,
+    before: Registers,
+    ram: &mut [u8],
+    packed: bool,
+    bytes: &[u8],
+    bits: u8,
+) -> Listener
+    requires { ⌜ Passes (partOf part) chips group before (columnsIn packed (now ram)) (now bytes) ⌝ }
+    ensures { λ r. ⌜ groupOf r (columnsIn packed (now (ram .exit))) ≡ heardInRam (partOf part) chips group before (columnsIn packed (now (ram .entry))) (sent (now (bytes .entry)) bits) ⌝ }
+{
+    let start = groups::start_in(part, chips, group, packed);
+    let end = groups::end_in(part, chips, group, packed);
+    hearing::hear(part, &mut ram[start..end], packed, before, bytes, bits)
+}
+
 // A transfer that passed its checks, at the group that hears it.
 fn deliver(
     part: u8,
@@ -47,10 +71,8 @@ fn deliver(
     requires { ⌜ (checkState (partOf part) chips registers (columnsIn packed (now ram)) ≡ Check.Passed) × (length (now bytes) < 4097) ⌝ }
     ensures { λ r. ⌜ record { result = r; ram = columnsIn packed (now (ram .exit)) } ≡ taken (partOf part) chips registers (columnsIn packed (now (ram .entry))) (sent (now (bytes .entry)) bits) (Addressed.To group) ⌝ }
 {
-    let start = groups::start_in(part, chips, group, packed);
-    let end = groups::end_in(part, chips, group, packed);
     let before = groups::registers_of(group, registers);
-    let heard = hearing::hear(part, &mut ram[start..end], packed, before, bytes, bits);
+    let heard = hear_in(part, chips, group, before, ram, packed, bytes, bits);
     let after = heard.registers;
     let counts = heard.counts;
     let last = heard.last;
@@ -110,6 +132,26 @@ pub fn transfer_in(
     }
 }
 
+// The picture of a group, its registers given, once the checks have passed.
+pub fn show_in(
+    part: u8,
+    chips: Chips,
+    group: u8,
+    shown: Registers,
+    ram: &[u8],
+    packed: bool,
+    phase: u8,
+    out: &mut [u8],
+) -> usize
+    requires { ⌜ Shows (partOf part) chips group shown (columnsIn packed (now ram)) (now out) ⌝ }
+    ensures { λ _. ⌜ now (out .exit) ≡ pictureOf shown phase (columnsOf (partOf part) chips group (columnsIn packed (now (ram .entry)))) ⌝ }
+    ensures { λ r. ⌜ r ≡ litIn (pictureOf shown phase (columnsOf (partOf part) chips group (columnsIn packed (now (ram .entry))))) ⌝ }
+{
+    let start = groups::start_in(part, chips, group, packed);
+    let end = groups::end_in(part, chips, group, packed);
+    picture::show(&ram[start..end], packed, shown, phase, out)
+}
+
 // The picture of a group at a blink phase and its lit elements, or a refusal by 16, 3, 6, 4, 5, 8, 9.
 pub fn picture_in(
     part: u8,
@@ -123,13 +165,12 @@ pub fn picture_in(
 ) -> Pictured
     ensures { λ r. ⌜ record { result = r; out = now (out .exit) } ≡ picturePart part chips registers (columnsIn packed (now (ram .entry))) group phase (now (out .entry)) ⌝ }
 {
-    match refused::check_picture(part, chips, registers, ram, packed, group, phase, out.len()) {
+    let fit = refused::registers_fit(part, registers);
+    match refused::check_picture(part, chips, fit, ram, packed, group, phase, out.len()) {
         Check::Refused(refusal) => Pictured::Refused(refusal),
         Check::Passed => {
-            let start = groups::start_in(part, chips, group, packed);
-            let end = groups::end_in(part, chips, group, packed);
             let shown = groups::registers_of(group, registers);
-            Pictured::Lit(picture::show(&ram[start..end], packed, shown, phase, out))
+            Pictured::Lit(show_in(part, chips, group, shown, ram, packed, phase, out))
         }
     }
 }

@@ -1,7 +1,2 @@
-pub mod Searching
-pub mod Agreeing
-pub mod Lowering
-pub mod Following
 pub mod Shapes
-pub mod Starting
-pub mod Lefts
+pub mod Reaching

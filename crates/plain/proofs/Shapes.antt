@@ -12,18 +12,20 @@ use Rattle.sheet.proofs.Acknowledger as AcknowledgerType
 use Rattle.sheet.proofs.Acknowledger.Laws as AcknowledgerLaws
 use Rattle.sheet.proofs.PlainAnswer as AnswerType
 use Rattle.sheet.proofs.PlainAnswer.Laws as AnswerLaws
-use Rattle.plain.proofs.BusByte as BusByteType
-use Rattle.plain.proofs.BusByte.Laws as BusByteLaws
-use Rattle.plain.proofs.Question as QuestionType
-use Rattle.plain.proofs.Question.Laws as QuestionLaws
-use Rattle.plain.proofs.Tally as TallyType
-use Rattle.plain.proofs.Tally.Laws as TallyLaws
-use Rattle.plain.proofs.Turn as TurnType
-use Rattle.plain.proofs.Turn.Laws as TurnLaws
-use Rattle.plain.proofs.Found as FoundType
-use Rattle.plain.proofs.Found.Laws as FoundLaws
-use Rattle.plain.proofs.Start as StartType
-use Rattle.plain.proofs.Start.Laws as StartLaws
+use Rattle.turns.proofs.BusByte as BusByteType
+use Rattle.turns.proofs.BusByte.Laws as BusByteLaws
+use Rattle.starts.proofs.Question as QuestionType
+use Rattle.starts.proofs.Question.Laws as QuestionLaws
+use Rattle.turns.proofs.Said as SaidType
+use Rattle.turns.proofs.Said.Laws as SaidLaws
+use Rattle.turns.proofs.Tally as TallyType
+use Rattle.turns.proofs.Tally.Laws as TallyLaws
+use Rattle.turns.proofs.Turn as TurnType
+use Rattle.turns.proofs.Turn.Laws as TurnLaws
+use Rattle.starts.proofs.Found as FoundType
+use Rattle.starts.proofs.Found.Laws as FoundLaws
+use Rattle.starts.proofs.Start as StartType
+use Rattle.starts.proofs.Start.Laws as StartLaws
 use Rattle.plain.proofs.Bench as BenchType
 use Rattle.plain.proofs.Bench.Laws as BenchLaws
 use Rattle.plain.proofs.BenchTransferred as TransferredType
@@ -43,6 +45,9 @@ question = enum QuestionType.the-type QuestionLaws.the-laws QuestionLaws.the-pla
 
 abbrev pub acknowledger : Data AcknowledgerType.the-row
 acknowledger = enum AcknowledgerType.the-type AcknowledgerLaws.the-laws AcknowledgerLaws.the-plain AcknowledgerLaws.the-copy tt
+
+abbrev pub said : Data SaidType.the-row
+said = struct SaidType.the-type SaidLaws.the-laws SaidLaws.the-plain SaidLaws.the-copy
 
 abbrev pub tally : Data TallyType.the-row
 tally = struct TallyType.the-type TallyLaws.the-laws TallyLaws.the-plain TallyLaws.the-copy

@@ -1,4 +1,1 @@
-pub mod Asking
-pub mod Turns
-pub mod Starts
 pub mod Benches

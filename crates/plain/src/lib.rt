@@ -1,109 +1,27 @@
 // THE PLAIN ACCOUNT: a lent list of chips of one part, each of which follows every byte by itself. Every input gets an answer; a refused call changes nothing.
-// What is decided and done is decided and done by value. The functions over the list only go along it, and are proved by hand.
-use sheet::Acknowledger;
+// What is decided and done is decided and done by value, in `turns` and `starts`. The functions over the list only go along it, and are proved by hand.
 use sheet::Check;
 use sheet::Chip;
-use sheet::Expect;
-use sheet::Kind;
-use sheet::Marks;
 use sheet::PlainAnswer;
 use sheet::Refusal;
+use starts::Found;
+use starts::Question;
+use turns::BusByte;
+use turns::Said;
+use turns::Tally;
+use turns::Turn;
 ghost use mathlib.Core.Path.{_≡_};
-ghost use mathlib.Core.Bool.{cond};
 ghost use mathlib.Core.List.{map};
-ghost use Prim.Native.Nat.{_+_, _≤_, _<_, _^_};
+ghost use Prim.Native.Nat.{_+_, _≤_};
 ghost use lib.ListN.{length};
 ghost use Rattle.sheet.specs.Refusals.{plainNumbers};
 ghost use Rattle.sheet.specs.Parts.{partOf};
-ghost use Rattle.sheet.specs.Protocol.{sent, addressByte};
-ghost use Rattle.sheet.specs.Checks.{faultOfSent};
-ghost use Rattle.sheet.specs.Plain.{lower, smallest, once, lastOf, lastAfter, plainPart};
-ghost use Rattle.plain.specs.Asking.{yes, answers, taken, firstYes};
-ghost use Rattle.plain.specs.Turns.{lastHeard, turnAfter, followed, tallyOf, Ready};
-ghost use Rattle.plain.specs.Starts.{markAt, marksFound, checkBench, checkList, checkOf, turnAt, startOf, answerOf};
+ghost use Rattle.sheet.specs.Protocol.{sent};
+ghost use Rattle.sheet.specs.Plain.{plainPart};
+ghost use Rattle.turns.specs.Asking.{saidBy};
+ghost use Rattle.starts.specs.Questions.{yes, firstYes};
+ghost use Rattle.turns.specs.Turns.{takenBy, followed, tallyOf, Ready};
 ghost use Rattle.plain.specs.Benches.{tooMany, firstTransferred, benchTransferred};
-
-// ---- one chip, by value
-
-// A byte after the address: the part of the chips, to whom it goes, what it is, its value, and whether it is cut.
-struct BusByte {
-    part: u8,
-    address: u8,
-    expect: Expect,
-    byte: u8,
-    cut: bool,
-}
-
-// What a chip is asked: whether it is no chip of a part, or hears an address, or hears it and has a mark that is unknown.
-enum Question {
-    Misfit(u8),
-    Hears(u8),
-    HighUnknown(u8),
-    LowUnknown(u8),
-    DeviceUnknown(u8),
-}
-
-fn says_yes(chip: Chip, question: Question) -> bool
-    ensures { λ r. ⌜ r ≡ yes question chip ⌝ }
-{
-    let marks = chip::marks(chip);
-    match question {
-        Question::Misfit(part) => !chip::fits(part, chip),
-        Question::Hears(address) => chip::hears(chip, address),
-        Question::HighUnknown(address) => chip::hears(chip, address) & (marks.high == 1),
-        Question::LowUnknown(address) => chip::hears(chip, address) & (marks.low == 1),
-        Question::DeviceUnknown(address) => chip::hears(chip, address) & (marks.device == 1),
-    }
-}
-
-// Whether a chip hears a byte and acknowledges it: none that is cut.
-fn acknowledges(chip: Chip, heard: BusByte) -> bool
-    ensures { λ r. ⌜ r ≡ answers heard chip ⌝ }
-{
-    let expect = heard.expect;
-    let hears = chip::hears(chip, heard.address);
-    hears & (!heard.cut & chip::acknowledges(heard.part, chip, expect, heard.byte))
-}
-
-// A subaddress and the smallest of the others.
-fn lower(subaddress: usize, others: Acknowledger) -> Acknowledger
-    ensures { λ r. ⌜ r ≡ lower subaddress others ⌝ }
-{
-    match others {
-        Acknowledger::Subaddress(other) => {
-            Acknowledger::Subaddress(arithmetic::least(subaddress, other))
-        }
-        Acknowledger::None => Acknowledger::Subaddress(subaddress),
-    }
-}
-
-// Who acknowledges a byte of this chip and the others.
-fn with_chip(chip: Chip, heard: BusByte, others: Acknowledger) -> Acknowledger
-    ensures { λ r. ⌜ r ≡ cond (answers heard chip) (lower (chip .subaddress) others) others ⌝ }
-{
-    let subaddress = chip.subaddress as usize;
-    if acknowledges(chip, heard) {
-        lower(subaddress, others)
-    } else {
-        others
-    }
-}
-
-// The chip after a byte: as it was, if it does not hear it.
-fn take(chip: Chip, heard: BusByte) -> Chip
-    ensures { λ r. ⌜ r ≡ taken heard chip ⌝ }
-{
-    let expect = heard.expect;
-    if chip::hears(chip, heard.address) {
-        if heard.cut {
-            chip::lose(chip, protocol::is_data(expect))
-        } else {
-            chip::step(heard.part, chip, expect, heard.byte)
-        }
-    } else {
-        chip
-    }
-}
 
 // ---- the list
 
@@ -113,7 +31,7 @@ fn first(chips: &[Chip], question: Question) -> usize
 {
     let mut i = 0;
     while i < chips.len() {
-        if says_yes(chips[i], question) {
+        if starts::says_yes(chips[i], question) {
             return i;
         }
         i += 1;
@@ -121,118 +39,33 @@ fn first(chips: &[Chip], question: Question) -> usize
     i
 }
 
-// Who acknowledges a byte: the smallest subaddress.
-fn smallest(chips: &[Chip], heard: BusByte) -> Acknowledger
-    ensures { λ r. ⌜ r ≡ smallest (answers heard) (now (chips .entry)) ⌝ }
+// Who acknowledges a byte, the smallest subaddress, and how many bytes of so many are answered alike.
+fn ask_all(chips: &[Chip], heard: BusByte, most: usize) -> Said
+    ensures { λ r. ⌜ r ≡ saidBy heard most (now (chips .entry)) ⌝ }
 {
-    let mut who = Acknowledger::None;
+    let mut said = turns::nothing_said(most);
     let mut i = chips.len();
     while 0 < i {
         i -= 1;
-        who = with_chip(chips[i], heard, who);
+        said = turns::say_with(chips[i], heard, said);
     }
-    who
+    said
 }
 
-// Every chip takes the byte.
-fn take_all(chips: &mut [Chip], heard: BusByte)
-    ensures { λ _. ⌜ now (chips .exit) ≡ map (taken heard) (now (chips .entry)) ⌝ }
+// Every chip takes them, if they change any.
+fn take_all(chips: &mut [Chip], bytes: &[u8], turn: Turn, count: usize)
+    requires { ⌜ turn .at + count ≤ length (now bytes) ⌝ }
+    ensures { λ _. ⌜ now (chips .exit) ≡ map (takenBy (now (bytes .entry)) turn count) (now (chips .entry)) ⌝ }
 {
+    let limit = turns::reach(turn, count, chips.len());
     let mut i = 0;
-    while i < chips.len() {
-        chips[i] = take(chips[i], heard);
+    while i < limit {
+        chips[i] = turns::take(bytes, chips[i], turn, count);
         i += 1;
     }
 }
 
-// ---- a transfer, byte by byte
-
-// The bytes acknowledged so far, and who acknowledged the last data byte.
-struct Tally {
-    acknowledged: usize,
-    last: Acknowledger,
-}
-
-// The byte that comes next, its place, whether the transfer's last is cut, and what is acknowledged so far.
-struct Turn {
-    at: usize,
-    cut: bool,
-    tally: Tally,
-    heard: BusByte,
-}
-
-// A byte counts once however many chips acknowledge it.
-fn counted(acknowledged: usize, who: Acknowledger) -> usize
-    requires { ⌜ acknowledged < 2 ^ 63 ⌝ }
-    ensures { λ r. ⌜ r ≡ acknowledged + once who ⌝ }
-{
-    match who {
-        Acknowledger::Subaddress(_) => acknowledged + 1,
-        Acknowledger::None => acknowledged,
-    }
-}
-
-// Who acknowledged the last data byte, after a byte of a kind.
-fn last_of(kind: Kind, who: Acknowledger, last: Acknowledger) -> Acknowledger
-    ensures { λ r. ⌜ r ≡ lastOf kind who last ⌝ }
-{
-    match kind {
-        Kind::Command => last,
-        Kind::Data => who,
-    }
-}
-
-fn last_after(expect: Expect, who: Acknowledger, last: Acknowledger) -> Acknowledger
-    ensures { λ r. ⌜ r ≡ lastAfter expect who last ⌝ }
-{
-    match expect {
-        Expect::Control => last,
-        Expect::One(kind) => last_of(kind, who, last),
-        Expect::All(kind) => last_of(kind, who, last),
-    }
-}
-
-// And after any byte: one that is cut is not the last data byte.
-fn last_heard(heard: BusByte, who: Acknowledger, last: Acknowledger) -> Acknowledger
-    ensures { λ r. ⌜ r ≡ lastHeard heard who last ⌝ }
-{
-    let expect = heard.expect;
-    if heard.cut {
-        last
-    } else {
-        last_after(expect, who, last)
-    }
-}
-
-// The turn after this one, whose byte `who` acknowledges.
-fn next(bytes: &[u8], turn: Turn, who: Acknowledger) -> Turn
-    requires { ⌜ (turn .at < length (now bytes)) × (turn .tally .acknowledged ≤ turn .at) ⌝ }
-    ensures { λ r. ⌜ r ≡ turnAfter (now (bytes .entry)) turn who ⌝ }
-{
-    let heard = turn.heard;
-    let expect = heard.expect;
-    let tally = turn.tally;
-    let last = tally.last;
-    let at = turn.at + 1;
-    let cut = turn.cut;
-    Turn {
-        at,
-        cut,
-        tally: Tally {
-            acknowledged: counted(tally.acknowledged, who),
-            last: last_heard(heard, who, last),
-        },
-        heard: BusByte {
-            part: heard.part,
-            address: heard.address,
-            expect: protocol::follow(expect, heard.byte),
-            byte: checks::byte_at(bytes, at),
-            cut: cut & (bytes.len() <= at + 1),
-        },
-    }
-}
-
-// The chips follow the bytes from a turn on. What is acknowledged in all.
+// The chips follow the bytes from a turn on, in each turn as many as they all answer alike. What is acknowledged in all.
 fn follow(chips: &mut [Chip], bytes: &[u8], start: Turn) -> Tally
     requires { ⌜ Ready (now chips) (now bytes) start ⌝ }
     ensures { λ r. ⌜ r ≡ tallyOf (followed (now (chips .entry)) (now (bytes .entry)) start) ⌝ }
@@ -240,149 +73,12 @@ fn follow(chips: &mut [Chip], bytes: &[u8], start: Turn) -> Tally
 {
     let mut turn = start;
     while turn.at < bytes.len() {
-        let who = smallest(chips, turn.heard);
-        take_all(chips, turn.heard);
-        turn = next(bytes, turn, who);
+        let most = turns::most_in(bytes, turn);
+        let said = ask_all(chips, turn.heard, most);
+        take_all(chips, bytes, turn, said.count);
+        turn = turns::next(bytes, turn, said);
     }
     turn.tally
-}
-
-// ---- how a transfer begins, and what is answered
-
-// The address that byte 0 calls.
-fn address(bytes: &[u8], bits: u8) -> u8
-    ensures { λ r. ⌜ r ≡ addressByte (sent (now (bytes .entry)) bits) ⌝ }
-{
-    checks::address_byte(bytes, bits)
-}
-
-fn check_bytes(part: u8, bytes: &[u8], bits: u8, heard: bool, marks: Marks) -> Check
-    ensures { λ r. ⌜ r ≡ cond heard (faultOfSent (partOf part) marks (sent (now (bytes .entry)) bits)) Check.Passed ⌝ }
-{
-    if heard {
-        protocol::first_fault(part, marks, bytes, bits)
-    } else {
-        Check::Passed
-    }
-}
-
-// The part, and how many chips there are: 16, 10.
-fn check_bench(part: u8, count: usize) -> Check
-    ensures { λ r. ⌜ r ≡ checkBench part count ⌝ }
-{
-    match checks::check_part(part) {
-        Check::Refused(refusal) => Check::Refused(refusal),
-        Check::Passed => checks::unless(count <= 2 * arithmetic::limit(part), Refusal::ManyChips),
-    }
-}
-
-// What the list was found to hold: how many chips, and where the first misfit, the first that hears, and the first that hears and has each mark unknown stand, or else the count.
-struct Found {
-    count: usize,
-    misfit: usize,
-    hearer: usize,
-    high: usize,
-    low: usize,
-    device: usize,
-}
-
-// A mark, by where the first chip that has it unknown stands.
-fn mark_at(place: usize, count: usize) -> u8
-    ensures { λ r. ⌜ r ≡ markAt place count ⌝ }
-{
-    if place < count { 1 } else { 0 }
-}
-
-// The marks of the chips that hear.
-fn marks_found(found: Found) -> Marks
-    ensures { λ r. ⌜ r ≡ marksFound found ⌝ }
-{
-    Marks {
-        high: mark_at(found.high, found.count),
-        low: mark_at(found.low, found.count),
-        device: mark_at(found.device, found.count),
-    }
-}
-
-// 11, 1, 2, 19, then 7, 17 and 18.
-fn check_chips(part: u8, bytes: &[u8], bits: u8, found: Found) -> Check
-    ensures { λ r. ⌜ r ≡ checkList part (sent (now (bytes .entry)) bits) found ⌝ }
-{
-    let marks = marks_found(found);
-    if found.count <= found.misfit {
-        match checks::check_sent(bytes.len(), bits) {
-            Check::Refused(refusal) => Check::Refused(refusal),
-            Check::Passed => check_bytes(part, bytes, bits, found.hearer < found.count, marks),
-        }
-    } else {
-        Check::Refused(Refusal::ChipField(found.misfit))
-    }
-}
-
-fn check_transfer(part: u8, bytes: &[u8], bits: u8, found: Found) -> Check
-    ensures { λ r. ⌜ r ≡ checkOf part (sent (now (bytes .entry)) bits) found ⌝ }
-{
-    match check_bench(part, found.count) {
-        Check::Refused(refusal) => Check::Refused(refusal),
-        Check::Passed => check_chips(part, bytes, bits, found),
-    }
-}
-
-fn turn_at(part: u8, bytes: &[u8], bits: u8, at: usize, acknowledged: usize) -> Turn
-    requires { ⌜ at ≤ length (now bytes) + 1 ⌝ }
-    ensures { λ r. ⌜ r ≡ turnAt part (sent (now (bytes .entry)) bits) at acknowledged ⌝ }
-{
-    let cut = bits < 8;
-    Turn {
-        at,
-        cut,
-        tally: Tally {
-            acknowledged,
-            last: Acknowledger::None,
-        },
-        heard: BusByte {
-            part,
-            address: checks::address_byte(bytes, bits),
-            expect: Expect::Control,
-            byte: checks::byte_at(bytes, at),
-            cut: cut & (bytes.len() <= at + 1),
-        },
-    }
-}
-
-// Refused or taken, and the turn from which the chips follow.
-struct Start {
-    check: Check,
-    turn: Turn,
-}
-
-// The address is acknowledged, and the chips follow from the next byte on. Of a transfer that is refused, or that none hears, nothing is left to follow.
-fn begin(bytes: &[u8], part: u8, bits: u8, found: Found) -> Start
-    ensures { λ r. ⌜ r ≡ startOf part (sent (now (bytes .entry)) bits) found ⌝ }
-{
-    let check = check_transfer(part, bytes, bits, found);
-    if checks::passes(check) & (found.hearer < found.count) {
-        Start {
-            check,
-            turn: turn_at(part, bytes, bits, 1, 1),
-        }
-    } else {
-        Start {
-            check,
-            turn: turn_at(part, bytes, bits, bytes.len(), 0),
-        }
-    }
-}
-
-fn answer(check: Check, tally: Tally) -> PlainAnswer
-    ensures { λ r. ⌜ r ≡ answerOf check tally ⌝ }
-{
-    let bytes = tally.acknowledged;
-    let last = tally.last;
-    match check {
-        Check::Passed => PlainAnswer::Acknowledged { bytes, last },
-        Check::Refused(refusal) => PlainAnswer::Refused(refusal),
-    }
 }
 
 // A transfer, START to STOP, of whose last byte so many bits came, taken or refused by 16, 10, 11, 1, 2, 19, then 7, 17 and 18. The list and the bytes come first, as in every walk by hand.
@@ -390,7 +86,7 @@ pub fn transfer(chips: &mut [Chip], bytes: &[u8], part: u8, bits: u8) -> PlainAn
     ensures { λ r. ⌜ (r ≡ plainPart part (now (chips .entry)) (sent (now (bytes .entry)) bits) .answer) × (plainNumbers (partOf part) r ≡ plainNumbers (partOf part) (plainPart part (now (chips .entry)) (sent (now (bytes .entry)) bits) .answer)) ⌝ }
     ensures { λ _. ⌜ now (chips .exit) ≡ plainPart part (now (chips .entry)) (sent (now (bytes .entry)) bits) .chips ⌝ }
 {
-    let called = address(bytes, bits);
+    let called = starts::address(bytes, bits);
     let misfit = first(chips, Question::Misfit(part));
     let hearer = first(chips, Question::Hears(called));
     let high = first(chips, Question::HighUnknown(called));
@@ -405,9 +101,9 @@ pub fn transfer(chips: &mut [Chip], bytes: &[u8], part: u8, bits: u8) -> PlainAn
         low,
         device,
     };
-    let start = begin(bytes, part, bits, found);
+    let start = starts::begin(bytes, part, bits, found);
     let tally = follow(chips, bytes, start.turn);
-    answer(start.check, tally)
+    starts::answer(start.check, tally)
 }
 
 // ---- by value, for a caller that has its chips in a local

@@ -4,23 +4,24 @@ use price_sheet::Symbol;
 use sheet::Check;
 use sheet::Refusal;
 use sheet::Written;
-ghost use mathlib.Core.Bool.{true};
 ghost use mathlib.Core.Path.{_≡_};
 ghost use mathlib.Core.List.{map};
-ghost use Prim.Native.Nat.{_+_, _≤_, _<_};
+ghost use Prim.Native.Nat.{_≤_, _<_};
 ghost use lib.ListN.{length};
 ghost use Rattle.sheet.specs.Refusals.{writtenNumbers};
-ghost use Rattle.price_sheet.specs.Price.{isSymbol, textOf, textsOf, plain, byteOf, begun, begunAt, spelled, readFrom, checkPrice, Sizes, priceWrite, priceRead};
-ghost use Rattle.text.specs.Texts.{Puts};
+ghost use Rattle.price_sheet.specs.Price.{textOf, textsOf, byteOf, begunAt, spelled, readFrom, checkPrice, Sizes, priceWrite, priceRead};
+ghost use Rattle.price.specs.Fronts.{Fronted, sizeOf, kept};
 
 // ---- the symbols of a text
 
-// What three bytes begin: a digit with the point directly after it, a digit, a space, or a minus.
-fn begun(x: u8, y: u8, z: u8) -> Found
-    ensures { λ r. ⌜ r ≡ begun x y z ⌝ }
+// What begins at a place of a text: a digit with the point directly after it, a digit, a space, or a minus.
+fn begun_at(text: &[u8], at: usize) -> Found
+    requires { ⌜ at < 80 ⌝ }
+    ensures { λ r. ⌜ r ≡ begunAt at (now (text .entry)) ⌝ }
 {
+    let x = checks::byte_at(text, at);
     if (48 <= x) & (x <= 57) {
-        if y == 0x2E {
+        if checks::byte_at(text, at + 1) == 0x2E {
             Found::Symbol(Symbol::Pointed(x - 48))
         } else {
             Found::Symbol(Symbol::Digit(x - 48))
@@ -29,23 +30,15 @@ fn begun(x: u8, y: u8, z: u8) -> Found
         Found::Symbol(Symbol::Space)
     } else if x == 0x2D {
         Found::Symbol(Symbol::Minus)
-    } else if (x == 0xE2) & ((y == 0x88) & (z == 0x92)) {
-        Found::Symbol(Symbol::LongMinus)
     } else {
-        Found::None
+        let y = checks::byte_at(text, at + 1);
+        let z = checks::byte_at(text, at + 2);
+        if (x == 0xE2) & ((y == 0x88) & (z == 0x92)) {
+            Found::Symbol(Symbol::LongMinus)
+        } else {
+            Found::None
+        }
     }
-}
-
-// What begins at a place of a text.
-fn begun_at(text: &[u8], at: usize) -> Found
-    requires { ⌜ at < 80 ⌝ }
-    ensures { λ r. ⌜ r ≡ begunAt at (now (text .entry)) ⌝ }
-{
-    begun(
-        checks::byte_at(text, at),
-        checks::byte_at(text, at + 1),
-        checks::byte_at(text, at + 2),
-    )
 }
 
 // The bytes of a symbol's text.
@@ -61,93 +54,70 @@ fn text_size(symbol: Symbol) -> usize
     }
 }
 
-// ---- a text to data bytes
+// ---- a text to data bytes, and data bytes to a text, each in one walk, into a buffer of the call's own
 
-// 15: the first byte that begins no symbol.
-fn text_fault(text: &[u8]) -> Check
-    requires { ⌜ length (now text) ≤ 80 ⌝ }
-    ensures { λ r. ⌜ r ≡ spelled (now (text .entry)) .fault ⌝ }
-{
-    let mut i = 0;
-    while i < text.len() {
-        match begun_at(text, i) {
-            Found::Symbol(symbol) => i += text_size(symbol),
-            Found::None => return Check::Refused(Refusal::NoSymbol(i)),
-        }
-    }
-    Check::Passed
-}
-
-// A data byte for each symbol.
-fn put_bytes(mode: u8, text: &[u8], out: &mut [u8]) -> usize
+// A data byte for each symbol, or 15 at the first byte that begins none.
+fn put_bytes(mode: u8, text: &[u8], out: &mut [u8]) -> Written
     requires { ⌜ Sizes (length (now text)) mode 80 (length (now out)) ⌝ }
-    ensures { λ r. ⌜ Puts 0 (map (byteOf mode) (spelled (now (text .entry)) .symbols)) (now (out .entry)) (now (out .exit)) r ⌝ }
+    ensures { λ r. ⌜ Fronted (spelled (now (text .entry))) (map (byteOf mode) (spelled (now (text .entry)) .symbols)) (now (out .exit)) r ⌝ }
 {
+    let bytes = glyphs::bytes_of(mode);
     let mut place = 0;
     let mut i = 0;
     while i < text.len() {
         match begun_at(text, i) {
             Found::Symbol(symbol) => {
-                place = text::put_byte(out, place, glyphs::byte_of(mode, symbol));
+                out[place] = glyphs::byte_of(bytes, symbol);
+                place += 1;
                 i += text_size(symbol);
             }
-            Found::None => return place,
+            Found::None => return Written::Refused(Refusal::NoSymbol(i)),
         }
     }
-    place
+    Written::Bytes(place)
 }
 
-// ---- data bytes to a text
-
-// A symbol's text with the plain minus.
-fn put_plain(out: &mut [u8], at: usize, symbol: Symbol) -> usize
-    requires { ⌜ (isSymbol symbol ≡ true) × (at + length (textOf (plain symbol)) ≤ length (now out)) ⌝ }
-    ensures { λ r. ⌜ Puts at (textOf (plain symbol)) (now (out .entry)) (now (out .exit)) r ⌝ }
-{
-    match symbol {
-        Symbol::Digit(digit) => text::put_byte(out, at, 48 + digit),
-        Symbol::Pointed(digit) => {
-            let point = text::put_byte(out, at, 48 + digit);
-            text::put_byte(out, point, 0x2E)
-        }
-        Symbol::Space => text::put_byte(out, at, 0x20),
-        Symbol::Minus => text::put_byte(out, at, 0x2D),
-        Symbol::LongMinus => text::put_byte(out, at, 0x2D),
-    }
-}
-
-// 15: the first byte that is no symbol's.
-fn byte_fault(mode: u8, segments: &[u8]) -> Check
-    requires { ⌜ mode < 4 ⌝ }
-    ensures { λ r. ⌜ r ≡ readFrom mode 0 (now (segments .entry)) .fault ⌝ }
-{
-    let mut i = 0;
-    while i < segments.len() {
-        match glyphs::symbol_of(mode, segments[i]) {
-            Found::Symbol(_) => i += 1,
-            Found::None => return Check::Refused(Refusal::NoSymbol(i)),
-        }
-    }
-    Check::Passed
-}
-
-// The text of each byte.
-fn put_texts(mode: u8, segments: &[u8], out: &mut [u8]) -> usize
+// The text of each byte, or 15 at the first that is no symbol's. The point is put after each, and the next symbol over it where it does not belong.
+fn put_texts(mode: u8, segments: &[u8], out: &mut [u8]) -> Written
     requires { ⌜ Sizes (length (now segments)) mode 160 (length (now out)) ⌝ }
-    ensures { λ r. ⌜ Puts 0 (textsOf (readFrom mode 0 (now (segments .entry)) .symbols)) (now (out .entry)) (now (out .exit)) r ⌝ }
+    ensures { λ r. ⌜ Fronted (readFrom mode 0 (now (segments .entry))) (textsOf (readFrom mode 0 (now (segments .entry)) .symbols)) (now (out .exit)) r ⌝ }
 {
+    let codes = glyphs::codes_of(mode);
     let mut place = 0;
     let mut i = 0;
     while i < segments.len() {
-        match glyphs::symbol_of(mode, segments[i]) {
-            Found::Symbol(symbol) => {
-                place = put_plain(out, place, symbol);
-                i += 1;
-            }
-            Found::None => return place,
+        let code = codes[segments[i] as usize];
+        if code == 0 {
+            return Written::Refused(Refusal::NoSymbol(i));
+        }
+        out[place] = code % 128;
+        out[place + 1] = 0x2E;
+        place += 1 + (code / 128) as usize;
+        i += 1;
+    }
+    Written::Bytes(place)
+}
+
+fn no_bytes() -> [u8; 80] {
+    [0; 80]
+}
+
+fn no_text() -> [u8; 160] {
+    [0; 160]
+}
+
+// What was written goes to the start of `out`; a refusal leaves it as it was.
+fn keep(written: Written, from: &[u8], out: &mut [u8]) -> Written
+    requires { ⌜ (sizeOf written ≤ length (now from)) × (sizeOf written ≤ length (now out)) ⌝ }
+    ensures { λ r. ⌜ record { result = r; out = now (out .exit) } ≡ kept written (now (from .entry)) (now (out .entry)) ⌝ }
+{
+    match written {
+        Written::Refused(refusal) => Written::Refused(refusal),
+        Written::Bytes(size) => {
+            copies::copy(&from[..size], &mut out[..size]);
+            Written::Bytes(size)
         }
     }
-    place
 }
 
 // ---- the calls
@@ -175,10 +145,11 @@ pub fn write(mode: u8, text: &[u8], out: &mut [u8]) -> Written
 {
     match check_sizes(text.len(), mode, 80, out.len()) {
         Check::Refused(refusal) => Written::Refused(refusal),
-        Check::Passed => match text_fault(text) {
-            Check::Refused(refusal) => Written::Refused(refusal),
-            Check::Passed => Written::Bytes(put_bytes(mode, text, out)),
-        },
+        Check::Passed => {
+            let mut bytes = no_bytes();
+            let written = put_bytes(mode, text, &mut bytes);
+            keep(written, &bytes, out)
+        }
     }
 }
 
@@ -190,9 +161,10 @@ pub fn read(mode: u8, segments: &[u8], out: &mut [u8]) -> Written
 {
     match check_sizes(segments.len(), mode, 160, out.len()) {
         Check::Refused(refusal) => Written::Refused(refusal),
-        Check::Passed => match byte_fault(mode, segments) {
-            Check::Refused(refusal) => Written::Refused(refusal),
-            Check::Passed => Written::Bytes(put_texts(mode, segments, out)),
-        },
+        Check::Passed => {
+            let mut text = no_text();
+            let written = put_texts(mode, segments, &mut text);
+            keep(written, &text, out)
+        }
     }
 }

@@ -5,12 +5,12 @@ use sheet::Kind;
 use sheet::Marks;
 use sheet::Refusal;
 ghost use mathlib.Core.Path.{_≡_};
-ghost use Prim.Native.Nat.{_<_};
-ghost use lib.ListN.{drop};
+ghost use Prim.Native.Nat.{_≤_};
+ghost use lib.ListN.{length, drop};
 ghost use Rattle.sheet.specs.Parts.{partOf};
 ghost use Rattle.sheet.specs.Protocol.{kindOf, controlOf, next, sent, isDataOf, isData};
 ghost use Rattle.sheet.specs.Checks.{faultOf, fault, marksOf, marksAfter, lastFault, faultIn, faultOfSent};
-ghost use Rattle.protocol.specs.Left.{onlyData};
+ghost use Rattle.protocol.specs.Left.{onlyData, onlyCommands, undefinedIn, allDefined};
 
 // ---- what a byte is
 
@@ -139,6 +139,66 @@ fn only_data(expect: Expect) -> bool
     }
 }
 
+// Whether they are commands: in them there is no fault but a command that is none.
+fn only_commands(expect: Expect) -> bool
+    ensures { λ r. ⌜ r ≡ onlyCommands expect ⌝ }
+{
+    match expect {
+        Expect::Control => false,
+        Expect::One(_) => false,
+        Expect::All(kind) => match kind {
+            Kind::Command => true,
+            Kind::Data => false,
+        },
+    }
+}
+
+// Whether all of some bytes are commands. No branch leaves the loop, so that many are looked at at once.
+fn all_defined(part: u8, commands: &[u8]) -> bool
+    ensures { λ r. ⌜ r ≡ allDefined (partOf part) (now (commands .entry)) ⌝ }
+{
+    let mut found = true;
+    let mut i = 0;
+    while i < commands.len() {
+        found = found & decode::is_defined(part, commands[i]);
+        i += 1;
+    }
+    found
+}
+
+// The place after the first blocks of 64 bytes, from a place on, that are all commands.
+fn after_defined(part: u8, bytes: &[u8], from: usize) -> usize
+    requires { ⌜ from ≤ length (now bytes) ⌝ }
+    ensures { λ r. ⌜ (undefinedIn (partOf part) r (drop r (now (bytes .entry))) ≡ undefinedIn (partOf part) from (drop from (now (bytes .entry)))) × (r ≤ length (now (bytes .entry))) ⌝ }
+{
+    let mut i = from;
+    while 64 <= bytes.len() - i {
+        let end = i + 64;
+        if all_defined(part, &bytes[i..end]) {
+            i = end;
+        } else {
+            return i;
+        }
+    }
+    i
+}
+
+// The first byte, from a place on, that is no command.
+fn undefined_from(part: u8, bytes: &[u8], from: usize) -> Check
+    requires { ⌜ from ≤ length (now bytes) ⌝ }
+    ensures { λ r. ⌜ r ≡ undefinedIn (partOf part) from (drop from (now (bytes .entry))) ⌝ }
+{
+    let mut i = after_defined(part, bytes, from);
+    while i < bytes.len() {
+        if decode::is_defined(part, bytes[i]) {
+            i += 1;
+        } else {
+            return Check::Refused(Refusal::UndefinedCommand(i));
+        }
+    }
+    Check::Passed
+}
+
 // The first fault of whole bytes after the address byte, and of one that is cut after them.
 fn fault_in(part: u8, cut: bool, initial: Marks, bytes: &[u8]) -> Check
     ensures { λ r. ⌜ r ≡ faultIn (partOf part) cut initial Expect.Control 1 (drop 1 (now (bytes .entry))) ⌝ }
@@ -155,6 +215,9 @@ fn fault_in(part: u8, cut: bool, initial: Marks, bytes: &[u8]) -> Check
         expect = follow(expect, byte);
         if only_data(expect) & registers::all_known(marks) {
             return Check::Passed;
+        }
+        if only_commands(expect) {
+            return undefined_from(part, bytes, i + 1);
         }
         i += 1;
     }

@@ -1,14 +1,16 @@
 // Data bytes into a group's columns, each mode with its own literal arithmetic.
 // Bytes whose columns are all there go in without a test a column; only the byte at the edge is tested.
 ghost use mathlib.Core.Path.{_≡_};
-ghost use Prim.Native.Nat.{_+_, _-_, _*_, _≤_, _<_, _^_};
+ghost use Prim.Native.Nat.{_+_, _-_, _*_, _%_, _≤_, _<_, _^_};
 ghost use lib.ListN.{length};
 ghost use Rattle.sheet.specs.declared.Check.the-variants.{Passed};
 ghost use Rattle.sheet.specs.Registers.{bankRow};
 ghost use Rattle.sheet.specs.Checks.{overIn};
 ghost use Rattle.sheet.specs.Data.{changed, withRow, putBits};
 ghost use Rattle.sheet.specs.Runs.{putRun};
+ghost use Rattle.words.specs.Fields.{threeColumns};
 ghost use Rattle.ram.specs.Writes.{Whole, Cut};
+ghost use Rattle.ram.specs.Tables.{firstBits, lastBits};
 
 // One row of a column. A column past the end is nobody's.
 fn put_row(ram: &mut [u8], at: usize, row: usize, bit: u8)
@@ -96,8 +98,76 @@ fn two_run(ram: &mut [u8], v: usize, bank: u8, bytes: &[u8])
     }
 }
 
-// 1:3, where all columns are there.
-fn three_run(ram: &mut [u8], v: usize, bytes: &[u8])
+// The three columns of a byte in 1:3 as a word: what its first four bits give, and what its last four.
+const FIRST_BITS: [u32; 16] = [
+    0x000000,
+    0x000100,
+    0x000004,
+    0x000104,
+    0x000002,
+    0x000102,
+    0x000006,
+    0x000106,
+    0x000001,
+    0x000101,
+    0x000005,
+    0x000105,
+    0x000003,
+    0x000103,
+    0x000007,
+    0x000107,
+];
+
+const LAST_BITS: [u32; 16] = [
+    0x000000,
+    0x020000,
+    0x010000,
+    0x030000,
+    0x000400,
+    0x020400,
+    0x010400,
+    0x030400,
+    0x000200,
+    0x020200,
+    0x010200,
+    0x030200,
+    0x000600,
+    0x020600,
+    0x010600,
+    0x030600,
+];
+
+// A byte's three columns as a word.
+fn three_columns(first: &[u32; 16], last: &[u32; 16], x: u8) -> u32
+    requires { ⌜ (now first ≡ firstBits) × (now last ≡ lastBits) ⌝ }
+    ensures { λ r. ⌜ (r ≡ threeColumns x) × (r < 16777216) ⌝ }
+{
+    let high = (x / 16) as usize;
+    let low = (x % 16) as usize;
+    first[high] + last[low]
+}
+
+// 1:3, four bytes at a time, whose twelve columns are three words.
+fn three_fours(ram: &mut [u8], v: usize, bytes: &[u8])
+    requires { ⌜ (3 * length (now bytes) ≤ length (now ram) - v) × (overIn 0 (now ram) ≡ Passed) × (length (now bytes) % 4 ≡ 0) ⌝ }
+    ensures { λ _. ⌜ now (ram .exit) ≡ putRun 3 0 v (now (bytes .entry)) (now (ram .entry)) ⌝ }
+{
+    // copied once, and not at each index
+    let first = FIRST_BITS;
+    let last = LAST_BITS;
+    let mut i: usize = 0;
+    while i < bytes.len() {
+        let a = three_columns(&first, &last, bytes[i]);
+        let b = three_columns(&first, &last, bytes[i + 1]);
+        let c = three_columns(&first, &last, bytes[i + 2]);
+        let d = three_columns(&first, &last, bytes[i + 3]);
+        words::put_twelve(ram, v + 3 * i, a, b, c, d);
+        i += 4;
+    }
+}
+
+// 1:3, byte by byte.
+fn three_bytes(ram: &mut [u8], v: usize, bytes: &[u8])
     requires { ⌜ 3 * length (now bytes) ≤ length (now ram) - v ⌝ }
     ensures { λ _. ⌜ now (ram .exit) ≡ putRun 3 0 v (now (bytes .entry)) (now (ram .entry)) ⌝ }
 {
@@ -106,6 +176,16 @@ fn three_run(ram: &mut [u8], v: usize, bytes: &[u8])
         words::three_byte(ram, v + 3 * i, bytes[i]);
         i += 1;
     }
+}
+
+// 1:3, where all columns are there.
+fn three_run(ram: &mut [u8], v: usize, bytes: &[u8])
+    requires { ⌜ (3 * length (now bytes) ≤ length (now ram) - v) × (overIn 0 (now ram) ≡ Passed) ⌝ }
+    ensures { λ _. ⌜ now (ram .exit) ≡ putRun 3 0 v (now (bytes .entry)) (now (ram .entry)) ⌝ }
+{
+    let fours = bytes.len() / 4 * 4;
+    three_fours(ram, v, &bytes[..fours]);
+    three_bytes(ram, v + 3 * fours, &bytes[fours..]);
 }
 
 // 1:4, where all columns are there.

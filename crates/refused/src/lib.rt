@@ -5,20 +5,19 @@ use sheet::Check;
 use sheet::Chips;
 use sheet::Refusal;
 ghost use mathlib.Core.Path.{_≡_};
-ghost use mathlib.Core.Bool.{_&&_};
 ghost use Prim.Native.Nat.{_*_, _/_};
 ghost use lib.Dec.{ltb};
-ghost use Rattle.sheet.specs.declared.Refusal.the-variants.{GroupOrPhase};
+ghost use Rattle.sheet.specs.declared.Refusal.the-variants.{Register, GroupOrPhase};
 ghost use Rattle.sheet.specs.Parts.{partOf};
-ghost use Rattle.sheet.specs.Registers.{inRange};
 ghost use Rattle.sheet.specs.Protocol.{heardBy, chipsIn, sent, addressByte};
-ghost use Rattle.sheet.specs.Checks.{unless, orElse, checkPart, checkChips, checkRegisters, checkColumns, checkRam, checkBytes, checkState, checkPowerOn, checkTransfer, checkPicture};
+ghost use Rattle.sheet.specs.Checks.{unless, orElse, checkPart, checkChips, checkColumns, checkRam, checkBytes, checkPowerOn, checkTransfer};
 ghost use Rattle.packed_sheet.specs.Packed.{unpacked, columnsIn};
 ghost use Rattle.writer_sheet.specs.Writer.{checkWanted};
+ghost use Rattle.refused.specs.Fitting.{fitting, stateBy, pictureBy};
 
 // Whether every register of both groups is in range.
-fn registers_fit(part: u8, registers: Both) -> bool
-    ensures { λ r. ⌜ r ≡ (inRange (partOf part) (registers .zero) && inRange (partOf part) (registers .one)) ⌝ }
+pub fn registers_fit(part: u8, registers: Both) -> bool
+    ensures { λ r. ⌜ r ≡ fitting (partOf part) registers ⌝ }
 {
     let zero = registers.zero;
     let one = registers.one;
@@ -76,21 +75,21 @@ pub fn check_power_on(part: u8, chips: Chips, ram: &[u8], packed: bool) -> Check
     }
 }
 
-// And every call but a power-on: 16, 3, 6.
-fn check_registers(part: u8, chips: Chips, registers: Both) -> Check
-    ensures { λ r. ⌜ r ≡ orElse (checkPart part) (orElse (checkChips (partOf part) chips) (checkRegisters (partOf part) registers)) ⌝ }
+// And every call but a power-on: 16, 3, 6. Whether the registers fit is asked before, so that they are not handed on.
+fn check_registers(part: u8, chips: Chips, fit: bool) -> Check
+    ensures { λ r. ⌜ r ≡ orElse (checkPart part) (orElse (checkChips (partOf part) chips) (unless fit Register)) ⌝ }
 {
     match check_bus(part, chips) {
         Check::Refused(refusal) => Check::Refused(refusal),
-        Check::Passed => checks::unless(registers_fit(part, registers), Refusal::Register),
+        Check::Passed => checks::unless(fit, Refusal::Register),
     }
 }
 
 // And every call with a RAM: 16, 3, 6, 4, 5.
-fn check_state(part: u8, chips: Chips, registers: Both, ram: &[u8], packed: bool) -> Check
-    ensures { λ r. ⌜ r ≡ orElse (checkPart part) (checkState (partOf part) chips registers (columnsIn packed (now (ram .entry)))) ⌝ }
+pub fn check_state(part: u8, chips: Chips, fit: bool, ram: &[u8], packed: bool) -> Check
+    ensures { λ r. ⌜ r ≡ orElse (checkPart part) (stateBy (partOf part) chips fit (columnsIn packed (now (ram .entry)))) ⌝ }
 {
-    match check_registers(part, chips, registers) {
+    match check_registers(part, chips, fit) {
         Check::Refused(refusal) => Check::Refused(refusal),
         Check::Passed => check_ram(part, chips, ram, packed),
     }
@@ -121,7 +120,7 @@ pub fn check_transfer(
 ) -> Check
     ensures { λ r. ⌜ r ≡ orElse (checkPart part) (checkTransfer (partOf part) chips registers (columnsIn packed (now (ram .entry))) (sent (now (bytes .entry)) bits)) ⌝ }
 {
-    match check_state(part, chips, registers, ram, packed) {
+    match check_state(part, chips, registers_fit(part, registers), ram, packed) {
         Check::Refused(refusal) => Check::Refused(refusal),
         Check::Passed => match checks::check_sent(bytes.len(), bits) {
             Check::Refused(refusal) => Check::Refused(refusal),
@@ -134,16 +133,16 @@ pub fn check_transfer(
 pub fn check_picture(
     part: u8,
     chips: Chips,
-    registers: Both,
+    fit: bool,
     ram: &[u8],
     packed: bool,
     group: u8,
     phase: u8,
     size: usize,
 ) -> Check
-    ensures { λ r. ⌜ r ≡ orElse (checkPart part) (checkPicture (partOf part) chips registers (columnsIn packed (now (ram .entry))) group phase size) ⌝ }
+    ensures { λ r. ⌜ r ≡ orElse (checkPart part) (pictureBy (partOf part) chips fit (columnsIn packed (now (ram .entry))) group phase size) ⌝ }
 {
-    match check_state(part, chips, registers, ram, packed) {
+    match check_state(part, chips, fit, ram, packed) {
         Check::Refused(refusal) => Check::Refused(refusal),
         Check::Passed => {
             if (group < 2) & (phase < 2) {
@@ -180,7 +179,7 @@ pub fn check_wanted(
 ) -> Check
     ensures { λ r. ⌜ r ≡ orElse (checkPart part) (checkWanted (partOf part) chips registers group mode bank (now (wanted .entry))) ⌝ }
 {
-    match check_registers(part, chips, registers) {
+    match check_registers(part, chips, registers_fit(part, registers)) {
         Check::Refused(refusal) => Check::Refused(refusal),
         Check::Passed => {
             if (mode < 4) & (bank < 2) {

@@ -32,6 +32,18 @@ fn put_number(out: &mut [u8], at: usize, n: usize) -> usize
     put_digit(out, last, n % 10)
 }
 
+// A number: most have one digit, which needs no call.
+fn put_decimal(out: &mut [u8], at: usize, n: usize) -> usize
+    requires { ⌜ at + length (decimal n) ≤ length (now out) ⌝ }
+    ensures { λ r. ⌜ Puts at (decimal n) (now (out .entry)) (now (out .exit)) r ⌝ }
+{
+    if 10 <= n {
+        put_number(out, at, n)
+    } else {
+        put_digit(out, at, n)
+    }
+}
+
 // Each number after a space.
 fn put_numbers(out: &mut [u8], at: usize, numbers: &[usize]) -> usize
     requires { ⌜ at + length (spaced (now numbers)) ≤ length (now out) ⌝ }
@@ -41,7 +53,7 @@ fn put_numbers(out: &mut [u8], at: usize, numbers: &[usize]) -> usize
     let mut i = 0;
     while i < numbers.len() {
         let after = put_byte(out, place, b' ');
-        place = put_number(out, after, numbers[i]);
+        place = put_decimal(out, after, numbers[i]);
         i += 1;
     }
     place

@@ -1,12 +1,16 @@
 -- Bytes that C lends come back as they were: reading registers and chips from bytes and writing them loses nothing.
 -- Assumes nothing.
-use mathlib.Core.Path.{_≡_, ap, ap₂, _∙_}
-use mathlib.Core.List.{List, [], _∷_, _++_, append-assoc}
+use mathlib.Core.Path.{_≡_, refl, sym, ap, ap₂, _∙_}
+use mathlib.Core.List.{List, [], _∷_, _++_, append-assoc, append-nil}
 use Prim.Native.Nat.{ℕ, zero, suc, _+_, _*_, _<_}
-use native.Mathlib.Nat.{mod-eq-of-lt}
+use native.Mathlib.Nat.{mod-eq-of-lt, not-suc-le-zero, le-of-suc-le-suc}
 use native.Mathlib.Omega.{arith}
-use lib.ListN.{length, getD, take, drop, length-drop, take-append-drop}
+use lib.ListN.{length, getD, take, drop, length-drop, take-append-drop, drop-of-length-le}
 use lib.Seq.{length-take-le, take-all, take-suc, getD-drop}
+use Rattle.sheet.specs.declared.Registers.{Registers}
+use Rattle.sheet.specs.declared.Both.{Both}
+use Rattle.sheet.specs.Registers.{registersOf}
+use Rattle.sheet.specs.Long.{replaced}
 use Rattle.wire.proofs.Parts.{firsts-all}
 use Rattle.wire.specs.Bytes.{registersIn, bytesOf, bothOf, bothBytes, chipIn, chipBytes, listIn, listBytes}
 
@@ -36,6 +40,40 @@ both-back l e w =
     (registers-back (take 12 l) (length-take-le 12 l (omega arith)) (take-bytes 12 l w))
     (registers-back (drop 12 l) (omega (arith, length-drop 12 l)) (drop-bytes 12 l w))
     ∙ take-append-drop 12 l
+
+-- group g's are 12 of them
+pub own-bytes : (g : ℕ) → g < 2 → (l : List ℕ) → length l ≡ 24 → registersIn (take 12 (drop (12 * g) l)) ≡ registersOf g (bothOf l)
+own-bytes zero h l e = refl
+own-bytes (suc zero) h l e = ap registersIn (take-all 12 (drop 12 l) (omega (arith, length-drop 12 l)))
+own-bytes (suc (suc g)) h l e = absurd (not-suc-le-zero (le-of-suc-le-suc (le-of-suc-le-suc h)))
+
+-- and the group's replaced are others in their place
+pub replaced-bytes : (g : ℕ) → g < 2 → (l : List ℕ) (s : Registers) → length l ≡ 24 → Bytes l
+    → take (12 * g) l ++ (bytesOf s ++ drop 12 (drop (12 * g) l)) ≡ bothBytes (replaced g s (bothOf l))
+replaced-bytes zero h l s e w = ap (λ (r : List ℕ). bytesOf s ++ r) (sym (registers-back (drop 12 l) (omega (arith, length-drop 12 l)) (drop-bytes 12 l w)))
+replaced-bytes (suc zero) h l s e w =
+    ap₂ (λ (x y : List ℕ). x ++ (bytesOf s ++ y)) (sym (registers-back (take 12 l) (length-take-le 12 l (omega arith)) (take-bytes 12 l w)))
+    (drop-of-length-le (drop 12 l) {i = 12} (omega (arith, length-drop 12 l)))
+    ∙ ap (λ (r : List ℕ). bytesOf (registersIn (take 12 l)) ++ r) (append-nil (bytesOf s))
+replaced-bytes (suc (suc g)) h l s e w = absurd (not-suc-le-zero (le-of-suc-le-suc (le-of-suc-le-suc h)))
+
+-- registers whose P and A fit a byte come back from bytes as they were
+pub registers-forth : (r : Registers) → r .p < 256 → r .a < 256 → registersIn (bytesOf r) ≡ r
+registers-forth r p a = λ j. record {
+  e = r .e;
+  b = r .b;
+  m = r .m;
+  p = mod-eq-of-lt p j;
+  a = mod-eq-of-lt a j;
+  i = r .i;
+  o = r .o;
+  ab = r .ab;
+  bf = r .bf;
+  unknown = r .unknown;
+}
+
+pub both-forth : (r : Both) → (r .zero .p < 256) × (r .zero .a < 256) → (r .one .p < 256) × (r .one .a < 256) → bothOf (bothBytes r) ≡ r
+both-forth r first second = λ j. record { zero = registers-forth (r .zero) (first .0) (first .1) j; one = registers-forth (r .one) (second .0) (second .1) j }
 
 -- ---- chips
 

@@ -13,7 +13,8 @@ ghost use Rattle.wire.specs.Bytes.{registersIn, bothOf, bytesOf, bothByt
 
 // ---- registers
 
-fn registers_of(bytes: &[u8]) -> Registers
+// A group's registers, from its 12 bytes.
+pub fn registers_of(bytes: &[u8]) -> Registers
     requires { ⌜ length (now bytes) ≡ 12 ⌝ }
     ensures { λ r. ⌜ r ≡ registersIn (now (bytes .entry)) ⌝ }
 {
@@ -46,7 +47,8 @@ pub fn both_of(bytes: &[u8]) -> Both
     }
 }
 
-fn put_registers(registers: Registers, out: &mut [u8])
+// A group's registers, into its 12 bytes.
+pub fn put_registers(registers: Registers, out: &mut [u8])
     requires { ⌜ length (now out) ≡ 12 ⌝ }
     ensures { λ _. ⌜ now (out .exit) ≡ bytesOf registers ⌝ }
 {

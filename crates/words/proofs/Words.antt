@@ -16,7 +16,7 @@ use Rattle.sheet.specs.Data.{changed, putBits}
 use Rattle.laws.proofs.Rows.{changed-other}
 use Rattle.laws.proofs.Runs.{changed-alike}
 use Rattle.laws.proofs.Nibbles.{Nibbles, bits-nibbles}
-use Rattle.words.specs.Fields.{withRows, field, columnOf, joined, mixed, merged, Spread}
+use Rattle.words.specs.Fields.{withRows, field, columnOf, joined, mixed, merged, threeColumns, threeRows, Spread}
 use Rattle.words.proofs.Fields.{field-lt, column}
 
 -- ---- column by column
@@ -124,6 +124,66 @@ pub first-four : (m r bank x v t : ℕ) (ram after : List ℕ) → T (all 2 (row
 unfolding putBits
 first-four m r bank x v t ram after there puts pm few pb w told e =
     four-columns m r bank x v 0 t ram ram there puts pm few pb w told (rw (mul-zero m) refl) after (rw (add-zero v) e)
+
+-- ---- 1:3, a byte and four of them
+
+-- a column's rows by another name, at the same place
+at-column : (r t u p q : ℕ) {l k : List ℕ} → t ≡ u → p ≡ q → l ≡ k → changed (mixed r t) p l ≡ changed (mixed r u) q k
+at-column r t u p q et ep el = rw (et, ep, el)
+
+-- the first h rows become f, in a column of four rows
+abbrev firstRowsPut : ℕ → Bool
+firstRowsPut h = all (2 ^ h) (λ f. all 16 (λ q. eqb (mixed (2 ^ h - 1) f q) (withRows 0 h f q)))
+
+module _ (x v : ℕ) (ram : List ℕ) (w : Nibbles ram) where
+  -- column j, of h rows
+  rows-put : (j h : ℕ) → h ≤ 3 → T (firstRowsPut h) → (before : List ℕ) → before ≡ putBits (3 * j) 3 0 v x ram
+      → changed (mixed (2 ^ h - 1) (field x (3 * j) h)) (v + j) before ≡ putBits (3 * j + h) 3 0 v x ram
+  rows-put j h few puts before e =
+      let so-far : List ℕ = putBits (3 * j) 3 0 v x ram in
+      let f : ℕ = field x (3 * j) h in
+      let q : ℕ = getD so-far (v + j) 0 in
+      let of-f : T (all 16 (λ p. eqb (mixed (2 ^ h - 1) f p) (withRows 0 h f p))) =
+      all-at (2 ^ h) (λ g. all 16 (λ p. eqb (mixed (2 ^ h - 1) g p) (withRows 0 h g p))) puts f (field-lt x (3 * j) h) in
+      ap (changed (mixed (2 ^ h - 1) f) (v + j)) e
+      ∙ changed-alike (mixed (2 ^ h - 1) f) (withRows 0 h f) (v + j) so-far
+      (eqb→eq (mixed (2 ^ h - 1) f q) (withRows 0 h f q) (all-at 16 (λ p. eqb (mixed (2 ^ h - 1) f p) (withRows 0 h f p)) of-f q (bits-nibbles (3 * j) 3 0 v x ram (omega arith) (omega arith) w (v + j))))
+      ∙ sym (column 3 0 x v j ram h few)
+
+  pub three-put : merged 3 threeRows (threeColumns x) v ram ≡ putBits 8 3 0 v x ram
+  unfolding merged columnOf threeColumns mixed withRows putBits
+  three-put =
+      let first = field-lt x 0 3 in
+      let second = field-lt x 3 3 in
+      let third = field-lt x 6 2 in
+      let c0 : columnOf (threeColumns x) 0 ≡ field x 0 3 = omega arith in
+      let q1 : threeColumns x / 256 ≡ field x 3 3 + 256 * field x 6 2 = omega arith in
+      let c1 : columnOf (threeColumns x) 1 ≡ field x 3 3 = ap (λ (n : ℕ). n % 256) q1 ∙ omega arith in
+      let q2 : threeColumns x / 65536 ≡ field x 6 2 = omega arith in
+      let c2 : columnOf (threeColumns x) 2 ≡ field x 6 2 = ap (λ (n : ℕ). n % 256) q2 ∙ omega arith in
+      at-column 3 (columnOf (threeColumns x) 2) (field x 6 2) (v + 2) (v + 2) c2 refl
+      (at-column 7 (columnOf (threeColumns x) 1) (field x 3 3) (v + 1) (v + 1) c1 refl
+      (at-column 7 (columnOf (threeColumns x) 0) (field x 0 3) (v + 0) (v + 0) {l = ram} c0 refl refl))
+      ∙ rows-put 2 2 (omega arith) tt _ (rows-put 1 3 (omega arith) tt _ (rows-put 0 3 (omega arith) tt ram refl))
+
+-- four bytes' words are three of four columns
+pub twelve : (v a b c d : ℕ) (ram : List ℕ) → a < 16777216 → b < 16777216 → c < 16777216 → d < 16777216
+    → merged 4 0x03070703 (c / 65536 + 256 * d) (v + 8) (merged 4 0x07070307 (b / 256 + 65536 * (c % 65536)) (v + 4) (merged 4 0x07030707 (a + 16777216 * (b % 256)) v ram))
+    ≡ merged 3 threeRows d (v + 9) (merged 3 threeRows c (v + 6) (merged 3 threeRows b (v + 3) (merged 3 threeRows a v ram)))
+unfolding merged columnOf
+twelve v a b c d ram la lb lc ld =
+    at-column 3 _ _ _ _ (omega arith) (omega arith)
+    (at-column 7 _ _ _ _ (omega arith) (omega arith)
+    (at-column 7 _ _ _ _ (omega arith) (omega arith)
+    (at-column 3 _ _ _ _ (omega arith) (omega arith)
+    (at-column 7 _ _ _ _ (omega arith) (omega arith)
+    (at-column 7 _ _ _ _ (omega arith) (omega arith)
+    (at-column 3 _ _ _ _ (omega arith) (omega arith)
+    (at-column 7 _ _ _ _ (omega arith) (omega arith)
+    (at-column 7 _ _ _ _ (omega arith) (omega arith)
+    (at-column 3 _ _ _ _ (omega arith) (omega arith)
+    (at-column 7 _ _ _ _ (omega arith) (omega arith)
+    (at-column 7 _ _ _ _ (omega arith) (omega arith) refl)))))))))))
 
 -- ---- a byte spread over a word, as a test that computes
 

@@ -33,6 +33,13 @@ unfoldable pub merged : ℕ → ℕ → ℕ → ℕ → List ℕ → List ℕ
 merged zero r t v ram = ram
 merged (suc n) r t v ram = changed (mixed (columnOf r n) (columnOf t n)) (v + n) (merged n r t v ram)
 
+-- the three columns of a byte in 1:3 as a word: three rows of two, and two of the last; and the rows that they have
+unfoldable pub threeColumns : ℕ → ℕ
+threeColumns x = field x 0 3 + 256 * field x 3 3 + 65536 * field x 6 2
+
+abbrev pub threeRows : ℕ
+threeRows = 0x030707
+
 -- four columns of a byte in a word, from its column k on, each in both banks: 5 is row 0 and row 2
 abbrev pub Spread : ℕ → ℕ → ℕ → ℕ → Type 0
 Spread m x k w = (j : ℕ) → j < 4 → columnOf w j ≡ 5 * field x (m * (k + j)) m

@@ -5,7 +5,7 @@ ghost use lib.ListN.{length, getD};
 ghost use Rattle.sheet.specs.declared.Check.the-variants.{Passed};
 ghost use Rattle.sheet.specs.Checks.{overIn};
 ghost use Rattle.sheet.specs.Data.{changed, putBits};
-ghost use Rattle.words.specs.Fields.{field, joined, merged, Spread};
+ghost use Rattle.words.specs.Fields.{field, joined, merged, threeRows, Spread};
 
 // ---- column by column
 
@@ -79,6 +79,16 @@ pub fn put_four(ram: &mut [u8], at: usize, rows: u32, t: u32)
     ram[at + 1] = (w / 256 % 256) as u8;
     ram[at + 2] = (w / 65536 % 256) as u8;
     ram[at + 3] = (w / 16777216 % 256) as u8;
+}
+
+// 1:3: the words of four bytes, three columns each, as three words of four.
+pub fn put_twelve(ram: &mut [u8], at: usize, a: u32, b: u32, c: u32, d: u32)
+    requires { ⌜ (at + 12 ≤ length (now ram)) × (a < 16777216) × (b < 16777216) × (c < 16777216) × (d < 16777216) ⌝ }
+    ensures { λ _. ⌜ now (ram .exit) ≡ merged 3 threeRows d (at + 9) (merged 3 threeRows c (at + 6) (merged 3 threeRows b (at + 3) (merged 3 threeRows a at (now (ram .entry))))) ⌝ }
+{
+    put_four(ram, at, 0x07030707, a + 16777216 * (b % 256));
+    put_four(ram, at + 4, 0x07070307, b / 256 + 65536 * (c % 65536));
+    put_four(ram, at + 8, 0x03070703, c / 65536 + 256 * d);
 }
 
 // Two bytes at once, in the same way.

@@ -1,45 +1,48 @@
 -- `buslog::put_transfers` meets its contract: a record a turn; what is left gives the whole.
 -- Assumes nothing.
-use mathlib.Core.Path.{_≡_, refl, ap, subst, _∙_}
+use mathlib.Core.Path.{_≡_, refl, sym, ap, subst, _∙_}
+use mathlib.Core.List.{List}
 use Prim.Native.Nat.{ℕ, _+_, _-_, _≤_}
 use native.Mathlib.Omega.{arith}
 use lib.ListN.{length, take, drop}
-use Rattle.sheet.specs.Parts.{pcf8532}
-use Rattle.sheet.specs.Protocol.{whole}
+use Rattle.sheet.specs.Parts.{pcf8532, partOf}
+use Rattle.sheet.specs.Protocol.{Sent, whole}
 use Rattle.sheet.specs.Long.{After, stateOf, transferCall, stateAfterAll}
 use Rattle.log_sheet.specs.Logs.{seenBytes, recordLines, transferLines}
 use Rattle.records.specs.Found.{recordIn}
 use Rattle.records.proofs.Found.{Next, Found, found, none-left}
 use Rattle.text.proofs.Writing.{begin, rest-is, done, room-for, puts-length}
+use Rattle.wire.specs.Bytes.{bothOf}
+use Rattle.lent_long.specs.LongCalls.{LentAfter, Sendable, sentC}
 use Rattle.buslog.proofs.Playing.{Playing, one-more, next-record}
-use Rattle.laws.proofs.Named.{zero-transfer}
+use Rattle.buslog.proofs.Sent as sending
 use borrow.Author.Needs.{needs}
 use Rattle.buslog.proofs.put_transfers.Statement.{statement}
 use Rattle.buslog.proofs.put_transfers.Tie as tie
 
--- the invariant, and that the cursor knows the version
+-- the invariant, that the cursor knows the version, and that no call refuses the state
 abbrev Inv-loop : tie.InvT-loop
-Inv-loop log chips ram₀ out₀ seen registers₀ index₀ at₀ cursor₀ ram out registers index at cursor =
-    Playing log chips (stateOf registers₀ ram₀) out₀ (stateOf registers ram) out index at (cursor .at) × (cursor .seen ≡ seenBytes log)
+Inv-loop log chips registers₀ ram₀ out₀ seen index₀ at₀ cursor₀ registers ram out index at cursor =
+    Playing log chips (stateOf (bothOf registers₀) ram₀) out₀ (stateOf (bothOf registers) ram) out index at (cursor .at) × (cursor .seen ≡ seenBytes log) × Sendable pcf8532 chips registers ram
 
 abbrev μ-loop : tie.MeasureT-loop
-μ-loop log chips ram₀ out₀ seen registers₀ index₀ at₀ cursor₀ ram out registers index at cursor = length log - cursor .at
+μ-loop log chips registers₀ ram₀ out₀ seen index₀ at₀ cursor₀ registers ram out index at cursor = length log - cursor .at
 
 loop-holds : tie.Need-loop-holds Inv-loop μ-loop
-loop-holds c = let s = c .before .before .before .before in
-    (record { writing = begin _ _ _ (omega (arith, s .pre .1)); state = refl; whole = s .pre .0; few = omega arith; long = refl }, c .seen-bytes .ensures)
+loop-holds c = let s = c .before .before .before .before .before in
+    (record { writing = begin _ _ _ (omega (arith, s .pre .1 .1)); state = refl; whole = s .pre .0; few = omega arith; long = refl }, c .seen-bytes .ensures, s .pre .1 .0)
 
 -- what was read at the cursor
-read-at : (c : tie.After-read Inv-loop μ-loop) → let log = c .before .before .before .before .before .before .args .log .now in Found (seenBytes log) log (c .before .loop .cursor .at) (c .read .result)
-read-at c = let log = c .before .before .before .before .before .before .args .log .now in
+read-at : (c : tie.After-read Inv-loop μ-loop) → let log = c .before .before .before .before .before .before .before .args .log .now in Found (seenBytes log) log (c .before .loop .cursor .at) (c .read .result)
+read-at c = let log = c .before .before .before .before .before .before .before .args .log .now in
     let at = c .before .loop .cursor .at in
     found (seenBytes log) log at (c .read .result) (c .read .ensures .0 ∙ ap (λ (k : ℕ). recordIn k at (drop at log)) (c .before .loop .inv .1))
 
 -- a whole record
 next : (c : tie.After-start Inv-loop μ-loop) → let p = c .before .before .before in
-    let log = p .before .before .before .before .before .args .log .now in Next (seenBytes log) log (p .loop .cursor .at) (c .start .given .0 .0) (c .start .given .0 .1 .0) (c .start .given .0 .1 .1 .0)
+    let log = p .before .before .before .before .before .before .args .log .now in Next (seenBytes log) log (p .loop .cursor .at) (c .start .given .0 .0) (c .start .given .0 .1 .0) (c .start .given .0 .1 .1 .0)
 next c = let p = c .before .before .before in
-    let log = p .before .before .before .before .before .args .log .now in
+    let log = p .before .before .before .before .before .before .args .log .now in
     subst (Found (seenBytes log) log (p .loop .cursor .at)) (c .start .given .1) (read-at (c .before .before))
 
 add-end : tie.Need-add-end Inv-loop μ-loop
@@ -52,48 +55,62 @@ seen-few c = rw (c .before .before .before .before .seen-bytes .ensures) (next c
 add-from : tie.Need-add-from Inv-loop μ-loop
 add-from c = omega (arith, next (c .before) .inside, seen-few (c .before))
 
-part-transfer-end : tie.Need-part-transfer-end Inv-loop μ-loop
-part-transfer-end c = omega (arith, next (c .before .before) .inside)
+part-send-end : tie.Need-part-send-end Inv-loop μ-loop
+part-send-end c = omega (arith, next (c .before .before .before) .inside)
 
--- the transfer that was carried out is the record's
-told : (c : tie.After-transfer Inv-loop μ-loop) → let read = c .before .before .before .before in
+-- the record's transfer
+abbrev transfer : tie.After-start Inv-loop μ-loop → Sent
+transfer read = let log = read .before .before .before .before .before .before .before .before .before .args .log .now in
+    let start = read .start .given .0 .0 in
+    whole (take (start + read .start .given .0 .1 .0 - (start + seenBytes log)) (drop (start + seenBytes log) log))
+
+-- what was sent is it
+sent-is : (c : tie.After-send Inv-loop μ-loop) → let read = c .before .before .before .before .before in
     let p = read .before .before .before in
-    let a = p .before .before .before .before .before .args in
+    let a = p .before .before .before .before .before .before .args in
+    _≡_ {A = LentAfter} (record { answer = c .send .result; registers = c .send .last .1 .1 .0; ram = c .send .last .1 .1 .1 .0 }) (sentC pcf8532 (a .chips) (p .loop .registers) (p .loop .ram) (transfer read))
+unfolding partOf
+sent-is c = let read = c .before .before .before .before .before in
+    let p = read .before .before .before in
+    let a = p .before .before .before .before .before .before .args in
     let log = a .log .now in
     let start = read .start .given .0 .0 in
-    _≡_ {A = After} (record { result = c .transfer .result; ram = c .transfer .last .1 .1 .1 .0 })
-    (transferCall pcf8532 (a .chips) (p .loop .registers) (p .loop .ram) (whole (take (start + read .start .given .0 .1 .0 - (start + seenBytes log)) (drop (start + seenBytes log) log))))
-told c = let read = c .before .before .before .before in
+    c .send .ensures
+    ∙ ap (λ (k : ℕ). sentC pcf8532 (a .chips) (p .loop .registers) (p .loop .ram) (whole (take (start + read .start .given .0 .1 .0 - (start + k)) (drop (start + k) log)))) (p .before .seen-bytes .ensures)
+
+send-requires : tie.Need-send-requires Inv-loop μ-loop
+unfolding partOf
+send-requires c κs = c .before .before .before .before .before .before .before .loop .inv .2
+
+told : (c : tie.After-send Inv-loop μ-loop) → let read = c .before .before .before .before .before in
     let p = read .before .before .before in
-    let a = p .before .before .before .before .before .args in
-    let log = a .log .now in
-    let start = read .start .given .0 .0 in
-    c .transfer .ensures .0 ∙ zero-transfer _ _ _ _
-    ∙ ap (λ (k : ℕ). transferCall pcf8532 (a .chips) (p .loop .registers) (p .loop .ram) (whole (take (start + read .start .given .0 .1 .0 - (start + k)) (drop (start + k) log)))) (p .before .seen-bytes .ensures)
+    let a = p .before .before .before .before .before .before .args in
+    _≡_ {A = After} (record { result = record { answer = c .send .result; registers = bothOf (c .send .last .1 .1 .0) }; ram = c .send .last .1 .1 .1 .0 }) (transferCall pcf8532 (a .chips) (bothOf (p .loop .registers)) (p .loop .ram) (transfer read))
+told c = sending.told (transfer (c .before .before .before .before .before)) (c .before .before .before .before .before .before .before .before .loop .inv .2) (sent-is c)
 
 put-record-requires : tie.Need-put-record-requires Inv-loop μ-loop
-put-record-requires c κs = let t = c .before .before .before .before in
-    let read = t .before .before .before .before in
+put-record-requires c κs = let t = c .before .before .before .before .before in
+    let read = t .before .before .before .before .before in
     let p = read .before .before .before in
-    rw (p .before .seen-bytes .ensures) (room-for (recordLines (seenBytes (p .before .before .before .before .before .args .log .now)) (p .loop .index) (read .start .given .0 .1 .1 .0) (t .transfer .result .answer)) _ (one-more (p .loop .inv .0) (next read) (told t)))
+    rw (p .before .seen-bytes .ensures) (room-for (recordLines (seenBytes (p .before .before .before .before .before .before .args .log .now)) (p .loop .index) (read .start .given .0 .1 .1 .0) (t .send .result)) _ (one-more (p .loop .inv .0) (next read) (told t)))
 
 add-index : tie.Need-add-index Inv-loop μ-loop
-add-index c = let read = c .before .before .before .before .before .before .before .before .before .before .before in
+add-index c = let read = c .before .before .before .before .before .before .before .before .before .before .before .before .before in
     omega (arith, next read .inside, next read .begins, read .before .before .before .loop .inv .0 .few)
 
 loop-less : tie.Need-loop-less Inv-loop μ-loop
-loop-less c = let n = next (c .before .before .before .before .before .before .before .before .before .before .before) in omega (arith, n .inside, n .begins)
+loop-less c = let n = next (c .before .before .before .before .before .before .before .before .before .before .before .before .before) in omega (arith, n .inside, n .begins)
 
 loop-again : tie.Need-loop-again Inv-loop μ-loop
-loop-again c = let t = c .before .before .before .before .before .before .before in
-    let read = t .before .before .before .before in
+loop-again c = let t = c .before .before .before .before .before .before .before .before in
+    let read = t .before .before .before .before .before in
     let p = read .before .before .before in
-    (next-record (p .loop .inv .0) (next read) (told t) (t .transfer .kept .1 .1 .1 .0) (rw (p .before .seen-bytes .ensures) at (c .before .before .put-record .ensures)), p .before .seen-bytes .ensures)
+    (next-record (p .loop .inv .0) (next read) (told t) (t .send .kept .1 .1 .1 .0) (rw (p .before .seen-bytes .ensures) at (c .before .before .put-record .ensures)), p .before .seen-bytes .ensures, sending.again (transfer read) (p .loop .inv .2) (sent-is t))
 
 returns : tie.Need-returns Inv-loop μ-loop
 unfolding stateAfterAll transferLines
 returns c = let p = c .before .before in
-    let log = p .before .before .before .before .before .args .log .now in
+    let log = p .before .before .before .before .before .before .args .log .now in
     let over = none-left (seenBytes log) log (p .loop .cursor .at) (c .before .read .result) (read-at (c .before)) (c .match .keys2) in
     (rw over at (p .loop .inv .0 .state), done (rest-is (p .loop .inv .0 .writing) (rw over)))
 
@@ -102,6 +119,6 @@ put-transfers-spec =
     tie.close
     (tie.spec
     Inv-loop μ-loop (λ c κs. search needs) loop-holds
-    (λ c κs. search needs) (λ c. search needs) add-end add-from (λ c. omega (arith, seen-few (c .before .before))) (λ c. omega (arith, seen-few (c .before .before))) part-transfer-end
-    (λ c κs. search needs) put-record-requires add-index loop-less loop-again
-    (λ c. c .before .before .loop .inv .0 .long) (λ c. puts-length (returns c .1)) returns)
+    (λ c κs. search needs) (λ c. search needs) add-end add-from (λ c. omega (arith, seen-few (c .before .before .before))) (λ c. omega (arith, seen-few (c .before .before .before))) part-send-end
+    send-requires put-record-requires add-index loop-less loop-again
+    (λ c. c .before .before .loop .inv .2 .size ∙ sym (c .before .before .before .before .before .before .before .before .pre .1 .0 .size)) (λ c. c .before .before .loop .inv .0 .long) (λ c. puts-length (returns c .1)) returns)

@@ -1,21 +1,12 @@
 -- `gather::four_byte` meets its contract: two columns of four rows.
 -- Assumes nothing.
-use mathlib.Core.Path.{_≡_, ap, _∙_}
-use mathlib.Core.List.{List}
-use Prim.Native.Nat.{ℕ, _+_, _*_, _%_}
-use native.Mathlib.Nat.{add-zero}
-use native.Mathlib.Omega.{arith}
-use lib.ListN.{getD}
+use mathlib.Core.Path.{_∙_}
 use denote.Ref.{now}
-use Rattle.gather.specs.Lows.{lowBits}
-use Rattle.gather.proofs.Lows.{low-whole, low-none, turned}
+use Rattle.gather.proofs.Lows.{turned}
+use Rattle.gather.proofs.Exchanged.{side-by-side}
 use borrow.Author.Needs.{needs}
 use Rattle.gather.proofs.four_byte.Statement.{statement}
 use Rattle.gather.proofs.four_byte.Tie as tie
-
-side-by-side : (v : ℕ) (columns : List ℕ) → getD columns v 0 % 16 + getD columns (v + 1) 0 % 16 * 16 ≡ lowBits 8 4 0 v columns
-side-by-side v columns =
-    omega (arith, low-none 4 0 v columns, low-whole 4 v columns 0 4 (omega arith) _ (ap (λ (i : ℕ). getD columns i 0) (add-zero v)), low-whole 4 v columns 1 4 (omega arith) _ (λ i. getD columns (v + 1) 0))
 
 returns : tie.Need-returns
 returns c = let a = c .before .before .before .before .args in

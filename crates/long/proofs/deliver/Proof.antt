@@ -1,86 +1,29 @@
--- `long::deliver` meets its contract: the group hears the bytes in its part of the RAM, and the part is put back.
+-- `long::deliver` meets its contract: the group that hears, with its registers replaced.
 -- Assumes nothing.
-use mathlib.Core.Path.{_≡_, ap, _∙_}
-use mathlib.Core.List.{List}
-use Prim.Native.Nat.{ℕ, _-_, _≤_}
-use native.Mathlib.Omega.{arith}
-use lib.ListN.{length, take, drop}
+use mathlib.Core.Path.{refl, sym, ap, _∙_}
 use denote.Ref.{now}
 use Rattle.sheet.specs.declared.Registers.{Registers}
-use Rattle.sheet.specs.declared.Acknowledger.{Acknowledger}
 use Rattle.sheet.specs.declared.Answer.{Answer}
 use Rattle.sheet.specs.Parts.{partOf}
-use Rattle.sheet.specs.Protocol.{chipsIn, sent}
-use Rattle.sheet.specs.Checks.{overIn}
-use Rattle.sheet.specs.Long.{Group, oneAcknowledged, noCounts, heardWhole, replaced, columnsOf}
+use Rattle.sheet.specs.Protocol.{sent}
+use Rattle.sheet.specs.Long.{replaced}
 use Rattle.packed_sheet.specs.Packed.{columnsIn}
-use Rattle.laws.proofs.Ranges.{in-range}
-use Rattle.laws.proofs.Named.{columns-even, ram-small}
-use Rattle.laws.proofs.Fits.{Fits, fits-of}
-use Rattle.laws.proofs.Nibbles.{check-nibbles}
-use Rattle.laws.proofs.Lens.{few-chips-in, ends-in-ram, group-kept}
-use Rattle.long.proofs.Parts.{part-taken, put-back, in-order, end-in}
+use Rattle.long.specs.Heard.{heardInRam}
 use borrow.Author.Needs.{needs}
 use Rattle.long.proofs.deliver.Statement.{statement}
 use Rattle.long.proofs.deliver.Tie as tie
 
--- the columns of the RAM
-abbrev columns : tie.Start → List ℕ
-columns s = columnsIn (s .args .packed) (now (s .args .ram))
-
--- the state fits
-fitting : (s : tie.Start) → Fits (partOf (s .args .part)) (s .args .chips) (s .args .registers) (columns s)
-fitting s = fits-of (partOf (s .args .part)) (s .args .chips) (s .args .registers) (columns s) (s .pre .0)
-
--- the part is the group's
-part : (c : tie.After-end-in) → let s = c .before .before .before .before in let a = s .args in
-    columnsIn (a .packed) (take (c .end-in .result - c .before .start-in .result) (drop (c .before .start-in .result) (now (a .ram)))) ≡ columnsOf (partOf (a .part)) (a .chips) (a .group) (columns s)
-part c = let a = c .before .before .before .before .args in
-    part-taken (partOf (a .part)) _ (columns-even (a .part)) (a .chips) (now (a .ram)) (a .group) (c .before .start-in .result) (c .end-in .result) (a .packed) (c .before .start-in .ensures) (c .end-in .ensures)
-
-begins : (e : tie.After-end-in) → e .before .start-in .result ≤ e .end-in .result
-begins e = let a = e .before .before .before .before .args in
-    in-order (partOf (a .part)) _ (columns-even (a .part)) (a .chips) (now (a .ram)) (a .group) (e .before .start-in .result) (e .end-in .result) (a .packed) (e .before .start-in .ensures) (e .end-in .ensures)
-
-part-hear-end : tie.Need-part-hear-end
-part-hear-end c = let e = c .before in
-    let s = e .before .before .before .before in
-    let a = s .args in
-    end-in (partOf (a .part)) _ (columns-even (a .part)) (a .chips) (now (a .ram)) (a .group) (e .before .start-in .result) (e .end-in .result) (a .packed) (e .end-in .ensures) (ends-in-ram (partOf (a .part)) (a .chips) (a .registers) (columns s) (fitting s) (a .group))
-
-hear-requires : tie.Need-hear-requires
-hear-requires c κs = let e = c .before .before in
-    let s = e .before .before .before .before in
-    let a = s .args in
-    let f = fitting s in
-    let kept = group-kept (partOf (a .part)) (a .chips) (a .registers) (columns s) f (a .group) in
-    record {
-      range = rw (c .before .registers-of .ensures) (in-range (partOf (a .part)) _ (kept .range));
-      few = omega (arith, ap length (part e), kept .columns, ram-small (a .part) (chipsIn (a .group) (a .chips)) (few-chips-in (partOf (a .part)) (a .chips) (a .registers) (columns s) f (a .group)));
-      nibbles = ap (overIn 0) (part e) ∙ check-nibbles 0 (columnsOf (partOf (a .part)) (a .chips) (a .group) (columns s)) (kept .nibbles);
-      short = s .pre .1;
-    }
+hear-in-requires : tie.Need-hear-in-requires
+hear-in-requires c κs = let s = c .before .before .before .before in
+    record { both = s .args .registers; own = sym (c .before .registers-of .ensures); state = s .pre .0; short = s .pre .1 }
 
 returns : tie.Need-returns
 returns c = let h = c .before .before .before .before .before in
-    let e = h .before .before .before in
-    let a = e .before .before .before .before .args in
-    let told = h .hear .ensures ∙ ap (λ (g : Group). heardWhole (partOf (a .part)) (sent (now (a .bytes)) (a .bits)) g) (λ j. record { registers = h .before .before .registers-of .ensures j; ram = part e j; counts = oneAcknowledged noCounts; last = Acknowledger.None }) in
+    let own = h .before .before in
+    let a = own .before .before .before .args in
+    let told = h .hear-in .ensures ∙ ap (λ (r : Registers). heardInRam (partOf (a .part)) (a .chips) (a .group) r (columnsIn (a .packed) (now (a .ram))) (sent (now (a .bytes)) (a .bits))) (own .registers-of .ensures) in
     let after = c .replaced .ensures ∙ ap (λ (r : Registers). replaced (a .group) r (a .registers)) (λ j. told j .registers) in
-    let back = put-back (partOf (a .part)) _ (columns-even (a .part)) (a .chips) (now (a .ram)) (a .group) (e .before .start-in .result) (e .end-in .result) (a .packed) (e .before .start-in .ensures) (e .end-in .ensures) (h .hear .last .1 .0) _ (λ j. told j .ram) in
-    λ j. record { result = record { answer = Answer.Taken (told j .counts) (told j .last); registers = after j }; ram = back j }
+    λ j. record { result = record { answer = Answer.Taken (told j .counts) (told j .last); registers = after j }; ram = told j .ram }
 
 pub deliver-spec : {M : Type 1} → statement M
-deliver-spec =
-    tie.close
-    (tie.spec
-    (λ c κs. search needs)
-    (λ c κs. search needs)
-    (λ c κs. search needs)
-    (λ c. begins (c .before))
-    (λ c. begins (c .before))
-    part-hear-end
-    hear-requires
-    (λ c κs. search needs)
-    (λ c. search needs)
-    returns)
+deliver-spec = tie.close (tie.spec (λ c κs. search needs) hear-in-requires (λ c κs. search needs) (λ c. search needs) returns)

@@ -14,18 +14,10 @@ use Rattle.sheet.specs.Checks.{orElse, checkPart, checkTransfer}
 use Rattle.sheet.specs.Long.{taken, answered, transferCall, transferPart}
 use Rattle.packed_sheet.specs.Packed.{columnsIn}
 use Rattle.laws.proofs.Fits.{both-pass, transfer-passed}
-use Rattle.laws.proofs.First.{answered-first}
+use Rattle.long.proofs.Checked.{by-check}
 use borrow.Author.Needs.{needs}
 use Rattle.long.proofs.transfer_in.Statement.{statement}
 use Rattle.long.proofs.transfer_in.Tie as tie
-
--- what the call is, by what its checks answer
-by-check : (part : ℕ) (n : Chips) (r : Both) (ram : List ℕ) (t : Sent) (k : Check) → orElse (checkPart part) (checkTransfer (partOf part) n r ram t) ≡ k
-    → transferPart part n r ram t ≡ answered k r ram (taken (partOf part) n r ram t (heardBy n (addressByte t)))
-unfolding transferPart transferCall
-by-check part n r ram t k e =
-    let s = taken (partOf part) n r ram t (heardBy n (addressByte t)) in
-    answered-first (checkPart part) (checkTransfer (partOf part) n r ram t) r ram s ∙ ap (λ (k : Check). answered k r ram s) e
 
 -- what is taken once the checks have passed, by who hears
 takes : (c : tie.After-heard-by) → (to : Addressed) → c .heard-by .result ≡ to → let a = c .before .before .before .before .before .before .before .before .args in

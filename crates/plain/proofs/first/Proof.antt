@@ -4,17 +4,17 @@ use Rattle.walks.proofs.Walk.{_≡_, refl, List, [], _∷_, ℕ, suc, _+_, _-_,
 use Rattle.walks.proofs.Walk.{Cell, room, holds, rooms, frame, env, get, field, sets, sets-last, forgets, leaves, number, truth, reads-element, looked-into, looks, looked, Loop, Turned, tests, turned, goes-on, next-turn, returned, then, calls-plain, Shared-walk, shared-meets}
 use denote.Struct.Laws.{vals, tells, copy}
 use Rattle.sheet.specs.declared.Chip.{Chip}
-use Rattle.plain.specs.declared.Question.{Question}
-use Rattle.plain.specs.Asking.{yes, firstYes}
-use Rattle.plain.proofs.Searching.{is-true, is-false, Sought, found, not-yet, none}
+use Rattle.starts.specs.declared.Question.{Question}
+use Rattle.starts.specs.Questions.{yes, firstYes}
+use Rattle.starts.proofs.Searching.{is-true, is-false, Sought, found, not-yet, none}
 use Rattle.plain.proofs.Shapes.{blank, chip, question}
 use Rattle.sheet.proofs.Chip as ChipType
 use Rattle.sheet.proofs.Chip.Laws as ChipLaws
-use Rattle.plain.proofs.Question as QuestionType
-use Rattle.plain.proofs.says_yes as says-yes
-use Rattle.plain.proofs.says_yes.Symbol as says-yes-symbol
-use Rattle.plain.proofs.says_yes.Symbol.{name as #plain·says-yes}
-use Rattle.plain.proofs.says_yes.Met as says-yes-theorem
+use Rattle.starts.proofs.Question as QuestionType
+use Rattle.starts.proofs.says_yes as says-yes
+use Rattle.starts.proofs.says_yes.Symbol as says-yes-symbol
+use Rattle.starts.proofs.says_yes.Symbol.{name as #starts·says-yes}
+use Rattle.starts.proofs.says_yes.Met as says-yes-theorem
 use Rattle.plain.proofs.first as own
 use Rattle.plain.proofs.first.Key.{name as #plain·first}
 use Rattle.plain.proofs.first.Statement as stated
@@ -26,7 +26,7 @@ abbrev Says : (κs : Lfts 1) → Args own.signature κs → ℕ → Type 0
 Says κs a r = r ≡ firstYes (yes (a .1 .0)) (a .0 .now)
 
 module _ {M : Type 1} (𝓤 : URA M) (H : Heap 𝓤) (A : Atoms 𝓤) (W : Given 𝓤 H A) (mem : Memory → SProp 𝓤) (run : Routine → Fun 𝓤) (𝓣 : Tables 𝓤 H)
-    (says-yes-met : Meets 𝓤 H A says-yes.signature (𝓣 .C #plain·says-yes) (says-yes.spec 𝓤 H A mem run)) where
+    (says-yes-met : Meets 𝓤 H A says-yes.signature (𝓣 .C #starts·says-yes) (says-yes.spec 𝓤 H A mem run)) where
   walk : Shared-walk 𝓤 H A W 𝓣 code.function usize (number w64) ChipType.the-row (plain (λ _. QuestionType.the-row) ∷ []) (λ _. (question, tt)) (own.clauses 𝓤 H A mem run) (λ κs a. Unit {0}) Says
   walk κ s b o γ xs a space are _ post ends l =
       sets ! (of-opd ! (lit ! tt)) tt (tt, record { fits = lit< tt }) $ move ! (1 ∷ []) $
@@ -82,4 +82,4 @@ first-spec 𝓤 H 𝓜 𝓖 𝓡 =
     (shared-meets 𝓤 H A W 𝓣 code.function usize (number w64) ChipType.the-row (plain (λ _. QuestionType.the-row) ∷ []) (λ _. (question, tt)) (own.clauses 𝓤 H A (𝓜 .mem) (𝓡 .run)) (λ κs a. Unit {0}) Says
     (λ κ b o xs a space are. ((tt, (tt, (record { fits = space .0 }, tt))), (question .typed 𝓤 H A W (a .0) (are .0), tt))) (λ κs a gh. factI 𝓤 (Unit {0}) _ tt) (λ κs a gh r ws. id⊢ 𝓤 _)
     (walk 𝓤 H A W (𝓜 .mem) (𝓡 .run) 𝓣
-    (cited 𝓤 H (tripleOf 𝓤 H A says-yes.signature (says-yes.spec 𝓤 H A (𝓜 .mem) (𝓡 .run))) 𝓜 𝓡 code.env #plain·says-yes says-yes-symbol.routine code.calls-plain·says-yes (says-yes-theorem.met 𝓤 H 𝓜 𝓖 𝓡))))
+    (cited 𝓤 H (tripleOf 𝓤 H A says-yes.signature (says-yes.spec 𝓤 H A (𝓜 .mem) (𝓡 .run))) 𝓜 𝓡 code.env #starts·says-yes says-yes-symbol.routine code.calls-starts·says-yes (says-yes-theorem.met 𝓤 H 𝓜 𝓖 𝓡))))

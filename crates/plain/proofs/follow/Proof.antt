@@ -1,35 +1,40 @@
--- `plain::follow` meets its contract: a walk of its MIR, by hand. The list is opened once, before the loop; in each turn its row is shown to `smallest` and lent to `take_all`, and the bytes are passed on to `next`.
+-- `plain::follow` meets its contract: a walk of its MIR, by hand. The list is opened once, before the loop; in each turn its row is shown to `ask_all` and lent to `take_all`, and the bytes are passed on to `most_in`, `take_all` and `next`.
 -- Assumes nothing.
-use Rattle.walks.proofs.Walk.{_≡_, refl, sym, subst, List, [], _∷_, map, _-_, _<_, _≤_, arith, ltb→lt, nltb→le, length, URA, fullShare, Lfts, Args, SProp, emp, id⊢, Memory, Routine, Heap, Tables, Atoms, Fun, factI, givenOf, tables, tablesOf, Given, ‵, Sq, runs, _$_, !, move, rewrite, of-opd, bin, and-then, no-more, Is, u8, unit, sliceVal, Room, row, plain, Meets, tripleOf, entered, cited}
-use Rattle.walks.proofs.Walk.{Cell, room, holds, rooms, frame, env, get, field, sets, forgets, leaves, nothing, opened, opens, shuts, shared, slice, reslices, Loop, Turned, turned, goes-on, next-turn, last, calls-showing, calls-lending, calls-passing, Mut-shared-walk, mut-shared-meets, said-both}
+use Rattle.walks.proofs.Walk.{_≡_, refl, sym, subst, List, [], _∷_, map, ℕ, _+_, _-_, _<_, _≤_, w64, arith, ltb→lt, nltb→le, length, URA, fullShare, Lfts, Args, SProp, emp, id⊢, Memory, Routine, Heap, Tables, Atoms, Fun, factI, givenOf, tables, tablesOf, Given, ‵, Sq, runs, _$_, !, move, rewrite, of-opd, bin, and-then, no-more, Is, u8, usize, unit, sliceVal, Room, row, plain, Meets, tripleOf, entered, cited}
+use Rattle.walks.proofs.Walk.{Cell, room, holds, rooms, frame, env, get, field, sets, forgets, leaves, nothing, opened, opens, shuts, shared, slice, reslices, Loop, Turned, turned, goes-on, next-turn, last, then, number, calls-showing, calls-passing, calls-lending-passing, Mut-shared-walk, mut-shared-meets, said-both}
 use denote.Struct.Laws.{owed}
 use Rattle.sheet.specs.declared.Chip.{Chip}
-use Rattle.plain.specs.declared.Turn.{Turn}
-use Rattle.sheet.specs.declared.Acknowledger.{Acknowledger}
-use Rattle.sheet.specs.Plain.{smallest}
-use Rattle.plain.specs.declared.Tally.{Tally}
-use Rattle.plain.specs.Asking.{answers, taken}
-use Rattle.plain.specs.Turns.{turnAfter, tallyOf, followed, Ready}
-use Rattle.plain.proofs.Following.{Following, ended, turn-more}
-use Rattle.plain.proofs.Shapes.{heard, acknowledger, tally, turn}
+use Rattle.turns.specs.declared.Turn.{Turn}
+use Rattle.turns.specs.declared.Said.{Said}
+use Rattle.turns.specs.declared.Tally.{Tally}
+use Rattle.turns.specs.Asking.{saidBy}
+use Rattle.turns.specs.Turns.{turnPast, mostIn, takenBy, tallyOf, followed, Ready}
+use Rattle.turns.proofs.Following.{Following, ended}
+use Rattle.turns.proofs.Stretches.{Stretch, stretch}
+use Rattle.plain.proofs.Shapes.{heard, said, tally, turn}
 use Rattle.sheet.proofs.Chip as ChipType
-use Rattle.plain.proofs.BusByte as BusByteType
-use Rattle.sheet.proofs.Acknowledger as AcknowledgerType
-use Rattle.plain.proofs.Tally as TallyType
-use Rattle.plain.proofs.Turn as TurnType
-use Rattle.plain.proofs.Turn.Laws as TurnLaws
-use Rattle.plain.proofs.smallest as smallest-of
-use Rattle.plain.proofs.smallest.Symbol as smallest-symbol
-use Rattle.plain.proofs.smallest.Symbol.{name as #plain·smallest}
-use Rattle.plain.proofs.smallest.Met as smallest-theorem
+use Rattle.turns.proofs.BusByte as BusByteType
+use Rattle.turns.proofs.Said as SaidType
+use Rattle.turns.proofs.Said.Laws as SaidLaws
+use Rattle.turns.proofs.Tally as TallyType
+use Rattle.turns.proofs.Turn as TurnType
+use Rattle.turns.proofs.Turn.Laws as TurnLaws
+use Rattle.turns.proofs.most_in as most-in
+use Rattle.turns.proofs.most_in.Symbol as most-in-symbol
+use Rattle.turns.proofs.most_in.Symbol.{name as #turns·most-in}
+use Rattle.turns.proofs.most_in.Met as most-in-theorem
+use Rattle.plain.proofs.ask_all as ask-all
+use Rattle.plain.proofs.ask_all.Symbol as ask-all-symbol
+use Rattle.plain.proofs.ask_all.Symbol.{name as #plain·ask-all}
+use Rattle.plain.proofs.ask_all.Met as ask-all-theorem
 use Rattle.plain.proofs.take_all as take-all
 use Rattle.plain.proofs.take_all.Symbol as take-all-symbol
 use Rattle.plain.proofs.take_all.Symbol.{name as #plain·take-all}
 use Rattle.plain.proofs.take_all.Met as take-all-theorem
-use Rattle.plain.proofs.next as next
-use Rattle.plain.proofs.next.Symbol as next-symbol
-use Rattle.plain.proofs.next.Symbol.{name as #plain·next}
-use Rattle.plain.proofs.next.Met as next-theorem
+use Rattle.turns.proofs.next as next
+use Rattle.turns.proofs.next.Symbol as next-symbol
+use Rattle.turns.proofs.next.Symbol.{name as #turns·next}
+use Rattle.turns.proofs.next.Met as next-theorem
 use Rattle.plain.proofs.follow as own
 use Rattle.plain.proofs.follow.Key.{name as #plain·follow}
 use Rattle.plain.proofs.follow.Statement as stated
@@ -43,14 +48,14 @@ abbrev Says : (κs : Lfts 2) → Args own.signature κs → List Chip → Tally 
 Says κs a zs r = (r ≡ tallyOf (followed (a .0 .now) (a .1 .0 .now) (a .1 .1 .0))) × (zs ≡ followed (a .0 .now) (a .1 .0 .now) (a .1 .1 .0) .chips)
 
 module _ {M : Type 1} (𝓤 : URA M) (H : Heap 𝓤) (A : Atoms 𝓤) (W : Given 𝓤 H A) (mem : Memory → SProp 𝓤) (run : Routine → Fun 𝓤) (𝓣 : Tables 𝓤 H)
-    (smallest-met : Meets 𝓤 H A smallest-of.signature (𝓣 .C #plain·smallest) (smallest-of.spec 𝓤 H A mem run)) (take-all-met : Meets 𝓤 H A take-all.signature (𝓣 .C #plain·take-all) (take-all.spec 𝓤 H A mem run)) (next-met : Meets 𝓤 H A next.signature (𝓣 .C #plain·next) (next.spec 𝓤 H A mem run)) where
+    (most-in-met : Meets 𝓤 H A most-in.signature (𝓣 .C #turns·most-in) (most-in.spec 𝓤 H A mem run)) (ask-all-met : Meets 𝓤 H A ask-all.signature (𝓣 .C #plain·ask-all) (ask-all.spec 𝓤 H A mem run)) (take-all-met : Meets 𝓤 H A take-all.signature (𝓣 .C #plain·take-all) (take-all.spec 𝓤 H A mem run)) (next-met : Meets 𝓤 H A next.signature (𝓣 .C #turns·next) (next.spec 𝓤 H A mem run)) where
   walk : Mut-shared-walk 𝓤 H A W 𝓣 code.function TallyType.the-row tally ChipType.the-row u8 (plain (λ _. TurnType.the-row) ∷ []) (λ _. (turn, tt)) (own.clauses 𝓤 H A mem run) Asked Says
   walk κ κ₂ s s₂ b o b₂ o₂ γ γ₂ xs bytes a space space₂ are ready post ends l =
       sets ! (of-opd ! (get ! refl)) tt (turn .typed 𝓤 H A W (a .0) (are .0)) $ move ! (1 ∷ []) $ opens ChipType.the-row ! tt xs b o $ move ! (2 ∷ 0 ∷ 3 ∷ []) $
       turned W 𝓣 loop ! turns (a .0, xs) (record { ready = ready; same = refl; left = refl }, are .0)
     where
       held : Turn → List Cell
-      held t = room ∷ holds (sliceVal (b, o) (length xs)) ∷ holds (sliceVal (b₂, o₂) (length bytes)) ∷ holds (turn .val (a .0)) ∷ holds (turn .val t) ∷ rooms 8
+      held t = room ∷ holds (sliceVal (b, o) (length xs)) ∷ holds (sliceVal (b₂, o₂) (length bytes)) ∷ holds (turn .val (a .0)) ∷ holds (turn .val t) ∷ rooms 9
 
       -- the state of a turn: the turn, and the chips in it
       loop : Loop 𝓤 H
@@ -75,18 +80,24 @@ module _ {M : Type 1} (𝓤 : URA M) (H : Heap 𝓤) (A : Atoms 𝓤) (W : Given
           let small : t .at < length bytes = ltb→lt (t .at) (length bytes) on in
           let same : length cs ≡ length xs = p .0 .same in
           let here : Room ChipType.the-row (length cs) = subst (Room ChipType.the-row) (sym same) space in
-          let who : Acknowledger = smallest (answers (t .heard)) cs in
+          let most : ℕ = mostIn bytes t in
+          let answer : Said = saidBy (t .heard) most cs in
+          let several : Stretch xs bytes (a .0) t cs (p .0) small = stretch xs bytes (a .0) t cs (p .0) small in
+          calls-passing ! 5 𝓣 usize (number w64) tt refl most (plain (λ _. TurnType.the-row) ∷ []) (λ _. (turn, tt)) (λ _. (t, tt)) (λ _. (p .1, tt)) u8 bytes b₂ o₂ γ₂ κ₂ s₂ (‵ (row ChipType.the-row fullShare cs b o)) (then _)
+          (most-in.clauses 𝓤 H A mem run) most-in-met tt (factI 𝓤 (t .at < length bytes) (emp 𝓤) small) (λ Δ. and-then ! (get ! refl) (and-then ! (get ! refl) (no-more !))) (λ r ws. id⊢ 𝓤 _) (λ is-most.
           reslices ! refl refl tt (tt, tt) refl refl tt (tt, (tt, (record { fits = space .0 }, tt))) $
-          calls-showing ! 5 𝓣 AcknowledgerType.the-row acknowledger tt refl who (plain (λ _. BusByteType.the-row) ∷ []) (λ _. (heard, tt)) (λ _. (t .heard, tt)) (λ _. (is-t .1 .1 .1 .0, tt)) ChipType.the-row cs b o here (length xs) (sym same)
-          (smallest-of.clauses 𝓤 H A mem run) smallest-met (λ κ γ. tt) (λ κ γ. id⊢ 𝓤 (emp 𝓤)) (λ κ Δ. and-then ! (get ! refl) (and-then ! (field ! refl refl refl) (no-more !))) (λ κ γ r ws. id⊢ 𝓤 _) (λ is-who.
+          calls-showing ! 6 𝓣 SaidType.the-row said tt refl answer (plain (λ _. BusByteType.the-row) ∷ plain (λ _. usize) ∷ []) (λ _. (heard, (number w64, tt))) (λ _. (t .heard, (most, tt))) (λ _. (is-t .1 .1 .1 .0, (is-most, tt))) ChipType.the-row cs b o here (length xs) (sym same)
+          (ask-all.clauses 𝓤 H A mem run) ask-all-met (λ κ γ. tt) (λ κ γ. id⊢ 𝓤 (emp 𝓤)) (λ κ Δ. and-then ! (get ! refl) (and-then ! (field ! refl refl refl) (and-then ! (get ! refl) (no-more !)))) (λ κ γ r ws. id⊢ 𝓤 _) (λ is-said.
+          let is-answer = owed SaidType.the-type SaidLaws.the-laws answer _ is-said in
           reslices ! refl refl tt (tt, tt) refl refl tt (tt, (tt, (record { fits = space .0 }, tt))) $
-          calls-lending ! 10 𝓣 unit nothing tt refl tt (plain (λ _. BusByteType.the-row) ∷ []) (λ _. (heard, tt)) (λ _. (t .heard, tt)) (λ _. (is-t .1 .1 .1 .0, tt)) ChipType.the-row cs b o here (length xs) (sym same) (λ r zs. zs ≡ map (taken (t .heard)) cs) (λ r zs e. refl)
-          (take-all.clauses 𝓤 H A mem run) take-all-met (λ κ γ. tt) (λ κ γ. id⊢ 𝓤 (emp 𝓤)) (λ κ Δ. and-then ! (get ! refl) (and-then ! (field ! refl refl refl) (no-more !))) (λ κ γ r ws. id⊢ 𝓤 _) (λ zs _ e _.
+          calls-lending-passing ! 11 𝓣 unit nothing tt refl tt (plain (λ _. TurnType.the-row) ∷ plain (λ _. usize) ∷ []) (λ _. (turn, (number w64, tt))) (λ _. (t, (answer .count, tt))) (λ _. (p .1, (is-answer .1 .0, tt))) ChipType.the-row cs b o here u8 bytes b₂ o₂ γ₂ κ₂ s₂ (length xs) (sym same)
+          (λ r zs. zs ≡ map (takenBy bytes t (answer .count)) cs) (λ r zs e. refl) (take-all.clauses 𝓤 H A mem run) take-all-met (λ κ γ. tt) (λ κ γ. factI 𝓤 (t .at + answer .count ≤ length bytes) (emp 𝓤) (several .inside))
+          (λ κ Δ. and-then ! (get ! refl) (and-then ! (get ! refl) (and-then ! (get ! refl) (and-then ! (field ! refl refl refl) (no-more !))))) (λ κ γ r ws. id⊢ 𝓤 _) (λ zs _ e _.
           rewrite ! 1 (λ (zs : List Chip). ‵ (row ChipType.the-row fullShare zs b o)) e refl $
-          calls-passing ! 4 𝓣 TurnType.the-row turn tt refl (turnAfter bytes t who) (plain (λ _. TurnType.the-row) ∷ plain (λ _. AcknowledgerType.the-row) ∷ []) (λ _. (turn, (acknowledger, tt))) (λ _. (t, (who, tt)))
-          (λ _. (p .1, (is-who, tt))) u8 bytes b₂ o₂ γ₂ κ₂ s₂ (‵ (row ChipType.the-row fullShare (map (taken (t .heard)) cs) b o)) last
-          (next.clauses 𝓤 H A mem run) next-met tt (factI 𝓤 ((t .at < length bytes) × (t .tally .acknowledged ≤ t .at)) (emp 𝓤) (small, p .0 .ready .counted)) (λ Δ. and-then ! (get ! refl) (and-then ! (get ! refl) (and-then ! (get ! refl) (no-more !)))) (λ r ws. id⊢ 𝓤 _) (λ is-next.
-          forgets ! 5 $ next-turn W 𝓣 loop ! x (turnAfter bytes t who, map (taken (t .heard)) cs) (omega arith) (turn-more xs bytes (a .0) t cs (p .0) small, is-next)))))
+          calls-passing ! 4 𝓣 TurnType.the-row turn tt refl (turnPast bytes t answer) (plain (λ _. TurnType.the-row) ∷ plain (λ _. SaidType.the-row) ∷ []) (λ _. (turn, (said, tt))) (λ _. (t, (answer, tt)))
+          (λ _. (p .1, (is-said, tt))) u8 bytes b₂ o₂ γ₂ κ₂ s₂ (‵ (row ChipType.the-row fullShare (map (takenBy bytes t (answer .count)) cs) b o)) last
+          (next.clauses 𝓤 H A mem run) next-met tt (factI 𝓤 ((t .at + answer .count ≤ length bytes) × (t .tally .acknowledged ≤ t .at)) (emp 𝓤) (several .inside, p .0 .ready .counted)) (λ Δ. and-then ! (get ! refl) (and-then ! (get ! refl) (and-then ! (get ! refl) (no-more !)))) (λ r ws. id⊢ 𝓤 _) (λ is-next.
+          forgets ! 5 $ next-turn W 𝓣 loop ! x (turnPast bytes t answer, map (takenBy bytes t (answer .count)) cs) (omega (arith, several .some)) (several .after, is-next))))))
           (λ off. sets ! (of-opd ! (field ! refl refl refl)) tt (tally .typed 𝓤 H A W (t .tally) (is-t .1 .1 .0)) $ move ! (1 ∷ 3 ∷ []) $ shuts ChipType.the-row ! tt xs cs b o space (p .0 .same) $ move ! (1 ∷ []) $ leaves ! post refl refl tt $
           ends (t .tally) cs (p .0 .same) (is-t .1 .1 .0) (ended xs bytes (a .0) t cs (p .0) (nltb→le (t .at) (length bytes) off)))
 
@@ -100,6 +111,7 @@ follow-spec 𝓤 H 𝓜 𝓖 𝓡 =
     (mut-shared-meets 𝓤 H A W 𝓣 code.function TallyType.the-row tally ChipType.the-row u8 (plain (λ _. TurnType.the-row) ∷ []) (λ _. (turn, tt)) (own.clauses 𝓤 H A (𝓜 .mem) (𝓡 .run)) Asked Says
     (λ κ κ₂ b o b₂ o₂ xs bytes a space space₂ are. ((tt, (tt, (record { fits = space .0 }, tt))), ((tt, (tt, (record { fits = space₂ .0 }, tt))), (turn .typed 𝓤 H A W (a .0) (are .0), tt)))) (λ κs a gh. id⊢ 𝓤 _) (λ κs a gh r ws. said-both 𝓤 _ _)
     (walk 𝓤 H A W (𝓜 .mem) (𝓡 .run) 𝓣
-    (cited 𝓤 H (tripleOf 𝓤 H A smallest-of.signature (smallest-of.spec 𝓤 H A (𝓜 .mem) (𝓡 .run))) 𝓜 𝓡 code.env #plain·smallest smallest-symbol.routine code.calls-plain·smallest (smallest-theorem.met 𝓤 H 𝓜 𝓖 𝓡))
+    (cited 𝓤 H (tripleOf 𝓤 H A most-in.signature (most-in.spec 𝓤 H A (𝓜 .mem) (𝓡 .run))) 𝓜 𝓡 code.env #turns·most-in most-in-symbol.routine code.calls-turns·most-in (most-in-theorem.met 𝓤 H 𝓜 𝓖 𝓡))
+    (cited 𝓤 H (tripleOf 𝓤 H A ask-all.signature (ask-all.spec 𝓤 H A (𝓜 .mem) (𝓡 .run))) 𝓜 𝓡 code.env #plain·ask-all ask-all-symbol.routine code.calls-plain·ask-all (ask-all-theorem.met 𝓤 H 𝓜 𝓖 𝓡))
     (cited 𝓤 H (tripleOf 𝓤 H A take-all.signature (take-all.spec 𝓤 H A (𝓜 .mem) (𝓡 .run))) 𝓜 𝓡 code.env #plain·take-all take-all-symbol.routine code.calls-plain·take-all (take-all-theorem.met 𝓤 H 𝓜 𝓖 𝓡))
-    (cited 𝓤 H (tripleOf 𝓤 H A next.signature (next.spec 𝓤 H A (𝓜 .mem) (𝓡 .run))) 𝓜 𝓡 code.env #plain·next next-symbol.routine code.calls-plain·next (next-theorem.met 𝓤 H 𝓜 𝓖 𝓡))))
+    (cited 𝓤 H (tripleOf 𝓤 H A next.signature (next.spec 𝓤 H A (𝓜 .mem) (𝓡 .run))) 𝓜 𝓡 code.env #turns·next next-symbol.routine code.calls-turns·next (next-theorem.met 𝓤 H 𝓜 𝓖 𝓡))))

@@ -11,44 +11,44 @@ use Rattle.sheet.specs.Refusals.{plainNumbers}
 use Rattle.sheet.specs.Parts.{partOf}
 use Rattle.sheet.specs.Protocol.{Sent, sent, addressByte}
 use Rattle.sheet.specs.Plain.{PlainAfter, plainPart}
-use Rattle.plain.specs.declared.Found.{Found}
-use Rattle.plain.specs.declared.Start.{Start}
-use Rattle.plain.specs.declared.Question.the-variants.{Misfit, Hears, HighUnknown, LowUnknown, DeviceUnknown}
-use Rattle.plain.specs.Turns.{tallyOf, followed, Ready}
-use Rattle.plain.specs.Starts.{answerOf}
-use Rattle.plain.proofs.Starting.{misfit-at, hearer-at, high-at, low-at, device-at, found as found-in, begun, ready, concluded}
+use Rattle.starts.specs.declared.Found.{Found}
+use Rattle.starts.specs.declared.Start.{Start}
+use Rattle.starts.specs.declared.Question.the-variants.{Misfit, Hears, HighUnknown, LowUnknown, DeviceUnknown}
+use Rattle.turns.specs.Turns.{tallyOf, followed, Ready}
+use Rattle.starts.specs.Starts.{answerOf}
+use Rattle.starts.proofs.Starting.{misfit-at, hearer-at, high-at, low-at, device-at, found as found-in, begun, ready, concluded}
 use Rattle.plain.proofs.Shapes.{question, tally, turn, check, found, start, answer}
 use Rattle.sheet.proofs.Chip as ChipType
 use Rattle.sheet.proofs.Check as CheckType
 use Rattle.sheet.proofs.PlainAnswer as AnswerType
-use Rattle.plain.proofs.Question as QuestionType
-use Rattle.plain.proofs.Question.Laws as QuestionLaws
-use Rattle.plain.proofs.Tally as TallyType
-use Rattle.plain.proofs.Turn as TurnType
-use Rattle.plain.proofs.Found as FoundType
-use Rattle.plain.proofs.Found.Laws as FoundLaws
-use Rattle.plain.proofs.Start as StartType
-use Rattle.plain.proofs.Start.Laws as StartLaws
+use Rattle.starts.proofs.Question as QuestionType
+use Rattle.starts.proofs.Question.Laws as QuestionLaws
+use Rattle.turns.proofs.Tally as TallyType
+use Rattle.turns.proofs.Turn as TurnType
+use Rattle.starts.proofs.Found as FoundType
+use Rattle.starts.proofs.Found.Laws as FoundLaws
+use Rattle.starts.proofs.Start as StartType
+use Rattle.starts.proofs.Start.Laws as StartLaws
 use Rattle.plain.proofs.first as first
 use Rattle.plain.proofs.first.Symbol as first-symbol
 use Rattle.plain.proofs.first.Symbol.{name as #plain·first}
 use Rattle.plain.proofs.first.Met as first-theorem
-use Rattle.plain.proofs.address as address
-use Rattle.plain.proofs.address.Symbol as address-symbol
-use Rattle.plain.proofs.address.Symbol.{name as #plain·address}
-use Rattle.plain.proofs.address.Met as address-theorem
-use Rattle.plain.proofs.begin as begin
-use Rattle.plain.proofs.begin.Symbol as begin-symbol
-use Rattle.plain.proofs.begin.Symbol.{name as #plain·begin}
-use Rattle.plain.proofs.begin.Met as begin-theorem
+use Rattle.starts.proofs.address as address
+use Rattle.starts.proofs.address.Symbol as address-symbol
+use Rattle.starts.proofs.address.Symbol.{name as #starts·address}
+use Rattle.starts.proofs.address.Met as address-theorem
+use Rattle.starts.proofs.begin as begin
+use Rattle.starts.proofs.begin.Symbol as begin-symbol
+use Rattle.starts.proofs.begin.Symbol.{name as #starts·begin}
+use Rattle.starts.proofs.begin.Met as begin-theorem
 use Rattle.plain.proofs.follow as follow
 use Rattle.plain.proofs.follow.Symbol as follow-symbol
 use Rattle.plain.proofs.follow.Symbol.{name as #plain·follow}
 use Rattle.plain.proofs.follow.Met as follow-theorem
-use Rattle.plain.proofs.answer as answers
-use Rattle.plain.proofs.answer.Symbol as answer-symbol
-use Rattle.plain.proofs.answer.Symbol.{name as #plain·answer}
-use Rattle.plain.proofs.answer.Met as answer-theorem
+use Rattle.starts.proofs.answer as answers
+use Rattle.starts.proofs.answer.Symbol as answer-symbol
+use Rattle.starts.proofs.answer.Symbol.{name as #starts·answer}
+use Rattle.starts.proofs.answer.Met as answer-theorem
 use Rattle.plain.proofs.transfer as own
 use Rattle.plain.proofs.transfer.Key.{name as #plain·transfer}
 use Rattle.plain.proofs.transfer.Statement as stated
@@ -61,7 +61,7 @@ Says κs a zs r =
     ((r ≡ p .answer) × (plainNumbers (partOf part) r ≡ plainNumbers (partOf part) (p .answer))) × (zs ≡ p .chips)
 
 module _ {M : Type 1} (𝓤 : URA M) (H : Heap 𝓤) (A : Atoms 𝓤) (W : Given 𝓤 H A) (mem : Memory → SProp 𝓤) (run : Routine → Fun 𝓤) (𝓣 : Tables 𝓤 H)
-    (address-met : Meets 𝓤 H A address.signature (𝓣 .C #plain·address) (address.spec 𝓤 H A mem run)) (first-met : Meets 𝓤 H A first.signature (𝓣 .C #plain·first) (first.spec 𝓤 H A mem run)) (begin-met : Meets 𝓤 H A begin.signature (𝓣 .C #plain·begin) (begin.spec 𝓤 H A mem run)) (follow-met : Meets 𝓤 H A follow.signature (𝓣 .C #plain·follow) (follow.spec 𝓤 H A mem run)) (answer-met : Meets 𝓤 H A answers.signature (𝓣 .C #plain·answer) (answers.spec 𝓤 H A mem run)) where
+    (address-met : Meets 𝓤 H A address.signature (𝓣 .C #starts·address) (address.spec 𝓤 H A mem run)) (first-met : Meets 𝓤 H A first.signature (𝓣 .C #plain·first) (first.spec 𝓤 H A mem run)) (begin-met : Meets 𝓤 H A begin.signature (𝓣 .C #starts·begin) (begin.spec 𝓤 H A mem run)) (follow-met : Meets 𝓤 H A follow.signature (𝓣 .C #plain·follow) (follow.spec 𝓤 H A mem run)) (answer-met : Meets 𝓤 H A answers.signature (𝓣 .C #starts·answer) (answers.spec 𝓤 H A mem run)) where
   walk : Mut-shared-walk 𝓤 H A W 𝓣 code.function AnswerType.the-row answer ChipType.the-row u8 (plain (λ _. u8) ∷ plain (λ _. u8) ∷ []) (λ _. (number w8, (number w8, tt))) (own.clauses 𝓤 H A mem run) (λ κs a. Unit {0}) Says
   walk κ κ₂ s s₂ b o b₂ o₂ γ γ₂ xs bytes a space space₂ are _ post ends l =
       move ! (1 ∷ []) $ opens ChipType.the-row ! tt xs b o $ move ! (2 ∷ 0 ∷ 3 ∷ []) $
@@ -155,8 +155,8 @@ transfer-spec 𝓤 H 𝓜 𝓖 𝓡 =
     (mut-shared-meets 𝓤 H A W 𝓣 code.function AnswerType.the-row answer ChipType.the-row u8 (plain (λ _. u8) ∷ plain (λ _. u8) ∷ []) (λ _. (number w8, (number w8, tt))) (own.clauses 𝓤 H A (𝓜 .mem) (𝓡 .run)) (λ κs a. Unit {0}) Says
     (λ κ κ₂ b o b₂ o₂ xs bytes a space space₂ are. ((tt, (tt, (record { fits = space .0 }, tt))), ((tt, (tt, (record { fits = space₂ .0 }, tt))), (number w8 .typed 𝓤 H A W (a .0) (are .0), (number w8 .typed 𝓤 H A W (a .1 .0) (are .1 .0), tt))))) (λ κs a gh. factI 𝓤 (Unit {0}) _ tt) (λ κs a gh r ws. said-both 𝓤 _ _)
     (walk 𝓤 H A W (𝓜 .mem) (𝓡 .run) 𝓣
-    (cited 𝓤 H (tripleOf 𝓤 H A address.signature (address.spec 𝓤 H A (𝓜 .mem) (𝓡 .run))) 𝓜 𝓡 code.env #plain·address address-symbol.routine code.calls-plain·address (address-theorem.met 𝓤 H 𝓜 𝓖 𝓡))
+    (cited 𝓤 H (tripleOf 𝓤 H A address.signature (address.spec 𝓤 H A (𝓜 .mem) (𝓡 .run))) 𝓜 𝓡 code.env #starts·address address-symbol.routine code.calls-starts·address (address-theorem.met 𝓤 H 𝓜 𝓖 𝓡))
     (cited 𝓤 H (tripleOf 𝓤 H A first.signature (first.spec 𝓤 H A (𝓜 .mem) (𝓡 .run))) 𝓜 𝓡 code.env #plain·first first-symbol.routine code.calls-plain·first (first-theorem.met 𝓤 H 𝓜 𝓖 𝓡))
-    (cited 𝓤 H (tripleOf 𝓤 H A begin.signature (begin.spec 𝓤 H A (𝓜 .mem) (𝓡 .run))) 𝓜 𝓡 code.env #plain·begin begin-symbol.routine code.calls-plain·begin (begin-theorem.met 𝓤 H 𝓜 𝓖 𝓡))
+    (cited 𝓤 H (tripleOf 𝓤 H A begin.signature (begin.spec 𝓤 H A (𝓜 .mem) (𝓡 .run))) 𝓜 𝓡 code.env #starts·begin begin-symbol.routine code.calls-starts·begin (begin-theorem.met 𝓤 H 𝓜 𝓖 𝓡))
     (cited 𝓤 H (tripleOf 𝓤 H A follow.signature (follow.spec 𝓤 H A (𝓜 .mem) (𝓡 .run))) 𝓜 𝓡 code.env #plain·follow follow-symbol.routine code.calls-plain·follow (follow-theorem.met 𝓤 H 𝓜 𝓖 𝓡))
-    (cited 𝓤 H (tripleOf 𝓤 H A answers.signature (answers.spec 𝓤 H A (𝓜 .mem) (𝓡 .run))) 𝓜 𝓡 code.env #plain·answer answer-symbol.routine code.calls-plain·answer (answer-theorem.met 𝓤 H 𝓜 𝓖 𝓡))))
+    (cited 𝓤 H (tripleOf 𝓤 H A answers.signature (answers.spec 𝓤 H A (𝓜 .mem) (𝓡 .run))) 𝓜 𝓡 code.env #starts·answer answer-symbol.routine code.calls-starts·answer (answer-theorem.met 𝓤 H 𝓜 𝓖 𝓡))))

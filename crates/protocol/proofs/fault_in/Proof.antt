@@ -10,6 +10,7 @@ use Rattle.sheet.specs.declared.Expect.{Expect}
 use Rattle.sheet.specs.Parts.{partOf}
 use Rattle.sheet.specs.Checks.{faultIn}
 use Rattle.protocol.proofs.Faults.{found, go-on, in-run, all-looked}
+use Rattle.protocol.proofs.Commands.{in-commands}
 use borrow.Author.Needs.{needs}
 use Rattle.protocol.proofs.fault_in.Statement.{statement}
 use Rattle.protocol.proofs.fault_in.Tie as tie
@@ -50,11 +51,21 @@ returns-2 c = let d = c .before .before in
     sym (in-run (partOf (a .part)) (a .cut) (d .before .before .marks-after .result) (d .before .follow .result) (p .loop .i + 1) (drop (p .loop .i + 1) (now (a .bytes))) (sym (d .only-data .ensures) ∙ t .0) (sym (c .before .all-known .ensures) ∙ t .1))
     ∙ goes-on (d .before)
 
-loop-again : tie.Need-loop-again Inv-loop μ-loop
-loop-again c = goes-on (c .before .before .before)
-
+-- all that is left are commands
 returns-3 : tie.Need-returns-3 Inv-loop μ-loop
-returns-3 c = let p = c .before .before in
+returns-3 c = let o = c .before .before in
+    let f = o .before .before .before .before in
+    let p = f .before .before .before .before .before .before .before in
+    let a = p .before .before .args in
+    c .undefined-from .ensures
+    ∙ sym (in-commands (partOf (a .part)) (a .cut) (f .before .marks-after .result) (f .follow .result) (p .loop .i + 1) (drop (p .loop .i + 1) (now (a .bytes))) (sym (o .only-commands .ensures) ∙ c .before .if2 .taken))
+    ∙ goes-on f
+
+loop-again : tie.Need-loop-again Inv-loop μ-loop
+loop-again c = goes-on (c .before .before .before .before .before)
+
+returns-4 : tie.Need-returns-4 Inv-loop μ-loop
+returns-4 c = let p = c .before .before in
     let a = p .before .before .args in
     c .last-fault .ensures
     ∙ sym (all-looked (partOf (a .part)) (a .cut) (p .loop .marks) (p .loop .expect) (now (a .bytes)) (p .loop .i) (c .before .loop-test .left)) ∙ p .loop .inv
@@ -76,8 +87,12 @@ fault-in-spec =
     (λ c κs. search needs)
     (λ c κs. search needs)
     returns-2
+    (λ c κs. search needs)
+    (λ c. search needs)
+    (λ c κs. search needs)
+    returns-3
     (λ c. search needs)
     (λ c. search needs)
     loop-again
     (λ c κs. search needs)
-    returns-3)
+    returns-4)

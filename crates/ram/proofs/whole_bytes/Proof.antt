@@ -22,7 +22,7 @@ two-run-requires c κs = let s = c .before .before .before .before in
 
 three-run-requires : tie.Need-three-run-requires
 three-run-requires c κs = let s = c .before .before .before .before in
-    as-wide 3 (s .args .m) (length (now (s .args .bytes))) (length (now (s .args .ram)) - s .args .v) (c .before .match .keys3) (s .pre .fit)
+    (as-wide 3 (s .args .m) (length (now (s .args .bytes))) (length (now (s .args .ram)) - s .args .v) (c .before .match .keys3) (s .pre .fit), s .pre .nibbles)
 
 four-run-requires : tie.Need-four-run-requires
 four-run-requires c κs = let s = c .before .before .before .before in

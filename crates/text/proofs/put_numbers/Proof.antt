@@ -32,11 +32,11 @@ after-space : (c : tie.After-put-byte Inv-loop μ-loop) → let p = c .before .b
 after-space c = let p = c .before .before .before in
     turn (rest-is (p .loop .inv) (one-more (p .before .before .before .args .numbers .now) (p .loop .i) (c .before .before .loop-test .taken))) (c .put-byte .ensures)
 
-put-number-requires : tie.Need-put-number-requires Inv-loop μ-loop
-put-number-requires c κs = room-for (decimal _) _ (after-space (c .before .before .before .before))
+put-decimal-requires : tie.Need-put-decimal-requires Inv-loop μ-loop
+put-decimal-requires c κs = room-for (decimal _) _ (after-space (c .before .before .before .before))
 
 loop-again : tie.Need-loop-again Inv-loop μ-loop
-loop-again c = turn (after-space (c .before .before .before .before .before .before .before)) (c .before .before .put-number .ensures)
+loop-again c = turn (after-space (c .before .before .before .before .before .before .before)) (c .before .before .put-decimal .ensures)
 
 returns : tie.Need-returns Inv-loop μ-loop
 unfolding spaced
@@ -48,5 +48,5 @@ put-numbers-spec =
     (tie.spec
     Inv-loop μ-loop (λ c. begin _ _ _ (c .before .before .pre))
     put-byte-requires (λ c. search needs) (λ c. search needs)
-    put-number-requires (λ c. search needs) (λ c. search needs)
+    put-decimal-requires (λ c. search needs) (λ c. search needs)
     loop-again (λ c. puts-length (returns c)) returns)

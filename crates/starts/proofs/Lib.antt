@@ -1,0 +1,3 @@
+pub mod Searching
+pub mod Lefts
+pub mod Starting

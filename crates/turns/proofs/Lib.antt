@@ -1,0 +1,4 @@
+pub mod Agreeing
+pub mod Lowering
+pub mod Following
+pub mod Stretches
