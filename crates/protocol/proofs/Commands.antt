@@ -21,7 +21,7 @@ use Rattle.sheet.specs.declared.Check.the-variants.{Passed, Refused}
 use Rattle.sheet.specs.Parts.{Part}
 use Rattle.sheet.specs.Commands.{defined, restored}
 use Rattle.sheet.specs.Checks.{unless, orElse, faultIn}
-use Rattle.protocol.specs.Left.{onlyCommands, undefinedIn, allDefined}
+use Rattle.protocol.specs.Left.{onlyLeft, undefinedIn, allDefined}
 
 -- by whether it is one
 either : (t : Bool) (i : ℕ) (k : Check) → orElse (unless t (UndefinedCommand i)) k ≡ cond t k (Refused (UndefinedCommand i))
@@ -40,7 +40,7 @@ all-commands K cut u i (x ∷ xs) =
     either (defined (K .command x)) i _
     ∙ ap (λ (k : Check). cond (defined (K .command x)) k (Refused (UndefinedCommand i))) (all-commands K cut (restored (K .command x) u) (suc i) xs)
 
-pub in-commands : (K : Part) (cut : Bool) (u : Marks) (e : Expect) (i : ℕ) (xs : List ℕ) → onlyCommands e ≡ true → faultIn K cut u e i xs ≡ undefinedIn K i xs
+pub in-commands : (K : Part) (cut : Bool) (u : Marks) (e : Expect) (i : ℕ) (xs : List ℕ) → onlyLeft false e ≡ true → faultIn K cut u e i xs ≡ undefinedIn K i xs
 in-commands K cut u Control i xs t = absurd (false≢true t)
 in-commands K cut u (One kind) i xs t = absurd (false≢true t)
 in-commands K cut u (All Kind.Command) i xs t = all-commands K cut u i xs

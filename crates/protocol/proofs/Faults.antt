@@ -17,7 +17,7 @@ use Rattle.sheet.specs.Parts.{Part}
 use Rattle.sheet.specs.Registers.{known}
 use Rattle.sheet.specs.Checks.{fault, marksAfter, lastFault, faultIn}
 use Rattle.sheet.specs.Protocol as protocol
-use Rattle.protocol.specs.Left.{onlyData}
+use Rattle.protocol.specs.Left.{onlyLeft}
 
 module _ (K : Part) (cut : Bool) (u : Marks) (e : Expect) (bytes : List ℕ) (i : ℕ) (h : i < length bytes) where
   pub found : (r : Refusal) → fault K u e i (getD bytes i 0) ≡ Refused r → faultIn K cut u e i (drop i bytes) ≡ Refused r
@@ -39,7 +39,7 @@ in-data K cut u i [] t = rw t (go cut)
     go false = refl
 in-data K cut u i (x ∷ xs) t = rw t (in-data K cut u (suc i) xs t)
 
-pub in-run : (K : Part) (cut : Bool) (u : Marks) (e : Expect) (i : ℕ) (xs : List ℕ) → onlyData e ≡ true → known u ≡ true → faultIn K cut u e i xs ≡ Passed
+pub in-run : (K : Part) (cut : Bool) (u : Marks) (e : Expect) (i : ℕ) (xs : List ℕ) → onlyLeft true e ≡ true → known u ≡ true → faultIn K cut u e i xs ≡ Passed
 in-run K cut u Control i xs t k = absurd (false≢true t)
 in-run K cut u (One kind) i xs t k = absurd (false≢true t)
 in-run K cut u (All Kind.Command) i xs t k = absurd (false≢true t)

@@ -1,6 +1,6 @@
 -- What is left of a transfer.
 use Prim.Native.Nat.{ℕ, suc}
-use mathlib.Core.Bool.{Bool, true, false, cond, _&&_}
+use mathlib.Core.Bool.{Bool, true, false, not, cond, _&&_}
 use mathlib.Core.List.{List, [], _∷_}
 use Rattle.sheet.specs.declared.Kind.{Kind}
 use Rattle.sheet.specs.declared.Expect.{Expect}
@@ -11,19 +11,12 @@ use Rattle.sheet.specs.declared.Check.the-variants.{Passed, Refused}
 use Rattle.sheet.specs.Parts.{Part}
 use Rattle.sheet.specs.Commands.{defined}
 
--- all bytes that are left are data
-abbrev pub onlyData : Expect → Bool
-onlyData Control = false
-onlyData (One k) = false
-onlyData (All Kind.Command) = false
-onlyData (All Kind.Data) = true
-
--- all bytes that are left are commands
-abbrev pub onlyCommands : Expect → Bool
-onlyCommands Control = false
-onlyCommands (One k) = false
-onlyCommands (All Kind.Command) = true
-onlyCommands (All Kind.Data) = false
+-- all bytes that are left are data, or are commands
+abbrev pub onlyLeft : Bool → Expect → Bool
+onlyLeft of-data Control = false
+onlyLeft of-data (One k) = false
+onlyLeft of-data (All Kind.Command) = not of-data
+onlyLeft of-data (All Kind.Data) = of-data
 
 -- the first of some bytes, from place i on, that is no command
 unfoldable pub undefinedIn : Part → ℕ → List ℕ → Check

@@ -10,7 +10,7 @@ ghost use lib.ListN.{length, drop};
 ghost use Rattle.sheet.specs.Parts.{partOf};
 ghost use Rattle.sheet.specs.Protocol.{kindOf, controlOf, next, sent, isDataOf, isData};
 ghost use Rattle.sheet.specs.Checks.{faultOf, fault, marksOf, marksAfter, lastFault, faultIn, faultOfSent};
-ghost use Rattle.protocol.specs.Left.{onlyData, onlyCommands, undefinedIn, allDefined};
+ghost use Rattle.protocol.specs.Left.{onlyLeft, undefinedIn, allDefined};
 
 // ---- what a byte is
 
@@ -125,30 +125,16 @@ fn last_fault(cut: bool, marks: Marks, expect: Expect, i: usize) -> Check
     }
 }
 
-// Whether all bytes that are left are data: in them there is no fault while nothing is unknown.
-fn only_data(expect: Expect) -> bool
-    ensures { λ r. ⌜ r ≡ onlyData expect ⌝ }
+// Whether all bytes that are left are data, or are commands: while nothing is unknown there is no fault in data, and in commands none but one that is none.
+fn only(of_data: bool, expect: Expect) -> bool
+    ensures { λ r. ⌜ r ≡ onlyLeft of_data expect ⌝ }
 {
     match expect {
         Expect::Control => false,
         Expect::One(_) => false,
         Expect::All(kind) => match kind {
-            Kind::Command => false,
-            Kind::Data => true,
-        },
-    }
-}
-
-// Whether they are commands: in them there is no fault but a command that is none.
-fn only_commands(expect: Expect) -> bool
-    ensures { λ r. ⌜ r ≡ onlyCommands expect ⌝ }
-{
-    match expect {
-        Expect::Control => false,
-        Expect::One(_) => false,
-        Expect::All(kind) => match kind {
-            Kind::Command => true,
-            Kind::Data => false,
+            Kind::Command => !of_data,
+            Kind::Data => of_data,
         },
     }
 }
@@ -213,10 +199,10 @@ fn fault_in(part: u8, cut: bool, initial: Marks, bytes: &[u8]) -> Check
         }
         marks = marks_after(part, marks, expect, byte);
         expect = follow(expect, byte);
-        if only_data(expect) & registers::all_known(marks) {
+        if only(true, expect) & registers::all_known(marks) {
             return Check::Passed;
         }
-        if only_commands(expect) {
+        if only(false, expect) {
             return undefined_from(part, bytes, i + 1);
         }
         i += 1;

@@ -24,28 +24,27 @@ use Rattle.turns.specs.Asking.{oneOr, taken, ranBy}
 abbrev pub lastHeard : BusByte → Acknowledger → Acknowledger → Acknowledger
 lastHeard h who last = cond (h .cut) last (lastAfter (h .expect) who last)
 
--- the turn after t, whose byte `who` acknowledges
-abbrev pub turnAfter : List ℕ → Turn → Acknowledger → Turn
-turnAfter bytes t who = record {
-  at = t .at + 1;
+-- the turn n bytes after t, of which k are acknowledged, by `who`
+abbrev pub turnOn : List ℕ → Turn → ℕ → ℕ → Acknowledger → Turn
+turnOn bytes t n k who = record {
+  at = t .at + n;
   cut = t .cut;
-  tally = record { acknowledged = t .tally .acknowledged + once who; last = lastHeard (t .heard) who (t .tally .last) };
-  heard = record { part = t .heard .part; address = t .heard .address; expect = next (t .heard .expect) (t .heard .byte); byte = getD bytes (t .at + 1) 0; cut = t .cut && leb (length bytes) (t .at + 1 + 1) };
+  tally = record { acknowledged = t .tally .acknowledged + k; last = lastHeard (t .heard) who (t .tally .last) };
+  heard = record { part = t .heard .part; address = t .heard .address; expect = next (t .heard .expect) (t .heard .byte); byte = getD bytes (t .at + n) 0; cut = t .cut && leb (length bytes) (t .at + n + 1) };
 }
+
+-- after its own byte
+abbrev pub turnAfter : List ℕ → Turn → Acknowledger → Turn
+turnAfter bytes t who = turnOn bytes t 1 (once who) who
 
 -- each of n bytes that `who` acknowledges counts once
 abbrev pub onceEach : ℕ → Acknowledger → ℕ
 onceEach n (Acknowledger.Subaddress a) = n
 onceEach n Acknowledger.None = 0
 
--- and the turn after as many bytes as are answered alike
+-- after as many bytes as are answered alike
 abbrev pub turnPast : List ℕ → Turn → Said → Turn
-turnPast bytes t said = record {
-  at = t .at + said .count;
-  cut = t .cut;
-  tally = record { acknowledged = t .tally .acknowledged + onceEach (said .count) (said .who); last = lastHeard (t .heard) (said .who) (t .tally .last) };
-  heard = record { part = t .heard .part; address = t .heard .address; expect = next (t .heard .expect) (t .heard .byte); byte = getD bytes (t .at + said .count) 0; cut = t .cut && leb (length bytes) (t .at + said .count + 1) };
-}
+turnPast bytes t said = turnOn bytes t (said .count) (onceEach (said .count) (said .who)) (said .who)
 
 -- how many bytes may be taken at once, of so many whole ones that are left: data to the end
 abbrev pub mostOf : Kind → ℕ → ℕ

@@ -47,8 +47,8 @@ returns-2 : tie.Need-returns-2 Inv-loop μ-loop
 returns-2 c = let d = c .before .before in
     let p = d .before .before .before .before .before .before .before .before in
     let a = p .before .before .args in
-    let t = both-true (d .only-data .result) (c .before .all-known .result) (c .if1 .taken) in
-    sym (in-run (partOf (a .part)) (a .cut) (d .before .before .marks-after .result) (d .before .follow .result) (p .loop .i + 1) (drop (p .loop .i + 1) (now (a .bytes))) (sym (d .only-data .ensures) ∙ t .0) (sym (c .before .all-known .ensures) ∙ t .1))
+    let t = both-true (d .only .result) (c .before .all-known .result) (c .if1 .taken) in
+    sym (in-run (partOf (a .part)) (a .cut) (d .before .before .marks-after .result) (d .before .follow .result) (p .loop .i + 1) (drop (p .loop .i + 1) (now (a .bytes))) (sym (d .only .ensures) ∙ t .0) (sym (c .before .all-known .ensures) ∙ t .1))
     ∙ goes-on (d .before)
 
 -- all that is left are commands
@@ -58,7 +58,7 @@ returns-3 c = let o = c .before .before in
     let p = f .before .before .before .before .before .before .before in
     let a = p .before .before .args in
     c .undefined-from .ensures
-    ∙ sym (in-commands (partOf (a .part)) (a .cut) (f .before .marks-after .result) (f .follow .result) (p .loop .i + 1) (drop (p .loop .i + 1) (now (a .bytes))) (sym (o .only-commands .ensures) ∙ c .before .if2 .taken))
+    ∙ sym (in-commands (partOf (a .part)) (a .cut) (f .before .marks-after .result) (f .follow .result) (p .loop .i + 1) (drop (p .loop .i + 1) (now (a .bytes))) (sym (o .only2 .ensures) ∙ c .before .if2 .taken))
     ∙ goes-on f
 
 loop-again : tie.Need-loop-again Inv-loop μ-loop
