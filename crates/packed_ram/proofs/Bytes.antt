@@ -4,7 +4,7 @@ use mathlib.Core.Path.{_≡_, sym, ap, ap₂, _∙_}
 use mathlib.Core.List.{List}
 use Prim.Native.Nat.{ℕ, suc, _+_, _-_, _*_, _/_, _%_, _^_, _≤_, _<_}
 use native.Mathlib.Numerals.{add-one}
-use native.Mathlib.Nat.{add-zero, mul-suc, mul-comm, mul-le-mul-left, div-add-mod', div-one}
+use native.Mathlib.Nat.{add-zero, mul-suc, mul-comm, mul-le-mul-left, div-add-mod', div-le-self, div-one}
 use native.Mathlib.Omega.{arith}
 use lib.Dec.{lit≤}
 use lib.ListN.{length, getD, set}
@@ -23,6 +23,10 @@ use Rattle.packed_words.specs.Placed.{nibbleOf, placed, height, RowsWord, Word}
 use Rattle.packed_ram.specs.Stream.{ending}
 use Rattle.packed_words.proofs.Placed.{merged-unpacked, placed-both, byte-placed}
 use Rattle.packed_words.proofs.Tested.{rows-tested, puts}
+
+-- a byte has at most eight columns
+pub few : (m : ℕ) → widthOf m ≤ 8
+few m = omega (arith, div-le-self 7 m)
 
 pub byte-put : (m bank x v r t : ℕ) (ram : List ℕ) → 0 < m → m < 5 → bank < 2 → Nibbles ram → RowsWord m bank r → Word m x t
     → placed (widthOf m) r t v ram ≡ putBits 8 m (bankRow m bank) v x ram
