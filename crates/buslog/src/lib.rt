@@ -97,6 +97,7 @@ fn put_group(
         chips,
         registers,
         ram,
+        false,
         group,
         0,
         &mut picture[..size],
@@ -128,7 +129,7 @@ fn play(log: &[u8], chips: Chips, ram: &mut [u8], out: &mut [u8]) -> usize
     requires { ⌜ Playable (now log) chips (now ram) (now out) ⌝ }
     ensures { λ r. ⌜ Puts 0 (logLines (seenBytes (now (log .entry))) chips (logRecords (now (log .entry)) .bodies)) (now (out .entry)) (now (out .exit)) r ⌝ }
 {
-    let on = long::power_on(sheet::PCF8532, chips, ram);
+    let on = long::power_on(sheet::PCF8532, chips, ram, false);
     let mut registers = [0; 24];
     wire::put_both(on.registers, &mut registers);
     let at = put_transfers(log, chips, &mut registers, ram, out);

@@ -78,18 +78,16 @@ pub fn write(part: u8, chips: u8, ram: &[u8], out: &mut [u8]) -> Written
 
 // ---- a file is read
 
-// 26.
+// 26: where no record gave a column, it is over 15.
 fn first_missing(given: &[u8]) -> Check
     ensures { λ r. ⌜ r ≡ missingIn 0 (now (given .entry)) ⌝ }
 {
-    let mut i = 0;
-    while i < given.len() {
-        if 15 < given[i] {
-            return Check::Refused(Refusal::AddressMissing(i));
-        }
-        i += 1;
+    match checks::search_over(given) {
+        Check::Refused(refusal) => Check::Refused(Refusal::AddressMissing(answers::place_of(
+            refusal,
+        ))),
+        Check::Passed => Check::Passed,
     }
-    Check::Passed
 }
 
 // After the end record: 27, then 26.

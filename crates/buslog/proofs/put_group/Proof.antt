@@ -23,9 +23,9 @@ small c = let s = c .before .before .before in
     omega (arith, s .pre .size, c .blank-picture .ensures, few-chips-in pcf8532 (a .chips) (a .registers) (a .ram .now) (fits-of pcf8532 (a .chips) (a .registers) (a .ram .now) (s .pre .valid)) (a .group))
 
 shown : (c : tie.After-picture2) → let d = c .before .before in let a = d .before .before .before .args in
-    Held (a .chips) (stateOf (a .registers) (a .ram .now)) (a .group) (a .size) (c .picture2 .last .1 .1 .1 .1 .1 .1 .0 ++ drop (a .size) (d .blank-picture .result)) (c .picture2 .result)
+    Held (a .chips) (stateOf (a .registers) (a .ram .now)) (a .group) (a .size) (c .picture2 .last .1 .1 .1 .1 .1 .1 .1 .0 ++ drop (a .size) (d .blank-picture .result)) (c .picture2 .result)
 shown c = let d = c .before .before in
-    pictured (d .before .before .before .pre) (d .blank-picture .result) (small d) (c .picture2 .kept .1 .1 .1 .1 .1 .1 .0) (c .picture2 .ensures .0 ∙ zero-picture _ _ _ _ _ _)
+    pictured (d .before .before .before .pre) (d .blank-picture .result) (small d) (c .picture2 .kept .1 .1 .1 .1 .1 .1 .1 .0) (c .picture2 .ensures .0 ∙ zero-picture _ _ _ _ _ _)
 
 put-columns-requires : tie.Need-put-columns-requires
 put-columns-requires c κs = let d = c .before .before .before .before .before .before in

@@ -43,7 +43,7 @@ fault f = let a = f .before .before .before .before .before .before .before .arg
 hear-in-requires : tie.Need-hear-in-requires
 hear-in-requires c κs = let b = c .before .before .before .before in
     let s = b .before .before .before .before .before .before in
-    record { both = bothOf (now (s .args .registers)); own = sym (own b); state = s .pre .0 .state; short = s .pre .2 }
+    (record { both = bothOf (now (s .args .registers)); same = sym (own b); state = s .pre .0 .state }, s .pre .2)
 
 part-put-registers-end : tie.Need-part-put-registers-end
 part-put-registers-end c = let s = c .before .before .before .before .before .before .before .before .before .before .before .before .before .before .before in
