@@ -5,7 +5,7 @@ use sheet::Chips;
 use sheet::Refusal;
 use sheet::Written;
 ghost use mathlib.Core.Path.{_≡_};
-ghost use Prim.Native.Nat.{_+_, _*_, _%_, _/_, _≤_, _<_};
+ghost use Prim.Native.Nat.{_+_, _*_, _/_, _≤_, _<_};
 ghost use lib.ListN.{length, drop, replicate};
 ghost use Rattle.sheet.specs.Refusals.{writtenNumbers};
 ghost use Rattle.image_sheet.specs.Hex.{dataLines, fileOf, oneGroup, hexWritePart};

@@ -5,7 +5,7 @@ use mathlib.Core.Bool.{Bool, cond}
 use mathlib.Core.Logic.{_≢_}
 use mathlib.Core.List.{List, [], _∷_}
 use Prim.Native.Nat.{ℕ, zero, suc, _+_, _-_, _*_, _/_, _%_, _^_, _≤_, _<_}
-use native.Mathlib.Nat.{add-zero, zero-add, add-suc, suc-add, add-comm, add-assoc, mul-zero, mul-suc, mul-comm, mul-assoc, mul-add, div-one, le-refl, le-of-suc-le-suc, add-mul-div-right, add-mul-mod-self-right, mod-eq-of-lt}
+use native.Mathlib.Nat.{add-zero, zero-add, add-comm, add-assoc, mul-zero, mul-suc, mul-assoc, mul-add, div-one, le-refl, le-of-suc-le-suc, add-mul-div-right, add-mul-mod-self-right}
 use native.Mathlib.Numerals.{add-one}
 use native.Mathlib.Omega.{arith}
 use lib.Arith.{digits-div, digits-mod}
@@ -16,18 +16,12 @@ use lib.Pow as pow
 use borrow.Author.Tests.{ne-eqb}
 use Rattle.lemmas.proofs.Tests.{all-at}
 use Rattle.sheet.specs.Data.{bitOf, changed, putBits, widthOf}
-use Rattle.sheet.specs.declared.Check.the-variants.{Passed}
-use Rattle.sheet.specs.Registers.{bankRow}
-use Rattle.sheet.specs.Checks.{overIn}
 use Rattle.sheet.specs.Runs.{putRun}
 use Rattle.packed_sheet.specs.Packed.{unpacked}
-use Rattle.laws.proofs.Ranges.{bank-rows-fit}
-use Rattle.words.specs.Fields.{withRows, field, merged}
+use Rattle.words.specs.Fields.{withRows, field}
 use Rattle.words.proofs.Fields.{column}
 use Rattle.ram.proofs.Runs.{Running, begun, turn, done, small}
-use Rattle.packed_words.specs.Placed.{RowsWord, Word}
 use Rattle.packed_ram.specs.Stream.{earlier, stream, ending}
-use Rattle.packed_ram.proofs.Bytes.{word-put}
 
 -- ---- the bits of a byte of the stream
 

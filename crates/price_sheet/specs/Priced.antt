@@ -1,9 +1,9 @@
 -- Write a price on the glass (paper 02, request 1), computed: every digit with and without its point, space and minus in every mode, written and read back; and every refusal in its order.
-use Prim.Native.Nat.{ℕ, zero, suc, _+_, _-_, _*_}
+use Prim.Native.Nat.{ℕ, _+_, _-_}
 use mathlib.Core.Bool.{Bool, true, cond, _&&_}
 use mathlib.Core.List.{List, [], _∷_, _++_}
-use lib.Dec.{T, eqb}
-use lib.ListN.{length, take, drop, replicate}
+use lib.Dec.{T}
+use lib.ListN.{length, replicate}
 use Rattle.sheet.specs.Refusals.{writtenNumbers}
 use Rattle.sheet.specs.Parts.{within}
 use Rattle.sheet.specs.Written.{WrittenAfter}

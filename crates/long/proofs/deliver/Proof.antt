@@ -1,6 +1,6 @@
 -- `long::deliver` meets its contract: the group that hears, with its registers replaced.
 -- Assumes nothing.
-use mathlib.Core.Path.{refl, sym, ap, _∙_}
+use mathlib.Core.Path.{sym, ap, _∙_}
 use denote.Ref.{now}
 use Rattle.sheet.specs.declared.Registers.{Registers}
 use Rattle.sheet.specs.declared.Answer.{Answer}

@@ -13,7 +13,7 @@ use Rattle.sheet.specs.Parts.{partOf}
 use Rattle.sheet.specs.Registers.{inRange}
 use Rattle.sheet.specs.Protocol.{chipsIn, sent}
 use Rattle.sheet.specs.Checks.{overIn}
-use Rattle.sheet.specs.Long.{Group, oneAcknowledged, noCounts, heardWhole, columnsOf}
+use Rattle.sheet.specs.Long.{oneAcknowledged, noCounts, heardWhole, columnsOf}
 use Rattle.packed_sheet.specs.Packed.{columnsIn}
 use Rattle.laws.proofs.Ranges.{in-range}
 use Rattle.laws.proofs.Named.{columns-even, ram-small}

@@ -6,20 +6,15 @@ use Prim.Native.Nat.{ℕ}
 use lib.ListN.{length}
 use denote.Ref.{now}
 use Rattle.sheet.specs.declared.Registers.{Registers}
-use Rattle.sheet.specs.declared.Both.{Both}
-use Rattle.sheet.specs.declared.Chips.{Chips}
-use Rattle.sheet.specs.declared.Check.{Check}
 use Rattle.sheet.specs.declared.Check.the-variants.{Passed}
 use Rattle.sheet.specs.declared.Pictured.{Pictured}
 use Rattle.sheet.specs.Parts.{partOf}
-use Rattle.sheet.specs.Registers.{registersOf}
 use Rattle.sheet.specs.Checks.{orElse, checkPart, checkPicture}
-use Rattle.sheet.specs.Pictures.{pictureOf, litIn, seen}
-use Rattle.sheet.specs.Long.{columnsOf, pictureCall, picturePart}
+use Rattle.sheet.specs.Pictures.{pictureOf, litIn}
+use Rattle.sheet.specs.Long.{columnsOf}
 use Rattle.packed_sheet.specs.Packed.{columnsIn}
 use Rattle.laws.proofs.Numbered.{numbered-picture}
 use Rattle.laws.proofs.Fits.{both-pass, picture-passed}
-use Rattle.laws.proofs.First.{seen-first}
 use Rattle.refused.proofs.Fitted.{picture-by}
 use Rattle.long.proofs.Checked.{shown-by-check}
 use borrow.Author.Needs.{needs}

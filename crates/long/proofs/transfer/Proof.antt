@@ -1,17 +1,12 @@
 -- `long::transfer` meets its contract: refused, delivered to a group, or heard by nobody.
 -- Assumes nothing.
 use mathlib.Core.Path.{_≡_, sym, ap, _∙_}
-use mathlib.Core.List.{List}
-use Prim.Native.Nat.{ℕ}
 use denote.Ref.{now}
-use Rattle.sheet.specs.declared.Both.{Both}
-use Rattle.sheet.specs.declared.Chips.{Chips}
 use Rattle.sheet.specs.declared.Addressed.{Addressed}
-use Rattle.sheet.specs.declared.Check.{Check}
 use Rattle.sheet.specs.Parts.{partOf}
-use Rattle.sheet.specs.Protocol.{heardBy, Sent, sent, addressByte}
-use Rattle.sheet.specs.Checks.{orElse, checkPart, checkTransfer}
-use Rattle.sheet.specs.Long.{taken, answered, transferCall, transferPart}
+use Rattle.sheet.specs.Protocol.{heardBy, sent}
+use Rattle.sheet.specs.Checks.{checkPart}
+use Rattle.sheet.specs.Long.{taken, transferPart}
 use Rattle.packed_sheet.specs.Packed.{columnsIn}
 use Rattle.laws.proofs.Numbered.{numbered}
 use Rattle.laws.proofs.Fits.{both-pass, transfer-passed}

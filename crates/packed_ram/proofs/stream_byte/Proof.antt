@@ -11,7 +11,7 @@ use Rattle.sheet.specs.Data.{putBits, widthOf}
 use Rattle.packed_sheet.specs.Packed.{unpacked}
 use Rattle.laws.proofs.Packed.{unpacked-nibbles}
 use Rattle.words.specs.Fields.{merged}
-use Rattle.packed_words.specs.Placed.{RowsWord, Word}
+use Rattle.packed_words.specs.Placed.{Word}
 use Rattle.packed_words.proofs.Placed.{rows-lt}
 use Rattle.packed_ram.proofs.Bytes.{few, word-put, four-packed}
 use borrow.Author.Needs.{needs}

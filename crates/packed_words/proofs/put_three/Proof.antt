@@ -2,7 +2,6 @@
 -- Assumes nothing.
 use mathlib.Core.Path.{ap, _∙_}
 use Prim.Native.Nat.{_+_}
-use denote.Ref.{now}
 use Rattle.sheet.specs.Data.{changed}
 use Rattle.words.specs.Fields.{columnOf, mixed, merged}
 use borrow.Author.Needs.{needs}
