@@ -3,9 +3,7 @@ ghost use mathlib.Core.Path.{_≡_};
 ghost use mathlib.Core.Logic.{_≢_};
 ghost use Prim.Native.Nat.{_+_, _-_, _*_, _%_, _≤_, _<_};
 ghost use lib.ListN.{length};
-ghost use Rattle.sheet.specs.declared.Check.the-variants.{Passed};
 ghost use Rattle.sheet.specs.Registers.{bankRow};
-ghost use Rattle.sheet.specs.Checks.{overIn};
 ghost use Rattle.sheet.specs.Data.{putBits, widthOf};
 ghost use Rattle.sheet.specs.Runs.{putRun};
 ghost use Rattle.packed_sheet.specs.Packed.{unpacked};
@@ -52,23 +50,61 @@ fn stream_run(ram: &mut [u8], at: usize, m: usize, bank: u8, shift: usize, befor
     }
 }
 
-// 1:3: two bytes are six columns, which from an even column on are three packed bytes.
-fn three_run(ram: &mut [u8], v: usize, bytes: &[u8])
-    requires { ⌜ (3 * length (now bytes) ≤ 2 * length (now ram) - v) × (overIn 0 (unpacked (now ram)) ≡ Passed) × (length (now ram) < 65536) ⌝ }
+// 1:3 from an even column on, four bytes at a time, whose twelve columns are six packed bytes.
+fn three_fours(ram: &mut [u8], at: usize, bytes: &[u8])
+    requires { ⌜ (3 * length (now bytes) ≤ 2 * length (now ram) - 2 * at) × (length (now ram) < 65536) × (length (now bytes) % 4 ≡ 0) ⌝ }
+    ensures { λ _. ⌜ unpacked (now (ram .exit)) ≡ putRun 3 0 (2 * at) (now (bytes .entry)) (unpacked (now (ram .entry))) ⌝ }
+{
+    let mut i: usize = 0;
+    while i < bytes.len() {
+        let a = packed_words::three_columns(bytes[i]);
+        let b = packed_words::three_columns(bytes[i + 1]);
+        let c = packed_words::three_columns(bytes[i + 2]);
+        let d = packed_words::three_columns(bytes[i + 3]);
+        packed_words::put_twelve(
+            ram,
+            at + i / 2 * 3,
+            a + 4096 * b + 0x1000000 * (c + 4096 * d),
+        );
+        i += 4;
+    }
+}
+
+// 1:3, byte by byte.
+fn three_bytes(ram: &mut [u8], v: usize, bytes: &[u8])
+    requires { ⌜ (3 * length (now bytes) ≤ 2 * length (now ram) - v) × (length (now ram) < 65536) ⌝ }
     ensures { λ _. ⌜ unpacked (now (ram .exit)) ≡ putRun 3 0 v (now (bytes .entry)) (unpacked (now (ram .entry))) ⌝ }
 {
     let mut i: usize = 0;
     while i < bytes.len() {
-        let c = v + 3 * i;
         let t = packed_words::three_columns(bytes[i]);
-        if (c % 2 == 0) & (i + 1 < bytes.len()) {
-            let both = t + 4096 * packed_words::three_columns(bytes[i + 1]);
-            packed_words::put_three(ram, c / 2, 0x377377, both as u32);
-            i += 2;
-        } else {
-            packed_words::put_columns(ram, c, 3, 0x377, t);
-            i += 1;
-        }
+        packed_words::put_columns(ram, v + 3 * i, 3, 0x377, t);
+        i += 1;
+    }
+}
+
+// 1:3 from an even column on.
+fn three_even(ram: &mut [u8], at: usize, bytes: &[u8])
+    requires { ⌜ (3 * length (now bytes) ≤ 2 * length (now ram) - 2 * at) × (length (now ram) < 65536) ⌝ }
+    ensures { λ _. ⌜ unpacked (now (ram .exit)) ≡ putRun 3 0 (2 * at) (now (bytes .entry)) (unpacked (now (ram .entry))) ⌝ }
+{
+    let fours = bytes.len() / 4 * 4;
+    three_fours(ram, at, &bytes[..fours]);
+    if fours < bytes.len() {
+        three_bytes(ram, 2 * at + 3 * fours, &bytes[fours..]);
+    }
+}
+
+// 1:3: from an odd column on the first byte ends at an even one.
+fn three_run(ram: &mut [u8], v: usize, bytes: &[u8])
+    requires { ⌜ (3 * length (now bytes) ≤ 2 * length (now ram) - v) × (length (now ram) < 65536) ⌝ }
+    ensures { λ _. ⌜ unpacked (now (ram .exit)) ≡ putRun 3 0 v (now (bytes .entry)) (unpacked (now (ram .entry))) ⌝ }
+{
+    if v % 2 == 0 {
+        three_even(ram, v / 2, bytes);
+    } else if 0 < bytes.len() {
+        three_bytes(ram, v, &bytes[..1]);
+        three_even(ram, v / 2 + 2, &bytes[1..]);
     }
 }
 

@@ -21,7 +21,7 @@ three-run-requires : tie.Need-three-run-requires
 three-run-requires c κs = let s = c .before .before .before .before in
     let a = s .args in
     let fit = subst (λ (m : ℕ). widthOf m * length (now (a .bytes)) ≤ length (unpacked (now (a .ram))) - a .v) (c .before .if1 .taken) (s .pre .0 .fit) in
-    (omega (arith, fit, length-unpacked (now (a .ram))), s .pre .0 .nibbles, s .pre .1)
+    (omega (arith, fit, length-unpacked (now (a .ram))), s .pre .1)
 
 even : (v : ℕ) → v % 2 ≡ 0 → 2 * (v / 2) ≡ v
 even v e = omega (arith, div-add-mod' v 2, e)
