@@ -86,7 +86,7 @@ pub fn write_three(
     ensures { λ r. ⌜ record { result = r; out = now (out .exit) } ≡ writeThreePart part chips registers group (now (wanted .entry)) (now (out .entry)) ⌝ }
     ensures { λ r. ⌜ writtenNumbers r ≡ writtenNumbers (writeThreePart part chips registers group (now (wanted .entry)) (now (out .entry)) .result) ⌝ }
 {
-    match refused::check_wanted(part, chips, registers, group, 3, 0, wanted) {
+    match refused::check_every(part, chips, registers, group, wanted) {
         Check::Refused(refusal) => Written::Refused(refusal),
         Check::Passed => {
             if groups::chips_in(group, chips) == 0 {

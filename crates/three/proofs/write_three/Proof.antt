@@ -35,7 +35,7 @@ is-none K n r g wanted none = rw (eq-eqb (chipsIn g n) 0 none)
 
 passes : (t : tie.After-enum-told) → let a = t .before .before .before .before .before .args in
     orElse (checkPart (a .part)) (checkWanted (partOf (a .part)) (a .chips) (a .registers) (a .group) 3 0 (now (a .wanted))) ≡ Passed
-passes t = sym (t .before .before .check-wanted .ensures) ∙ t .enum-told .given .1
+passes t = sym (t .before .before .check-every .ensures) ∙ t .enum-told .given .1
 
 asks : (t : tie.After-enum-told) → let a = t .before .before .before .before .before .args in Asked (partOf (a .part)) (a .chips) (a .registers) (a .group) 3 0 (now (a .wanted))
 asks t = let a = t .before .before .before .before .before .args in asked-of (partOf (a .part)) (a .chips) (a .registers) (a .group) 3 0 (now (a .wanted)) (both-pass (checkPart (a .part)) _ (passes t) .1)
@@ -107,7 +107,7 @@ put-three-requires c κs = let z = c .before .before in
 returns-3 : tie.Need-returns-3
 unfolding writeThreePart
 returns-3 c = let a = c .before .before .before .before .before .before .args in
-    numbered (refuses (a .part) (checkWanted (partOf (a .part)) (a .chips) (a .registers) (a .group) 3 0 (now (a .wanted))) (threeTransfer (partOf (a .part)) (a .chips) (a .registers) (a .group) (now (a .wanted))) (now (a .out)) _ (sym (c .before .before .before .check-wanted .ensures) ∙ c .before .refusal .given .1))
+    numbered (refuses (a .part) (checkWanted (partOf (a .part)) (a .chips) (a .registers) (a .group) 3 0 (now (a .wanted))) (threeTransfer (partOf (a .part)) (a .chips) (a .registers) (a .group) (now (a .wanted))) (now (a .out)) _ (sym (c .before .before .before .check-every .ensures) ∙ c .before .refusal .given .1))
 
 returns-4 : tie.Need-returns-4
 unfolding writeThreePart
