@@ -43,9 +43,9 @@ asks t = let a = t .before .before .before .before .before .args in asked-of (pa
 few : (t : tie.After-enum-told) → length (now (t .before .before .before .before .before .args .wanted)) ≤ 640
 few t = few-wanted (t .before .before .before .before .before .args .part) (asks t)
 
--- the columns are two by two
-even-columns : (part chips : ℕ) → partOf part .columns * chips % 2 ≡ 0
-even-columns part chips = of-both (λ K. K .columns * chips % 2 ≡ 0) part (omega arith) (omega arith)
+-- the columns are those of whole chips
+whole-chips : (part chips : ℕ) → partOf part .columns * chips % partOf part .columns ≡ 0
+whole-chips part chips = of-both (λ K. K .columns * chips % K .columns ≡ 0) part (omega arith) (omega arith)
 
 -- past the test of the chips there is one
 some : (c : tie.After-registers-of) → let a = c .before .before .before .before .before .before .before .before .args in 0 < chipsIn (a .group) (a .chips)
@@ -97,7 +97,7 @@ put-three-requires c κs = let z = c .before .before in
       rw e (own .b-in),
       record {
         there = rw (asked .columns) (mul-le-mul-left (partOf (a .part) .columns) (asked .few));
-        even = rw (asked .columns) (even-columns (a .part) (chipsIn (a .group) (a .chips)));
+        chips = rw (asked .columns) (whole-chips (a .part) (chipsIn (a .group) (a .chips)));
         room =
             length-take-le (3 + z .byte-size .result * (length (now (a .wanted)) / 2)) (now (a .out)) (room (c .before))
             ∙ ap (λ (k : ℕ). 3 + k * (length (now (a .wanted)) / 2)) (z .byte-size .ensures);
