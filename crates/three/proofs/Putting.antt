@@ -7,8 +7,16 @@ use native.Mathlib.Nat.{add-zero, zero-add, mul-zero, mul-add, mul-le-mul-left}
 use native.Mathlib.Omega.{arith}
 use lib.ListN.{length, take, drop, length-append, length-drop}
 use lib.Seq.{length-take-le, take-all, take-at}
-use Rattle.sheet.specs.Parts.{Part}
+use Rattle.sheet.specs.Parts.{Part, partOf}
 use Rattle.writer_sheet.specs.Three.{pairOf, byteAt, pairsFrom}
+use Rattle.laws.proofs.Named.{of-both}
+
+-- how long a data byte is with the commands before it
+abbrev pub stepOf : Part → ℕ
+stepOf K = 4 + 2 * length (K .pointer 0)
+
+pub step-small : (part : ℕ) → stepOf (partOf part) ≤ 8
+step-small part = of-both (λ K. stepOf K ≤ 8) part (omega arith) (omega arith)
 
 -- some bytes, and then more
 pairs-join : (K : Part) (n k c : ℕ) (wanted : List ℕ) → pairsFrom K n c wanted ++ pairsFrom K k (c + 2 * n) wanted ≡ pairsFrom K (n + k) c wanted

@@ -9,12 +9,12 @@ ghost use mathlib.Core.Path.{_≡_};
 ghost use mathlib.Core.List.{[], _∷_, _++_};
 ghost use Prim.Native.Nat.{_+_, _*_, _/_, _%_, _<_};
 ghost use lib.ListN.{length};
-ghost use Rattle.sheet.specs.Parts.{partOf, pcf8532, pca85133};
+ghost use Rattle.sheet.specs.Parts.{partOf};
 ghost use Rattle.sheet.specs.Refusals.{writtenNumbers};
 ghost use Rattle.sheet.specs.Protocol.{addressOf};
 ghost use Rattle.writer_sheet.specs.Writer.{eachAfter80, modeSetOf};
-ghost use Rattle.writer_sheet.specs.Three.{pairsFrom, writeThreePart};
-ghost use Rattle.three.specs.Room.{Four, Chip, Pairs, Three};
+ghost use Rattle.writer_sheet.specs.Three.{byteAt, pairsFrom, writeThreePart};
+ghost use Rattle.three.specs.Room.{Byte, Four, Chip, Pairs, Three};
 
 // How long one data byte is with the commands before it.
 fn byte_size(part: u8) -> usize
@@ -36,37 +36,6 @@ fn put_large(chip: u32, p: usize, x: u32, out: &mut [u8])
     gather::put_word(&mut out[4..], high);
 }
 
-// Those of the four even columns from p on, in a chip whose first column is c.
-fn four_large(c: usize, p: usize, wanted: &[u8], out: &mut [u8])
-    requires { ⌜ Four pcf8532 c p (now wanted) (now out) ⌝ }
-    ensures { λ _. ⌜ now (out .exit) ≡ pairsFrom pcf8532 4 (c + p) (now (wanted .entry)) ⌝ }
-{
-    let chip = (c / 160) as u32;
-    let word = gather::pair_bytes(wanted, c + p);
-    let mut i: usize = 0;
-    while i < 4 {
-        put_large(
-            chip,
-            p + 2 * i,
-            (word >> (8 * i)) % 256,
-            &mut out[8 * i..8 * i + 8],
-        );
-        i += 1;
-    }
-}
-
-// And of all of them, eight columns a turn: the compiler takes several turns at a time.
-fn large_chip(c: usize, wanted: &[u8], out: &mut [u8])
-    requires { ⌜ Chip pcf8532 c (now wanted) (now out) ⌝ }
-    ensures { λ _. ⌜ now (out .exit) ≡ pairsFrom pcf8532 80 c (now (wanted .entry)) ⌝ }
-{
-    let mut p: usize = 0;
-    while p < 160 {
-        four_large(c, p, wanted, &mut out[4 * p..4 * p + 32]);
-        p += 8;
-    }
-}
-
 // ---- a PCA85133
 
 // The same with its one pointer command.
@@ -80,45 +49,62 @@ fn put_small(chip: u32, p: usize, x: u32, out: &mut [u8])
     out[5] = x as u8;
 }
 
-fn four_small(c: usize, p: usize, wanted: &[u8], out: &mut [u8])
-    requires { ⌜ Four pca85133 c p (now wanted) (now out) ⌝ }
-    ensures { λ _. ⌜ now (out .exit) ≡ pairsFrom pca85133 4 (c + p) (now (wanted .entry)) ⌝ }
+// ---- either
+
+// A data byte at column p of the chip whose first column is c.
+fn put_byte(part: u8, c: usize, p: usize, x: u32, out: &mut [u8])
+    requires { ⌜ Byte (partOf part) c p (now out) × (x < 256) ⌝ }
+    ensures { λ _. ⌜ now (out .exit) ≡ byteAt (partOf part) (c + p) x ⌝ }
 {
-    let chip = (c / 80) as u32;
+    if part == sheet::PCA85133 {
+        put_small((c / 80) as u32, p, x, out);
+    } else {
+        put_large((c / 160) as u32, p, x, out);
+    }
+}
+
+// Those of the four even columns from p on.
+fn put_four(part: u8, c: usize, p: usize, wanted: &[u8], out: &mut [u8])
+    requires { ⌜ Four (partOf part) c p (now wanted) (now out) ⌝ }
+    ensures { λ _. ⌜ now (out .exit) ≡ pairsFrom (partOf part) 4 (c + p) (now (wanted .entry)) ⌝ }
+{
+    let size = byte_size(part);
     let word = gather::pair_bytes(wanted, c + p);
+    let mut at: usize = 0;
     let mut i: usize = 0;
     while i < 4 {
-        put_small(
-            chip,
-            p + 2 * i,
-            (word >> (8 * i)) % 256,
-            &mut out[6 * i..6 * i + 6],
-        );
+        let x = (word >> (8 * i)) % 256;
+        put_byte(part, c, p + 2 * i, x, &mut out[at..at + size]);
+        at += size;
         i += 1;
     }
 }
 
-fn small_chip(c: usize, wanted: &[u8], out: &mut [u8])
-    requires { ⌜ Chip pca85133 c (now wanted) (now out) ⌝ }
-    ensures { λ _. ⌜ now (out .exit) ≡ pairsFrom pca85133 40 c (now (wanted .entry)) ⌝ }
-{
-    let mut p: usize = 0;
-    while p < 80 {
-        four_small(c, p, wanted, &mut out[3 * p..3 * p + 24]);
-        p += 8;
-    }
-}
-
-// ---- all chips
-
+// And of a chip's columns from c on.
 fn put_chip(part: u8, c: usize, wanted: &[u8], out: &mut [u8])
     requires { ⌜ Chip (partOf part) c (now wanted) (now out) ⌝ }
     ensures { λ _. ⌜ now (out .exit) ≡ pairsFrom (partOf part) (partOf part .columns / 2) c (now (wanted .entry)) ⌝ }
 {
+    let size = 4 * byte_size(part);
+    let columns = arithmetic::columns(part);
+    let mut at: usize = 0;
+    let mut p: usize = 0;
+    while p < columns {
+        put_four(part, c, p, wanted, &mut out[at..at + size]);
+        at += size;
+        p += 8;
+    }
+}
+
+// The same, each part by its own number: the compiler makes a loop of each.
+fn put_either(part: u8, c: usize, wanted: &[u8], out: &mut [u8])
+    requires { ⌜ Chip (partOf part) c (now wanted) (now out) ⌝ }
+    ensures { λ _. ⌜ now (out .exit) ≡ pairsFrom (partOf part) (partOf part .columns / 2) c (now (wanted .entry)) ⌝ }
+{
     if part == sheet::PCA85133 {
-        small_chip(c, wanted, out);
+        put_chip(sheet::PCA85133, c, wanted, out);
     } else {
-        large_chip(c, wanted, out);
+        put_chip(sheet::PCF8532, c, wanted, out);
     }
 }
 
@@ -132,7 +118,7 @@ fn put_pairs(part: u8, wanted: &[u8], out: &mut [u8])
     let mut at: usize = 0;
     let mut c: usize = 0;
     while c < wanted.len() {
-        put_chip(part, c, wanted, &mut out[at..at + size]);
+        put_either(part, c, wanted, &mut out[at..at + size]);
         at += size;
         c += columns;
     }

@@ -6,18 +6,14 @@ use native.Mathlib.Nat.{zero-add, add-sub-cancel-left}
 use native.Mathlib.Omega.{arith}
 use lib.ListN.{length, take, drop, length-take, length-drop}
 use denote.Ref.{now}
-use Rattle.sheet.specs.Parts.{Part, partOf}
+use Rattle.sheet.specs.Parts.{partOf}
 use Rattle.writer_sheet.specs.Three.{pairsFrom}
 use Rattle.laws.proofs.Named.{of-both, columns-even, has-columns, group-columns}
 use Rattle.laws.proofs.PutsThree.{pairs-small}
-use Rattle.three.proofs.Putting.{Putting, begun, room, turn, done}
+use Rattle.three.proofs.Putting.{stepOf, Putting, begun, room, turn, done}
 use borrow.Author.Needs.{needs}
 use Rattle.three.proofs.put_pairs.Statement.{statement}
 use Rattle.three.proofs.put_pairs.Tie as tie
-
--- how long a data byte is with the commands before it
-abbrev stepOf : Part → ℕ
-stepOf K = 4 + 2 * length (K .pointer 0)
 
 abbrev Inv-loop : tie.InvT-loop
 Inv-loop part wanted out₀ columns size at₀ c₀ out at c = (c % partOf part .columns ≡ 0) × Putting (partOf part) (stepOf (partOf part)) (length wanted) 0 wanted out₀ out at c
@@ -80,7 +76,7 @@ loop-again c = let put = c .before .before in
     rw (add-sub-cancel-left (p .loop .at) (b .byte-size .result * (b .before .columns .result / 2)), size-is b) (
       rw next (chip-next part (p .loop .c) (p .loop .inv .0)),
       turn k refl (omega (arith, next, columns-even part)) (s .pre .room) (there i .1) (c .before .out .given .0 ∙ part-long i ∙ size-is b)
-          (put .put-chip .ensures ∙ ap (λ (n : ℕ). pairsFrom (partOf part) k n (now (s .args .wanted))) (sym (zero-add (p .loop .c)))) (p .loop .inv .1),
+          (put .put-either .ensures ∙ ap (λ (n : ℕ). pairsFrom (partOf part) k n (now (s .args .wanted))) (sym (zero-add (p .loop .c)))) (p .loop .inv .1),
     )
 
 pub put-pairs-spec : {M : Type 1} → statement M
