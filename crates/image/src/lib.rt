@@ -83,9 +83,10 @@ fn first_missing(given: &[u8]) -> Check
     ensures { λ r. ⌜ r ≡ missingIn 0 (now (given .entry)) ⌝ }
 {
     match checks::search_over(given) {
-        Check::Refused(refusal) => Check::Refused(Refusal::AddressMissing(answers::place_of(
-            refusal,
-        ))),
+        Check::Refused(refusal) => {
+            let place = answers::place_of(refusal);
+            Check::Refused(Refusal::AddressMissing(place))
+        }
         Check::Passed => Check::Passed,
     }
 }
