@@ -4,7 +4,6 @@ use records::Record;
 use sheet::Both;
 use sheet::Check;
 use sheet::Chips;
-use sheet::Pictured;
 ghost use mathlib.Core.Path.{_≡_};
 ghost use Prim.Native.Nat.{_+_, _≤_};
 ghost use lib.ListN.{length, replicate};
@@ -92,22 +91,19 @@ fn put_group(
     ensures { λ r. ⌜ r .lit ≡ litIn (shownAt chips (stateOf registers (now (ram .entry))) group) ⌝ }
 {
     let mut picture = blank_picture();
-    match long::picture(
+    let shown = groups::registers_of(group, registers);
+    let lit = long::show_in(
         sheet::PCF8532,
         chips,
-        registers,
+        group,
+        shown,
         ram,
         false,
-        group,
         0,
         &mut picture[..size],
-    ) {
-        Pictured::Lit(lit) => {
-            let after = lines::put_columns(out, at, group as usize, &picture[..size]);
-            Listed { at: after, lit }
-        }
-        Pictured::Refused(_) => Listed { at, lit: 0 },
-    }
+    );
+    let after = lines::put_columns(out, at, group as usize, &picture[..size]);
+    Listed { at: after, lit }
 }
 
 // The lines after the last transfer's: the lit columns of both groups, then how much each has lit.
