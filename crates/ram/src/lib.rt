@@ -1,14 +1,14 @@
 // Data bytes into a group's columns, each mode with its own literal arithmetic.
 // Bytes whose columns are all there go in without a test a column; only the byte at the edge is tested.
 ghost use mathlib.Core.Path.{_≡_};
-ghost use Prim.Native.Nat.{ℕ, _+_, _-_, _*_, _/_, _%_, _≤_, _<_, _^_};
+ghost use Prim.Native.Nat.{_+_, _-_, _*_, _%_, _≤_, _<_, _^_};
 ghost use lib.ListN.{length};
 ghost use Rattle.sheet.specs.declared.Check.the-variants.{Passed};
 ghost use Rattle.sheet.specs.Registers.{bankRow};
 ghost use Rattle.sheet.specs.Checks.{overIn};
 ghost use Rattle.sheet.specs.Data.{changed, withRow, putBits};
 ghost use Rattle.sheet.specs.Runs.{putRun};
-ghost use Rattle.words.specs.Fields.{threeColumns, Spread};
+ghost use Rattle.words.specs.Fields.{threeColumns};
 ghost use Rattle.ram.specs.Writes.{Whole, Cut};
 ghost use Rattle.ram.specs.Tables.{firstBits, lastBits};
 
@@ -46,27 +46,41 @@ pub fn cut_byte(ram: &mut [u8], at: usize, m: usize, bank: u8, rest: &[u8])
     }
 }
 
-// Four columns of one row as a word, in both banks: the first four of a byte that begins with the nibble, the last four of one that ends with it.
-// The product has bit k of the nibble at bit k + 9 j, for j from 0 to 3.
-fn spread_nibble(nibble: u8) -> u32
-    requires { ⌜ nibble < 16 ⌝ }
-    ensures { λ r. ⌜ ((x : ℕ) → x < 256 → x / 16 ≡ nibble → Spread 1 x 0 r) × ((x : ℕ) → x < 256 → x % 16 ≡ nibble → Spread 1 x 4 r) ⌝ }
-{
-    let copies = words::wide(nibble) * 0x08040201;
-    5 * (copies / 8 & 0x01010101)
-}
+// A nibble's four columns of one row as words, in both banks.
+const SPREAD: [u32; 16] = [
+    0x00000000,
+    0x05000000,
+    0x00050000,
+    0x05050000,
+    0x00000500,
+    0x05000500,
+    0x00050500,
+    0x05050500,
+    0x00000005,
+    0x05000005,
+    0x00050005,
+    0x05050005,
+    0x00000505,
+    0x05000505,
+    0x00050505,
+    0x05050505,
+];
 
 // Static, where all columns are there.
 fn static_run(ram: &mut [u8], v: usize, bank: u8, bytes: &[u8])
     requires { ⌜ (bank < 2) × (8 * length (now bytes) ≤ length (now ram) - v) × (overIn 0 (now ram) ≡ Passed) ⌝ }
     ensures { λ _. ⌜ now (ram .exit) ≡ putRun 1 (2 * bank) v (now (bytes .entry)) (now (ram .entry)) ⌝ }
 {
+    // copied once, and not at each index
+    let table = SPREAD;
     let rows = 0x01010101 * (1 + 3 * words::wide(bank));
     let mut i: usize = 0;
     while i < bytes.len() {
         let at = v + 8 * i;
-        words::put_four(ram, at, rows, spread_nibble(bytes[i] / 16));
-        words::put_four(ram, at + 4, rows, spread_nibble(bytes[i] % 16));
+        let high = (bytes[i] / 16) as usize;
+        let low = (bytes[i] % 16) as usize;
+        words::put_four(ram, at, rows, table[high]);
+        words::put_four(ram, at + 4, rows, table[low]);
         i += 1;
     }
 }
