@@ -196,7 +196,7 @@ uint8_t humtrellis_hex_write(uint8_t part, uint8_t chips, const uint8_t *ram, si
 uint8_t humtrellis_hex_read(uint8_t part, uint8_t chips, const uint8_t *file, size_t file_length,
                             uint8_t *ram, size_t ram_length, size_t *answer, size_t answer_length);
 
-/* A price on the glass: the 7-segment data byte of each symbol of `text` in a mode (M as in the registers), in the order of sheet 003's figure 13, at the front of `out`; the bytes
+/* A price on the glass: the 7-segment data byte of each symbol of `text` in a mode (M as in the registers), in the order that docs/C.md has, at the front of `out`; the bytes
  * behind them stay. A minus of either kind lights segment g alone; a point is in the byte of the digit before it. An empty text gives 0 bytes. Answer: number, place, written, 0, 0, 0.
  * Refusals: 2 for over HUMTRELLIS_PRICE bytes of text, 6, 9 for `out` under HUMTRELLIS_PRICE bytes, however short the text is, 15; a broken E2 88 92 has its place at the E2. */
 uint8_t humtrellis_price_write(uint8_t mode, const uint8_t *text, size_t text_length,

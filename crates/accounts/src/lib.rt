@@ -31,6 +31,6 @@ pub fn side_by_side(
     ensures { λ r. ⌜ Agreed part chips (now (ram .exit)) r ⌝ }
 {
     let plain = plain::transfer_bench(part, bench, bytes, bits);
-    let long = long::transfer(part, chips, registers, ram, bytes, bits);
+    let long = long::transfer(part, chips, registers, ram, false, bytes, bits);
     Sides { long, plain }
 }

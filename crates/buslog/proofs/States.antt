@@ -1,24 +1,19 @@
 -- No call refuses a state that a replay comes to, so every picture of it is shown.
 -- Assumes nothing.
-use mathlib.Core.Path.{_≡_, ap, _∙_}
+use mathlib.Core.Path.{_≡_, _∙_}
 use mathlib.Core.List.{List, _++_}
 use Prim.Native.Nat.{ℕ, zero, suc, _+_, _*_, _≤_}
 use native.Mathlib.Omega.{arith}
 use lib.ListN.{length, take, drop, replicate, length-replicate, length-append}
 use lib.Seq.{length-take-le, take-at}
-use borrow.Author.Tests.{lt-ltb, eq-eqb}
 use Rattle.sheet.specs.declared.Chips.{Chips}
 use Rattle.sheet.specs.declared.Check.the-variants.{Passed}
-use Rattle.sheet.specs.declared.Pictured.{Pictured}
 use Rattle.sheet.specs.Parts.{pcf8532}
-use Rattle.sheet.specs.Protocol.{chipsIn}
-use Rattle.sheet.specs.Checks.{checkChips, checkPicture}
-use Rattle.sheet.specs.Pictures.{litIn, Seen}
-use Rattle.sheet.specs.Long.{State, pictureCall}
+use Rattle.sheet.specs.Checks.{checkChips}
+use Rattle.sheet.specs.Long.{State}
 use Rattle.log_sheet.specs.Logs.{shownAt, logStart}
 use Rattle.sheet.specs.Agree.{Valid}
 use Rattle.laws.proofs.Nibbles.{Nibbles}
-use Rattle.buslog.specs.Asked.{Listable}
 use Rattle.laws.proofs.Fits.{check-fits, few-chips, power-on-in}
 
 -- zeros are below 16
@@ -41,22 +36,16 @@ start-valid n e =
       nibbles = blank-nibbles (160 * (n .zero + n .one));
     })
 
--- a group's picture in the first columns of an array, and the answer with what is lit
-pub record Held (n : Chips) (s : State) (g columns : ℕ) (array : List ℕ) (answer : Pictured) : Type 0 where
+-- a group's picture in the first columns of an array
+pub record Held (n : Chips) (s : State) (g columns : ℕ) (array : List ℕ) : Type 0 where
   pub held : take columns array ≡ shownAt n s g
   pub enough : columns ≤ length array
-  pub lit : answer ≡ Pictured.Lit (litIn (shownAt n s g))
 
 -- is what a call leaves that was lent those columns
-pub pictured : {n : Chips} {s : State} {g columns at : ℕ} {out : List ℕ} {seen : Seen} → Listable n s g columns at out → (blank : List ℕ) → columns ≤ length blank
-    → length (seen .out) ≡ length (take columns blank) → seen ≡ pictureCall pcf8532 n (s .registers) (s .ram) g 0 (take columns blank)
-    → Held n s g columns (seen .out ++ drop columns blank) (seen .result)
-unfolding pictureCall checkPicture
-pictured {n} {s} {g} {columns} {seen = seen} l blank small kept e =
+pub pictured : (n : Chips) (s : State) (g columns : ℕ) (blank out : List ℕ) → columns ≤ length blank → length out ≡ length (take columns blank) → out ≡ shownAt n s g → Held n s g columns (out ++ drop columns blank)
+pictured n s g columns blank out small kept e =
     let long = length-take-le columns blank small in
-    let is : seen ≡ record { result = Pictured.Lit (litIn (shownAt n s g)); out = shownAt n s g } = rw (l .valid, lt-ltb g 2 (l .group), eq-eqb (length (take columns blank)) (160 * chipsIn g n) (long ∙ l .size)) at e in
     record {
-      held = take-at (seen .out) _ _ (kept ∙ long) ∙ ap (λ (k : Seen). k .out) is;
-      enough = omega (arith, length-append (seen .out) (drop columns blank));
-      lit = ap (λ (k : Seen). k .result) is;
+      held = take-at out _ _ (kept ∙ long) ∙ e;
+      enough = omega (arith, length-append out (drop columns blank), kept, long);
     }

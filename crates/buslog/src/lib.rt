@@ -4,7 +4,6 @@ use records::Record;
 use sheet::Both;
 use sheet::Check;
 use sheet::Chips;
-use sheet::Pictured;
 ghost use mathlib.Core.Path.{_≡_};
 ghost use Prim.Native.Nat.{_+_, _≤_};
 ghost use lib.ListN.{length, replicate};
@@ -92,21 +91,19 @@ fn put_group(
     ensures { λ r. ⌜ r .lit ≡ litIn (shownAt chips (stateOf registers (now (ram .entry))) group) ⌝ }
 {
     let mut picture = blank_picture();
-    match long::picture(
+    let shown = groups::registers_of(group, registers);
+    let lit = long::show_in(
         sheet::PCF8532,
         chips,
-        registers,
-        ram,
         group,
+        shown,
+        ram,
+        false,
         0,
         &mut picture[..size],
-    ) {
-        Pictured::Lit(lit) => {
-            let after = lines::put_columns(out, at, group as usize, &picture[..size]);
-            Listed { at: after, lit }
-        }
-        Pictured::Refused(_) => Listed { at, lit: 0 },
-    }
+    );
+    let after = lines::put_columns(out, at, group as usize, &picture[..size]);
+    Listed { at: after, lit }
 }
 
 // The lines after the last transfer's: the lit columns of both groups, then how much each has lit.
@@ -128,7 +125,7 @@ fn play(log: &[u8], chips: Chips, ram: &mut [u8], out: &mut [u8]) -> usize
     requires { ⌜ Playable (now log) chips (now ram) (now out) ⌝ }
     ensures { λ r. ⌜ Puts 0 (logLines (seenBytes (now (log .entry))) chips (logRecords (now (log .entry)) .bodies)) (now (out .entry)) (now (out .exit)) r ⌝ }
 {
-    let on = long::power_on(sheet::PCF8532, chips, ram);
+    let on = long::power_on(sheet::PCF8532, chips, ram, false);
     let mut registers = [0; 24];
     wire::put_both(on.registers, &mut registers);
     let at = put_transfers(log, chips, &mut registers, ram, out);

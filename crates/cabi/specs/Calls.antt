@@ -8,7 +8,7 @@ use Rattle.sheet.specs.declared.Chips.{Chips}
 use Rattle.sheet.specs.Refusals.{plainNumbers, pictureNumbers, rescuedNumbers, checkNumbers, writtenNumbers}
 use Rattle.sheet.specs.Parts.{partOf}
 use Rattle.sheet.specs.Protocol.{Sent}
-use Rattle.packed_sheet.specs.Packed.{unpacked, packed}
+use Rattle.packed_sheet.specs.Packed.{powerOnPacked, transferPacked, picturePacked}
 use Rattle.sheet.specs.Plain.{chipPowerOnPart, chipPicturePart}
 use Rattle.log_sheet.specs.Rescue.{rescueCall}
 use Rattle.writer_sheet.specs.Writer.{writeRowsPart}
@@ -18,24 +18,21 @@ use Rattle.image_sheet.specs.Images.{hexReadPart}
 use Rattle.price_sheet.specs.Price.{priceWrite, priceRead}
 use Rattle.buslog.specs.declared.Replayed.{Replayed}
 use Rattle.lent.specs.Lent.{lentCall}
-use Rattle.lent_long.specs.LongCalls.{Called, powerOnC, transferC, Filled, saidC, pictureC}
+use Rattle.lent_long.specs.LongCalls.{Called, poweredC, afterC, Filled, saidC, seenC}
 use Rattle.wire.specs.Bytes.{bothOf, chipIn, chipBytes}
 
 abbrev pub chipsOf : ℕ → ℕ → Chips
 chipsOf z o = record { zero = z; one = o }
 
--- packed: the call of the unpacked RAM, and the RAM that packs what it leaves (paper 02, request 6)
-abbrev pub packedCalled : Called → Called
-packedCalled c = record { number = c .number; registers = c .registers; buffer = packed (c .buffer); answer = c .answer }
-
+-- packed, two columns a byte (paper 02, request 6)
 unfoldable pub packedPowerOnC : ℕ → Chips → List ℕ → List ℕ → List ℕ → Called
-packedPowerOnC part n ram registers answer = packedCalled (powerOnC part n (unpacked ram) registers answer)
+packedPowerOnC part n ram registers answer = poweredC registers ram answer (powerOnPacked part n ram)
 
 unfoldable pub packedTransferC : ℕ → Chips → List ℕ → List ℕ → Sent → List ℕ → Called
-packedTransferC part n registers ram transfer answer = packedCalled (transferC part n registers (unpacked ram) transfer answer)
+packedTransferC part n registers ram transfer answer = afterC part registers ram answer (transferPacked part n (bothOf registers) ram transfer)
 
 unfoldable pub packedPictureC : ℕ → Chips → List ℕ → List ℕ → ℕ → ℕ → List ℕ → List ℕ → Filled
-packedPictureC part n registers ram group phase out answer = pictureC part n registers (unpacked ram) group phase out answer
+packedPictureC part n registers ram group phase out answer = seenC registers out answer (picturePacked part n (bothOf registers) ram group phase out)
 
 -- ---- one buffer to write
 

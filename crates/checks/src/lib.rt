@@ -3,8 +3,8 @@ use sheet::Check;
 use sheet::Chips;
 use sheet::Refusal;
 ghost use mathlib.Core.Path.{_≡_};
-ghost use Prim.Native.Nat.{max};
-ghost use lib.ListN.{getD};
+ghost use Prim.Native.Nat.{_≤_, max};
+ghost use lib.ListN.{length, getD, drop};
 ghost use Rattle.checks.specs.Highest.{highestOf};
 ghost use Rattle.sheet.specs.Parts.{partOf};
 ghost use Rattle.sheet.specs.Protocol.{sent, wholeCount, addressByte};
@@ -76,11 +76,25 @@ fn highest(columns: &[u8]) -> u8
     found
 }
 
-// The first column over 15, where there is one.
-fn search_over(columns: &[u8]) -> Check
-    ensures { λ r. ⌜ r ≡ overIn 0 (now (columns .entry)) ⌝ }
+// The columns of the blocks before the first one that has a column over 15.
+fn blocks_passed(columns: &[u8]) -> usize
+    ensures { λ r. ⌜ (overIn r (drop r (now (columns .entry))) ≡ overIn 0 (now (columns .entry))) × (r ≤ length (now (columns .entry))) ⌝ }
 {
     let mut i = 0;
+    while 32 <= columns.len() - i {
+        if 15 < highest(&columns[i..i + 32]) {
+            return i;
+        }
+        i += 32;
+    }
+    i
+}
+
+// The first column over 15, where there is one.
+pub fn search_over(columns: &[u8]) -> Check
+    ensures { λ r. ⌜ r ≡ overIn 0 (now (columns .entry)) ⌝ }
+{
+    let mut i = blocks_passed(columns);
     while i < columns.len() {
         if 15 < columns[i] {
             return Check::Refused(Refusal::RamByte(i));

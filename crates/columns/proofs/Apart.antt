@@ -1,10 +1,9 @@
 -- A chip's columns apart from its registers: what a data byte, and several, make of either.
 -- Assumes nothing.
-use mathlib.Core.Path.{_≡_, refl, sym, ap, ap₂, _∙_, subst}
+use mathlib.Core.Path.{_≡_, refl, sym, ap, _∙_, subst}
 use mathlib.Core.Bool.{Bool, true, false, cond}
-use mathlib.Core.List.{List, [], _∷_}
+use mathlib.Core.List.{List}
 use Prim.Native.Nat.{ℕ, zero, suc, _*_}
-use native.Mathlib.Nat.{mul-one}
 use lib.Dec.{eqb}
 use lib.ListN.{length, getD, set, length-set}
 use Rattle.sheet.specs.declared.Chip.{Chip}
@@ -12,12 +11,12 @@ use Rattle.sheet.specs.declared.Registers.{Registers}
 use Rattle.sheet.specs.Parts.{Part}
 use Rattle.sheet.specs.Registers.{backplanes, bankRow}
 use Rattle.sheet.specs.Plain.{putRows, afterColumn, afterColumns, chipData}
-use Rattle.sheet.specs.Places.{advanced, advancedBy, position, atPosition}
+use Rattle.sheet.specs.Places.{advanced, advancedBy, atPosition}
 use Rattle.sheet.specs.Data.{changed, widthOf}
 use Rattle.laws.proofs.Ranges.{InRange}
 use Rattle.laws.proofs.Steps.{many, stays-in}
 use Rattle.laws.proofs.Runs.{unchanged}
-use Rattle.columns.specs.Stored.{storedIn, columnsAfter}
+use Rattle.columns.specs.Stored.{columnsAfter}
 
 -- a chip with other columns and registers
 abbrev pub with : Chip → List ℕ → Registers → Chip

@@ -1,183 +1,143 @@
--- Columns as one number: rows that change places in each of them, and so the four rows of each the other way round.
+-- 1:3 and 1:4: the rows of each column the other way round, four bytes as one word.
 -- Assumes nothing.
-use mathlib.Core.Path.{_≡_, refl, sym, ap, ap₂, _∙_}
-use mathlib.Core.Bool.{Bool, _&&_}
+use mathlib.Core.Path.{_≡_, ap, ap₂, _∙_}
+use mathlib.Core.Bool.{Bool}
 use mathlib.Core.List.{List}
-use Prim.Native.Nat.{ℕ, zero, suc, _+_, _*_, _/_, _%_, _^_, _≤_, _<_}
-use native.Mathlib.Nat.{add-zero, zero-mul, mod-lt, add-mul, mul-right-comm, mul-div-cancel, div-add-mod'}
+use Prim.Native.Nat.{ℕ, _+_, _*_, _/_, _%_, _^_, _<_}
+use native.Mathlib.Nat.{add-zero, mod-lt}
 use native.Mathlib.Omega.{arith}
-use lib.Bits.{bitAnd, bitOr, and-zero-r, or-zero-r, and-block, or-block, and-shr}
-use lib.Arith.{digits-div}
-use lib.Dec.{T, eqb, eqb→eq, ltb, ltb→lt}
+use lib.Bits.{bitAnd, bitOr, and-mask, and-le-r, or-lt}
+use lib.Dec.{eqb, eqb→eq}
 use lib.ListN.{getD}
-use lib.Pow.{pow-pos}
-use Rattle.lemmas.proofs.Tests.{all, all-at, and-left, and-right}
+use Rattle.lemmas.proofs.Tests.{all, all-at}
 use Rattle.writer_sheet.specs.Writer.{bitsFrom}
+use Rattle.writer_sheet.specs.Three.{pairOf}
 use Rattle.words.specs.Fields.{field, joined}
-use Rattle.gather.specs.Lows.{lowBits}
-use Rattle.gather.proofs.Lows.{low-whole, low-none, turned}
+use Rattle.gather.specs.Gathered.{pairAt, turnedThree}
+use Rattle.gather.proofs.Lows.{low-whole, low-none, turned, turned-six, lowBits}
+use Rattle.gather.proofs.Bytewise.{joined-alike, and-joined, or-joined, scaled, summed, exchanged, exchange}
 
--- the rows in m of a column change places with those 2 ^ e times as high
-abbrev pub exchanged : ℕ → ℕ → ℕ → ℕ
-exchanged m e x = bitOr (bitAnd x m * 2 ^ e) (bitAnd (x / 2 ^ e) m)
+exchanged-small : (m e x : ℕ) → m < 256 → bitAnd x m * 2 ^ e < 256 → exchanged m e x < 256
+exchanged-small m e x small high = or-lt 8 (bitAnd x m * 2 ^ e) (bitAnd (x / 2 ^ e) m) high (omega (arith, small, and-le-r (x / 2 ^ e) m))
 
--- ---- what holds of each column, computed
+-- ---- 1:4
 
-abbrev small : ℕ → ℕ → ℕ → Bool
-small m e x = ltb (bitAnd x m * 2 ^ e) 256 && (ltb (bitAnd (x / 2 ^ e) m) 256 && ltb (exchanged m e x) 256)
+abbrev turnedFour : ℕ → ℕ
+turnedFour x = exchanged 0x55 1 (exchanged 0x33 2 x)
 
-abbrev pub columns-apart : ℕ → ℕ → Bool
-columns-apart m e = ltb (m * 2 ^ e) 256 && (ltb m 256 && all 256 (small m e))
+abbrev fourRight : ℕ → ℕ → Bool
+fourRight a b = eqb (turnedFour (a * 16 + b)) (field (a + b * 16) 0 8)
 
--- a mask that is moved up
-moved : (w m e : ℕ) → bitAnd w (m * 2 ^ e) ≡ bitAnd (w / 2 ^ e) m * 2 ^ e
-moved w m e =
-    ap₂ bitAnd (sym (div-add-mod' w (2 ^ e))) (sym (add-zero (m * 2 ^ e)))
-    ∙ and-block e (w / 2 ^ e) m (w % 2 ^ e) 0 (mod-lt w (pow-pos e)) (pow-pos e)
-    ∙ ap (λ (n : ℕ). bitAnd (w / 2 ^ e) m * 2 ^ e + n) (and-zero-r (w % 2 ^ e)) ∙ add-zero (bitAnd (w / 2 ^ e) m * 2 ^ e)
-
-module _ (m e : ℕ) (t : T (columns-apart m e)) where
-  abbrev every : Bool
-  every = all 256 (small m e)
-
-  high-small : m * 2 ^ e < 256
-  high-small = ltb→lt (m * 2 ^ e) 256 (and-left (ltb (m * 2 ^ e) 256) (ltb m 256 && every) t)
-
-  mask-small : m < 256
-  mask-small = ltb→lt m 256 (and-left (ltb m 256) every (and-right (ltb (m * 2 ^ e) 256) (ltb m 256 && every) t))
-
-  at : (x : ℕ) → x < 256 → T (small m e x)
-  at x h = all-at 256 (small m e) (and-right (ltb m 256) every (and-right (ltb (m * 2 ^ e) 256) (ltb m 256 && every) t)) x h
-
-  up-small : (x : ℕ) → x < 256 → bitAnd x m * 2 ^ e < 256
-  up-small x h = ltb→lt (bitAnd x m * 2 ^ e) 256 (and-left (ltb (bitAnd x m * 2 ^ e) 256) (ltb (bitAnd (x / 2 ^ e) m) 256 && ltb (exchanged m e x) 256) (at x h))
-
-  others : (x : ℕ) → x < 256 → T (ltb (bitAnd (x / 2 ^ e) m) 256 && ltb (exchanged m e x) 256)
-  others x h = and-right (ltb (bitAnd x m * 2 ^ e) 256) (ltb (bitAnd (x / 2 ^ e) m) 256 && ltb (exchanged m e x) 256) (at x h)
-
-  down-small : (x : ℕ) → x < 256 → bitAnd (x / 2 ^ e) m < 256
-  down-small x h = ltb→lt (bitAnd (x / 2 ^ e) m) 256 (and-left (ltb (bitAnd (x / 2 ^ e) m) 256) (ltb (exchanged m e x) 256) (others x h))
-
-  pub exchanged-small : (x : ℕ) → x < 256 → exchanged m e x < 256
-  exchanged-small x h = ltb→lt (exchanged m e x) 256 (and-right (ltb (bitAnd (x / 2 ^ e) m) 256) (ltb (exchanged m e x) 256) (others x h))
-
-  -- ---- and so of several: the lowest, and those above it
-
-  up : (w k a : ℕ) → a < 256 → bitAnd (w * 256 + a) (k * 256 + m) * 2 ^ e ≡ (bitAnd w k * 2 ^ e) * 256 + bitAnd a m * 2 ^ e
-  up w k a h = ap (λ (n : ℕ). n * 2 ^ e) (and-block 8 w k a m h mask-small) ∙ add-mul (bitAnd w k * 256) (bitAnd a m) (2 ^ e) ∙ ap (λ (n : ℕ). n + bitAnd a m * 2 ^ e) (mul-right-comm (bitAnd w k) 256 (2 ^ e))
-
-  down : (w k a : ℕ) → a < 256 → bitAnd ((w * 256 + a) / 2 ^ e) (k * 256 + m) ≡ bitAnd (w / 2 ^ e) k * 256 + bitAnd (a / 2 ^ e) m
-  down w k a h =
-      let all = w * 256 + a in
-      let mask : (k * 2 ^ e) * 256 + m * 2 ^ e ≡ (k * 256 + m) * 2 ^ e = sym (add-mul (k * 256) m (2 ^ e) ∙ ap (λ (n : ℕ). n + m * 2 ^ e) (mul-right-comm k 256 (2 ^ e))) in
-      let B = bitAnd (w / 2 ^ e) k in
-      let A = bitAnd (a / 2 ^ e) m in
-      ap (bitAnd (all / 2 ^ e)) (sym (mul-div-cancel (k * 256 + m) (pow-pos e)))
-      ∙ sym (and-shr all ((k * 256 + m) * 2 ^ e) e)
-      ∙ ap (λ (n : ℕ). bitAnd all n / 2 ^ e) (sym mask)
-      ∙ ap (λ (n : ℕ). n / 2 ^ e) (and-block 8 w (k * 2 ^ e) a (m * 2 ^ e) h high-small)
-      ∙ ap₂ (λ (x y : ℕ). (x * 256 + y) / 2 ^ e) (moved w k e) (moved a m e)
-      ∙ ap (λ (n : ℕ). (n + A * 2 ^ e) / 2 ^ e) (mul-right-comm B (2 ^ e) 256)
-      ∙ ap (λ (n : ℕ). n / 2 ^ e) (sym (add-mul (B * 256) A (2 ^ e)))
-      ∙ mul-div-cancel (B * 256 + A) (pow-pos e)
-
-  pub both : (w k a : ℕ) → a < 256
-      → bitOr (bitAnd (w * 256 + a) (k * 256 + m) * 2 ^ e) (bitAnd ((w * 256 + a) / 2 ^ e) (k * 256 + m)) ≡ bitOr (bitAnd w k * 2 ^ e) (bitAnd (w / 2 ^ e) k) * 256 + exchanged m e a
-  both w k a h = ap₂ bitOr (up w k a h) (down w k a h) ∙ or-block 8 (bitAnd w k * 2 ^ e) (bitAnd (w / 2 ^ e) k) (bitAnd a m * 2 ^ e) (bitAnd (a / 2 ^ e) m) (up-small a h) (down-small a h)
-
-  pub many : (n : ℕ) (q : ℕ → ℕ) → ((j : ℕ) → q j < 256)
-      → bitOr (bitAnd (joined n q) (joined n (λ j. m)) * 2 ^ e) (bitAnd (joined n q / 2 ^ e) (joined n (λ j. m))) ≡ joined n (λ j. exchanged m e (q j))
-  unfolding joined
-  many zero q h = ap₂ (λ (x y : ℕ). bitOr (x * 2 ^ e) y) (and-zero-r 0) (and-zero-r (0 / 2 ^ e)) ∙ ap (λ (n : ℕ). bitOr n 0) (zero-mul (2 ^ e)) ∙ or-zero-r 0
-  many (suc n) q h =
-      both (joined n (λ j. q (suc j))) (joined n (λ j. m)) (q 0) (h 0)
-      ∙ ap (λ (k : ℕ). k * 256 + exchanged m e (q 0)) (many n (λ j. q (suc j)) (λ j. h (suc j)))
-
--- ---- four rows the other way round
-
-abbrev pub turnedColumn : ℕ → ℕ
-turnedColumn x = exchanged 5 1 (exchanged 3 2 x)
-
-abbrev low : ℕ → Bool
-low x = ltb (turnedColumn x) 16 && eqb (turnedColumn x) (turnedColumn (x % 16))
-
-abbrev pairs : ℕ → ℕ → Bool
-pairs a b = eqb (turnedColumn a * 16 + turnedColumn b) (field (a + b * 16) 0 8)
-
-low-at : (x : ℕ) → x < 256 → T (low x)
-low-at x h = all-at 256 low tt x h
-
-pub turned-small : (x : ℕ) → x < 256 → turnedColumn x < 16
-turned-small x h = ltb→lt (turnedColumn x) 16 (and-left (ltb (turnedColumn x) 16) (eqb (turnedColumn x) (turnedColumn (x % 16))) (low-at x h))
-
-by-rows : (x : ℕ) → x < 256 → turnedColumn x ≡ turnedColumn (x % 16)
-by-rows x h = eqb→eq (turnedColumn x) (turnedColumn (x % 16)) (and-right (ltb (turnedColumn x) 16) (eqb (turnedColumn x) (turnedColumn (x % 16))) (low-at x h))
-
-pair-at : (a b : ℕ) → a < 16 → b < 16 → turnedColumn a * 16 + turnedColumn b ≡ field (a + b * 16) 0 8
+four-right : (a b : ℕ) → a < 16 → b < 16 → turnedFour (a * 16 + b) ≡ field (a + b * 16) 0 8
 unfolding field
-pair-at a b h l = eqb→eq (turnedColumn a * 16 + turnedColumn b) (field (a + b * 16) 0 8) (all-at 16 (pairs a) (all-at 16 (λ k. all 16 (pairs k)) tt a h) b l)
+four-right a b h l = eqb→eq _ _ (all-at 16 (fourRight a) (all-at 16 (λ k. all 16 (fourRight k)) tt a h) b l)
 
-pub two-columns : (a b : ℕ) → a < 256 → b < 256 → turnedColumn a * 16 + turnedColumn b ≡ field (a % 16 + b % 16 * 16) 0 8
-two-columns a b h l = ap₂ (λ (x y : ℕ). x * 16 + y) (by-rows a h) (by-rows b l) ∙ pair-at (a % 16) (b % 16) (mod-lt a (omega arith)) (mod-lt b (omega arith))
-
--- they are a data byte
-pub side-by-side : (v : ℕ) (columns : List ℕ) → getD columns v 0 % 16 + getD columns (v + 1) 0 % 16 * 16 ≡ lowBits 8 4 0 v columns
+side-by-side : (v : ℕ) (columns : List ℕ) → getD columns v 0 % 16 + getD columns (v + 1) 0 % 16 * 16 ≡ lowBits 8 4 0 v columns
 side-by-side v columns =
     omega (arith, low-none 4 0 v columns, low-whole 4 v columns 0 4 (omega arith) _ (ap (λ (i : ℕ). getD columns i 0) (add-zero v)), low-whole 4 v columns 1 4 (omega arith) _ (λ i. getD columns (v + 1) 0))
 
-pub column-pair : (v : ℕ) (columns : List ℕ) → getD columns v 0 < 256 → getD columns (v + 1) 0 < 256 → turnedColumn (getD columns v 0) * 16 + turnedColumn (getD columns (v + 1) 0) ≡ bitsFrom 8 4 0 v columns
-column-pair v columns h l = two-columns (getD columns v 0) (getD columns (v + 1) 0) h l ∙ turned 4 0 v columns _ (side-by-side v columns)
+four-byte : (v : ℕ) (columns : List ℕ) → turnedFour (pairAt columns v) ≡ bitsFrom 8 4 0 v columns
+four-byte v columns = four-right (getD columns v 0 % 16) (getD columns (v + 1) 0 % 16) (mod-lt (getD columns v 0) (omega arith)) (mod-lt (getD columns (v + 1) 0) (omega arith)) ∙ turned 4 0 v columns _ (side-by-side v columns)
 
--- ---- eight columns, as the code has them
+pub pair-small : (columns : List ℕ) (c : ℕ) → pairAt columns c < 256
+pair-small columns c = omega arith
 
-abbrev pub swappedEight : ℕ → ℕ
-swappedEight w = bitOr (bitAnd w 0x0303030303030303 * 4) (bitAnd (w / 4) 0x0303030303030303)
+abbrev pub reversedFour : ℕ → ℕ
+reversedFour w = let s = bitOr (bitAnd w 0x33333333 * 4) (bitAnd (w / 4) 0x33333333) in bitOr (bitAnd s 0x55555555 * 2) (bitAnd (s / 2) 0x55555555)
 
-abbrev pub reversedEight : ℕ → ℕ
-reversedEight w = bitOr (bitAnd (swappedEight w) 0x0505050505050505 * 2) (bitAnd (swappedEight w / 2) 0x0505050505050505)
-
-abbrev pub besideOf : ℕ → ℕ
-besideOf r = r * 16 + r / 256
-
-abbrev pub fourOf : ℕ → ℕ
-fourOf s = s % 256 + s / 0x10000 % 256 * 0x100 + (s / 0x100000000 % 256 + s / 0x1000000000000 % 256 * 0x100) * 0x10000
-
--- each column's rows, four by four
-pub eight-turned : (q : ℕ → ℕ) → ((j : ℕ) → q j < 256) → reversedEight (joined 8 q) ≡ joined 8 (λ j. turnedColumn (q j))
+pub four-words : (v : ℕ) (columns : List ℕ) → reversedFour (joined 4 (λ i. pairAt columns (v + 2 * i))) ≡ joined 4 (λ i. bitsFrom 8 4 0 (v + 2 * i) columns)
 unfolding joined
-eight-turned q h =
-    ap (λ (s : ℕ). bitOr (bitAnd s 0x0505050505050505 * 2) (bitAnd (s / 2) 0x0505050505050505)) (many 3 2 tt 8 q h)
-    ∙ many 5 1 tt 8 (λ j. exchanged 3 2 (q j)) (λ j. exchanged-small 3 2 tt (q j) (h j))
+four-words v columns =
+    let q : ℕ → ℕ = λ i. pairAt columns (v + 2 * i) in
+    ap (λ (s : ℕ). bitOr (bitAnd s 0x55555555 * 2) (bitAnd (s / 2) 0x55555555)) (exchange 4 0x33 2 q (omega arith) (omega arith) (λ i. pair-small columns (v + 2 * i)))
+    ∙ exchange 4 0x55 1 (λ i. exchanged 0x33 2 (q i)) (omega arith) (omega arith) (λ i. exchanged-small 0x33 2 (q i) (omega arith) (omega (arith, and-le-r (q i) 0x33)))
+    ∙ joined-alike 4 _ (λ i. bitsFrom 8 4 0 (v + 2 * i) columns) (λ i. four-byte (v + 2 * i) columns)
 
-pub eight-small : (t : ℕ → ℕ) → ((j : ℕ) → t j < 16) → joined 8 t ≤ 0x0F0F0F0F0F0F0F0F
+-- ---- 1:3
+
+-- a column from bit 5 on and one from bit 2 on
+abbrev turnedTwo : ℕ → ℕ
+turnedTwo x = bitOr (exchanged 0x24 2 x) (bitAnd x 0x48)
+
+turned-word : (q : ℕ → ℕ) → ((j : ℕ) → q j < 256) → turnedThree (joined 4 q) ≡ joined 4 (λ j. turnedTwo (q j))
 unfolding joined
-eight-small t h = omega (arith, h 0, h 1, h 2, h 3, h 4, h 5, h 6, h 7)
+turned-word q h =
+    ap₂ bitOr (exchange 4 0x24 2 q (omega arith) (omega arith) h) (and-joined 4 q (λ j. 0x48) h (λ j. omega arith))
+    ∙ or-joined 4 (λ j. exchanged 0x24 2 (q j)) (λ j. bitAnd (q j) 0x48) (λ j. exchanged-small 0x24 2 (q j) (omega arith) (omega (arith, and-le-r (q j) 0x24))) (λ j. omega (arith, and-le-r (q j) 0x48))
 
--- two columns and those above them
-pair-step : (r a b : ℕ) → a < 16 → b < 16 → r % 256 < 16 → (besideOf ((r * 256 + b) * 256 + a) % 256 ≡ a * 16 + b) × (besideOf ((r * 256 + b) * 256 + a) / 0x10000 ≡ besideOf r)
-pair-step r a b h l m =
-    let down : ((r * 256 + b) * 256 + a) / 256 ≡ r * 256 + b = omega arith in
-    let sum : besideOf ((r * 256 + b) * 256 + a) ≡ (r * 16 + r / 256) * 65536 + ((r % 256 + b * 16) * 256 + (a * 16 + b)) = rw down (omega (arith, div-add-mod' r 256)) in
-    let low : (r % 256 + b * 16) * 256 + (a * 16 + b) < 65536 = omega arith in
-    (rw sum (omega arith), rw sum (digits-div (r * 16 + r / 256) low))
+-- every element: two columns, of which four rows each are there
+abbrev spread : ℕ → ℕ
+spread x = bitAnd x 0x70 * 2 + bitAnd x 7 * 4
 
--- the bytes 0, 2, 4 and 6
-picked : (s₀ s₁ s₂ s₃ : ℕ) → s₀ / 0x10000 ≡ s₁ → s₁ / 0x10000 ≡ s₂ → s₂ / 0x10000 ≡ s₃ → fourOf s₀ ≡ s₀ % 256 + s₁ % 256 * 0x100 + (s₂ % 256 + s₃ % 256 * 0x100) * 0x10000
-picked s₀ s₁ s₂ s₃ e f g =
-    let two : s₀ / 0x100000000 ≡ s₂ = omega arith in
-    let three : s₀ / 0x1000000000000 ≡ s₃ = omega (arith, two) in
-    rw (e, two, three) refl
+abbrev twoRight : ℕ → ℕ → Bool
+twoRight a b = eqb (turnedTwo (spread (a * 16 + b))) (field (a % 8 + b % 8 * 8) 0 8)
 
-pub folded : (t : ℕ → ℕ) → ((j : ℕ) → t j < 16) → fourOf (besideOf (joined 8 t)) ≡ joined 4 (λ i. t (2 * i) * 16 + t (2 * i + 1))
+two-right : (a b : ℕ) → a < 16 → b < 16 → turnedTwo (spread (a * 16 + b)) ≡ field (a % 8 + b % 8 * 8) 0 8
+unfolding field
+two-right a b h l = eqb→eq _ _ (all-at 16 (twoRight a) (all-at 16 (λ k. all 16 (twoRight k)) tt a h) b l)
+
+beside-two : (v : ℕ) (columns : List ℕ) → getD columns v 0 % 16 % 8 + getD columns (v + 1) 0 % 16 % 8 * 8 ≡ lowBits 6 3 0 v columns
+beside-two v columns =
+    omega (arith, low-none 3 0 v columns, low-whole 3 v columns 0 3 (omega arith) _ (ap (λ (i : ℕ). getD columns i 0) (add-zero v)), low-whole 3 v columns 1 3 (omega arith) _ (λ i. getD columns (v + 1) 0))
+
+two-byte : (v : ℕ) (columns : List ℕ) → turnedTwo (spread (pairAt columns v)) ≡ pairOf columns v
+two-byte v columns = two-right (getD columns v 0 % 16) (getD columns (v + 1) 0 % 16) (mod-lt (getD columns v 0) (omega arith)) (mod-lt (getD columns (v + 1) 0) (omega arith)) ∙ turned-six 3 0 v columns _ (beside-two v columns)
+
+abbrev pub spreadFour : ℕ → ℕ
+spreadFour w = bitAnd w 0x70707070 * 2 + bitAnd w 0x07070707 * 4
+
+pub pair-words : (v : ℕ) (columns : List ℕ) → turnedThree (spreadFour (joined 4 (λ i. pairAt columns (v + 2 * i)))) ≡ joined 4 (λ i. pairOf columns (v + 2 * i))
 unfolding joined
-folded t h =
-    let r₃ = (0 * 256 + t 7) * 256 + t 6 in
-    let r₂ = (r₃ * 256 + t 5) * 256 + t 4 in
-    let r₁ = (r₂ * 256 + t 3) * 256 + t 2 in
-    let p₀ = pair-step r₁ (t 0) (t 1) (h 0) (h 1) (omega (arith, h 2)) in
-    let p₁ = pair-step r₂ (t 2) (t 3) (h 2) (h 3) (omega (arith, h 4)) in
-    let p₂ = pair-step r₃ (t 4) (t 5) (h 4) (h 5) (omega (arith, h 6)) in
-    let p₃ = pair-step 0 (t 6) (t 7) (h 6) (h 7) (omega arith) in
-    picked (besideOf (joined 8 t)) (besideOf r₁) (besideOf r₂) (besideOf r₃) (p₀ .1) (p₁ .1) (p₂ .1)
-    ∙ ap₂ (λ (x y : ℕ). x + y * 0x10000) (ap₂ (λ (x y : ℕ). x + y * 0x100) (p₀ .0) (p₁ .0)) (ap₂ (λ (x y : ℕ). x + y * 0x100) (p₂ .0) (p₃ .0))
-    ∙ omega arith
+pair-words v columns =
+    let q : ℕ → ℕ = λ i. pairAt columns (v + 2 * i) in
+    let h : (i : ℕ) → q i < 256 = λ i. pair-small columns (v + 2 * i) in
+    ap turnedThree
+    (ap₂ (λ (x y : ℕ). x * 2 + y * 4) (and-joined 4 q (λ j. 0x70) h (λ j. omega arith)) (and-joined 4 q (λ j. 7) h (λ j. omega arith))
+    ∙ ap₂ _+_ (scaled 4 (λ j. bitAnd (q j) 0x70) 2) (scaled 4 (λ j. bitAnd (q j) 7) 4) ∙ summed 4 (λ j. bitAnd (q j) 0x70 * 2) (λ j. bitAnd (q j) 7 * 4))
+    ∙ turned-word (λ j. spread (q j)) (λ j. omega (arith, and-le-r (q j) 0x70, and-le-r (q j) 7))
+    ∙ joined-alike 4 _ (λ i. pairOf columns (v + 2 * i)) (λ i. two-byte (v + 2 * i) columns)
+
+-- wanted rows: three columns, of the last two rows
+abbrev pub laidOut : ℕ → ℕ → ℕ
+laidOut x y = bitAnd x 0x07070707 * 32 + bitAnd y 0x07070707 * 4
+
+abbrev pub lastRows : ℕ → ℕ
+lastRows z = bitOr (bitAnd z 0x01010101 * 2) (bitAnd (z / 2) 0x01010101)
+
+abbrev byThree : ℕ → ℕ → ℕ → ℕ
+byThree a b c = bitOr (turnedTwo (a * 32 + b * 4)) (exchanged 1 1 c)
+
+abbrev threeRight : ℕ → ℕ → ℕ → Bool
+threeRight a b c = eqb (byThree a b c) (field (a + b * 8 + c % 4 * 64) 0 8)
+
+three-right : (a b c : ℕ) → a < 8 → b < 8 → c < 256 → byThree a b c ≡ field (a + b * 8 + c % 4 * 64) 0 8
+unfolding field
+three-right a b c h l k = eqb→eq _ _ (all-at 256 (threeRight a b) (all-at 8 (λ j. all 256 (threeRight a j)) (all-at 8 (λ i. all 8 (λ j. all 256 (threeRight i j))) tt a h) b l) c k)
+
+beside-three : (v : ℕ) (columns : List ℕ) → getD columns v 0 % 8 + getD columns (v + 1) 0 % 8 * 8 + getD columns (v + 2) 0 % 4 * 64 ≡ lowBits 8 3 0 v columns
+beside-three v columns =
+    omega (arith, low-none 3 0 v columns, low-whole 3 v columns 0 3 (omega arith) _ (ap (λ (i : ℕ). getD columns i 0) (add-zero v)), low-whole 3 v columns 1 3 (omega arith) _ (λ i. getD columns (v + 1) 0), low-whole 3 v columns 2 2 (omega arith) _ (λ i. getD columns (v + 2) 0))
+
+-- one byte, as it is read
+pub three-read : (v : ℕ) (columns : List ℕ) → field (getD columns v 0 % 8 + getD columns (v + 1) 0 % 8 * 8 + getD columns (v + 2) 0 % 4 * 64) 0 8 ≡ bitsFrom 8 3 0 v columns
+three-read v columns = turned 3 0 v columns _ (beside-three v columns)
+
+pub three-words : (v : ℕ) (columns : List ℕ) → ((i : ℕ) → getD columns i 0 < 256)
+    → bitOr (turnedThree (laidOut (joined 4 (λ i. getD columns (v + 3 * i) 0)) (joined 4 (λ i. getD columns (v + 3 * i + 1) 0)))) (lastRows (joined 4 (λ i. getD columns (v + 3 * i + 2) 0)))
+    ≡ joined 4 (λ i. bitsFrom 8 3 0 (v + 3 * i) columns)
+unfolding joined
+three-words v columns h =
+    let a : ℕ → ℕ = λ i. getD columns (v + 3 * i) 0 in
+    let b : ℕ → ℕ = λ i. getD columns (v + 3 * i + 1) 0 in
+    let c : ℕ → ℕ = λ i. getD columns (v + 3 * i + 2) 0 in
+    let low : (p : ℕ → ℕ) → ((i : ℕ) → p i < 256) → bitAnd (joined 4 p) 0x07070707 ≡ joined 4 (λ i. p i % 8) = λ p l. and-joined 4 p (λ i. 7) l (λ i. omega arith) ∙ joined-alike 4 _ (λ i. p i % 8) (λ i. and-mask (p i) 3) in
+    let both : laidOut (joined 4 a) (joined 4 b) ≡ joined 4 (λ i. a i % 8 * 32 + b i % 8 * 4) =
+    ap₂ (λ (x y : ℕ). x * 32 + y * 4) (low a (λ i. h (v + 3 * i))) (low b (λ i. h (v + 3 * i + 1)))
+    ∙ ap₂ _+_ (scaled 4 (λ i. a i % 8) 32) (scaled 4 (λ i. b i % 8) 4) ∙ summed 4 (λ i. a i % 8 * 32) (λ i. b i % 8 * 4) in
+    let two : (i : ℕ) → exchanged 1 1 (c i) < 256 = λ i. exchanged-small 1 1 (c i) (omega arith) (omega (arith, and-le-r (c i) 1)) in
+    let six : (i : ℕ) → turnedTwo (a i % 8 * 32 + b i % 8 * 4) < 256 =
+    λ i. let x = a i % 8 * 32 + b i % 8 * 4 in or-lt 8 (exchanged 0x24 2 x) (bitAnd x 0x48) (exchanged-small 0x24 2 x (omega arith) (omega (arith, and-le-r x 0x24))) (omega (arith, and-le-r x 0x48)) in
+    ap₂ bitOr (ap turnedThree both ∙ turned-word (λ i. a i % 8 * 32 + b i % 8 * 4) (λ i. omega arith)) (exchange 4 1 1 c (omega arith) (omega arith) (λ i. h (v + 3 * i + 2)))
+    ∙ or-joined 4 (λ i. turnedTwo (a i % 8 * 32 + b i % 8 * 4)) (λ i. exchanged 1 1 (c i)) six two
+    ∙ joined-alike 4 _ (λ i. bitsFrom 8 3 0 (v + 3 * i) columns)
+    (λ i. three-right (a i % 8) (b i % 8) (c i) (mod-lt (a i) (omega arith)) (mod-lt (b i) (omega arith)) (h (v + 3 * i + 2)) ∙ three-read (v + 3 * i) columns)

@@ -1,4 +1,5 @@
 pub mod Lows
-pub mod Products
+pub mod Bytewise
+pub mod Folds
 pub mod Exchanged
 pub mod Gathering

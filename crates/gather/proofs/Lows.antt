@@ -1,11 +1,11 @@
 -- A data byte with its bits in the other order: in the right order it is the data byte, and a column of it is one field.
 -- Assumes nothing.
-use mathlib.Core.Path.{_≡_, refl, sym, ap, _∙_}
+use mathlib.Core.Path.{_≡_, refl, ap, _∙_}
 use mathlib.Core.Logic.{⊎-elim, _≢_}
 use mathlib.Core.Bool.{cond}
 use mathlib.Core.List.{List}
 use Prim.Native.Nat.{ℕ, zero, suc, _+_, _-_, _*_, _/_, _%_, _^_, _≤_, _<_}
-use native.Mathlib.Nat.{add-zero, add-assoc, add-suc, add-comm, mul-comm, mod-one, div-one, div-eq-of-lt, lt-of-lt-of-le, mul-zero, mul-suc, le-refl, le-of-lt, pow-suc, mul-le-mul-right, le-of-suc-le-suc}
+use native.Mathlib.Nat.{add-zero, add-suc, add-comm, mul-comm, mod-one, div-one, div-eq-of-lt, lt-of-lt-of-le, le-of-lt, pow-suc, mul-le-mul-right, le-of-suc-le-suc}
 use native.Mathlib.Omega.{arith}
 use lib.Arith.{digits-div, digits-mod, mod-mul}
 use lib.Dec.{ltb}
@@ -18,7 +18,11 @@ use Rattle.writer_sheet.specs.Writer.{bitFrom, bitsFrom}
 use Rattle.laws.proofs.Rows.{row-of-low}
 use Rattle.laws.proofs.Wanted.{bit-lt}
 use Rattle.words.specs.Fields.{field}
-use Rattle.gather.specs.Lows.{lowBits}
+
+-- the first n bits of the data byte that begins at column v, the first of them lowest
+unfoldable pub lowBits : ℕ → ℕ → ℕ → ℕ → List ℕ → ℕ
+lowBits zero m b v columns = 0
+lowBits (suc k) m b v columns = lowBits k m b v columns + bitFrom m b v columns k * 2 ^ k
 
 -- ---- its bits
 
@@ -97,18 +101,6 @@ low-column m b v columns j (suc h) l =
     rw (add-suc (m * j) h, low-column m b v columns j h (le-of-lt l), d, e, field-more q b h)
     (omega (arith, ap (λ (n : ℕ). q / 2 ^ (b + h) % 2 * n) (pow-add 2 (m * j) h)))
 
--- four columns of h rows
-pub low-four : (h b v : ℕ) (columns : List ℕ) → let rows : ℕ → ℕ = λ j. getD columns (v + j) 0 / 2 ^ b % 2 ^ h in
-    lowBits (h * 4) h b v columns ≡ rows 0 + rows 1 * 2 ^ (h * 1) + rows 2 * 2 ^ (h * 2) + rows 3 * 2 ^ (h * 3)
-unfolding lowBits
-low-four h b v columns =
-    let rows : ℕ → ℕ = λ j. getD columns (v + j) 0 / 2 ^ b % 2 ^ h in
-    let one : (j : ℕ) → lowBits (h * suc j) h b v columns ≡ lowBits (h * j) h b v columns + rows j * 2 ^ (h * j) =
-    λ j. ap (λ (n : ℕ). lowBits n h b v columns) (mul-suc h j) ∙ low-column h b v columns j h (le-refl h) in
-    let none : lowBits (h * 0) h b v columns ≡ 0 = rw (mul-zero h) refl in
-    let first : rows 0 * 2 ^ (h * 0) ≡ rows 0 = rw (mul-zero h) (omega arith) in
-    omega (arith, one 0, one 1, one 2, one 3, none, first)
-
 -- a column of h rows more, by its number in the byte
 pub low-next : (m b v : ℕ) (columns : List ℕ) (j h : ℕ) → h ≤ m → (q : ℕ) → getD columns (v + j) 0 ≡ q
     → lowBits (m * j + h) m b v columns ≡ lowBits (m * j) m b v columns + q / 2 ^ b % 2 ^ h * 2 ^ (m * j)
@@ -121,9 +113,3 @@ low-whole m v columns j h l q e = low-next m 0 v columns j h l q e ∙ ap (λ (k
 pub low-none : (m b v : ℕ) (columns : List ℕ) → lowBits 0 m b v columns ≡ 0
 unfolding lowBits
 low-none m b v columns = refl
-
--- static: the second four columns
-pub low-eight : (b v : ℕ) (columns : List ℕ) → lowBits 4 1 b v columns + 16 * lowBits 4 1 b (v + 4) columns ≡ lowBits 8 1 b v columns
-low-eight b v columns =
-    let same : (j : ℕ) → getD columns (v + (4 + j)) 0 ≡ getD columns (v + 4 + j) 0 = λ j. ap (λ (i : ℕ). getD columns i 0) (sym (add-assoc v 4 j)) in
-    omega (arith, low-four 1 b (v + 4) columns, low-next 1 b v columns 4 1 (omega arith) _ (same 0), low-next 1 b v columns 5 1 (omega arith) _ (same 1), low-next 1 b v columns 6 1 (omega arith) _ (same 2), low-next 1 b v columns 7 1 (omega arith) _ (same 3))

@@ -1,1 +1,1 @@
-pub mod Lows
+pub mod Gathered

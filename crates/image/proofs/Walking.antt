@@ -1,18 +1,17 @@
 -- What a record is, is how the walk over a file goes on.
 -- Assumes nothing.
-use mathlib.Core.Path.{_≡_, refl, sym, ap, ap₂, subst, _∙_}
+use mathlib.Core.Path.{_≡_, refl, sym, subst, _∙_}
 use mathlib.Core.Bool.{Bool, true, false, cond}
-use mathlib.Core.List.{List, [], _∷_}
-use Prim.Native.Nat.{ℕ, _+_, _≤_, _<_}
+use mathlib.Core.List.{List, _∷_}
+use Prim.Native.Nat.{ℕ, _+_, _<_}
 use native.Mathlib.Omega.{arith}
 use lib.Dec.{eqb}
-use lib.ListN.{length, getD, drop, drop-of-length-le}
+use lib.ListN.{length, drop}
 use lib.Seq.{drop-drop}
 use Rattle.lemmas.proofs.Lists.{next}
 use Rattle.sheet.specs.declared.Check.{Check}
 use Rattle.sheet.specs.declared.Check.the-variants.{Passed, Refused}
-use Rattle.sheet.specs.declared.Refusal.the-variants.{NoEnd}
-use Rattle.image_sheet.specs.Images.{bytesOf, digitsIn, sizeIn, kindOf, stored, Image, image, ended, orFault, faultIn, imageFrom, no-records, a-record}
+use Rattle.image_sheet.specs.Images.{bytesOf, digitsIn, sizeIn, kindOf, stored, image, ended, orFault, faultIn, imageFrom, a-record}
 use Rattle.hexrecord.specs.declared.Step.{Step}
 use Rattle.hexrecord.specs.declared.Step.the-variants.{Next, Last}
 use Rattle.hexrecord.specs.Lines.{stepOf, givenAfter}

@@ -5,7 +5,7 @@ use sheet::Chips;
 use sheet::Refusal;
 use sheet::Written;
 ghost use mathlib.Core.Path.{_≡_};
-ghost use Prim.Native.Nat.{_+_, _*_, _%_, _/_, _≤_, _<_};
+ghost use Prim.Native.Nat.{_+_, _*_, _/_, _≤_, _<_};
 ghost use lib.ListN.{length, drop, replicate};
 ghost use Rattle.sheet.specs.Refusals.{writtenNumbers};
 ghost use Rattle.image_sheet.specs.Hex.{dataLines, fileOf, oneGroup, hexWritePart};
@@ -78,18 +78,17 @@ pub fn write(part: u8, chips: u8, ram: &[u8], out: &mut [u8]) -> Written
 
 // ---- a file is read
 
-// 26.
+// 26: where no record gave a column, it is over 15.
 fn first_missing(given: &[u8]) -> Check
     ensures { λ r. ⌜ r ≡ missingIn 0 (now (given .entry)) ⌝ }
 {
-    let mut i = 0;
-    while i < given.len() {
-        if 15 < given[i] {
-            return Check::Refused(Refusal::AddressMissing(i));
+    match checks::search_over(given) {
+        Check::Refused(refusal) => {
+            let place = answers::place_of(refusal);
+            Check::Refused(Refusal::AddressMissing(place))
         }
-        i += 1;
+        Check::Passed => Check::Passed,
     }
-    Check::Passed
 }
 
 // After the end record: 27, then 26.

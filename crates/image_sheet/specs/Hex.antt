@@ -1,6 +1,6 @@
 -- RAM images for the glass maker (paper 02, request 13), Intel HEX: a record, its line, a group's file, and the call that writes it. Reading is in `Images`.
 -- A record is :LLAAAATTDD..CC, its length, address, type (00 data, 01 end), as many data bytes as the length says, and a checksum; LF ends its line.
-use Prim.Native.Nat.{ℕ, zero, suc, _+_, _-_, _*_, _/_, _%_}
+use Prim.Native.Nat.{ℕ, zero, suc, _+_, _-_, _/_, _%_}
 use mathlib.Core.Bool.{cond}
 use mathlib.Core.List.{List, [], _∷_, _++_}
 use lib.Dec.{ltb}

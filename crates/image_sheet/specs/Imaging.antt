@@ -1,6 +1,6 @@
 -- RAM images (paper 02, request 13), computed: a file that is written, files that are read, and the orders of refusals.
 use Prim.Native.Nat.{ℕ, _+_, _%_}
-use mathlib.Core.Bool.{Bool, true, false, cond, _&&_}
+use mathlib.Core.Bool.{Bool, true, cond, _&&_}
 use mathlib.Core.List.{List, [], _∷_, _++_}
 use lib.Dec.{T}
 use lib.ListN.{take, replicate}
@@ -10,7 +10,7 @@ use Rattle.sheet.specs.Checks.{checkPart, checkChips, checkRam, checkPowerOn, o
 use Rattle.image_sheet.specs.Hex.{textOf, sumOf, checksumOf, headOf, recordOf, dataLines, fileOf, hexWritePart}
 use Rattle.image_sheet.specs.Images.{valueOf, areDigits, bytesOf, digitsIn, lineEnd, endIn, isLine, sizeIn, noneGiven, headFault, dataFault, faultIn, missingIn, imageIn, imageFrom, imageOf, checkFile, hexReadPart}
 use Rattle.sheet.specs.Starred.{same}
-use Rattle.sheet.specs.Orders.{Fault, refusal, inOrder, is}
+use Rattle.sheet.specs.Orders.{refusal, inOrder, is}
 
 -- ---- a file that is written: columns 0 to 15, and a seventeenth, which is 15
 

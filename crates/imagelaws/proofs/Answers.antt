@@ -1,7 +1,7 @@
 -- What a call that reads answers: refused before the file, by the file, or all of it.
 -- Assumes nothing.
 use mathlib.Core.Path.{_≡_, refl, sym, ap, ap₂, _∙_}
-use mathlib.Core.List.{List, [], _∷_, _++_, append-nil}
+use mathlib.Core.List.{List, _∷_, _++_, append-nil}
 use Prim.Native.Nat.{ℕ, zero, suc, _*_, _≤_}
 use native.Mathlib.Nat.{le-refl}
 use native.Mathlib.Omega.{arith}
@@ -12,7 +12,7 @@ use Rattle.sheet.specs.declared.Check.{Check}
 use Rattle.sheet.specs.declared.Check.the-variants.{Passed, Refused}
 use Rattle.sheet.specs.Parts.{partOf}
 use Rattle.sheet.specs.Checks.{orElse}
-use Rattle.sheet.specs.Written.{WrittenAfter, writtenBy}
+use Rattle.sheet.specs.Written.{writtenBy}
 use Rattle.image_sheet.specs.Images.{Image, image, imageOf, checkFile, hexReadPart}
 
 pub take-replicate : (n m : ℕ) (a : ℕ) → n ≤ m → take n (replicate m a) ≡ replicate n a

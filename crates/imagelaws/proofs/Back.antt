@@ -1,21 +1,21 @@
 -- Writing, then reading, gives the RAM back.
 -- Assumes nothing.
-use mathlib.Core.Path.{_≡_, refl, sym, ap, ap₂, subst, _∙_}
-use mathlib.Core.Bool.{Bool, true, false, cond, _&&_, _||_, true≢false}
-use mathlib.Core.List.{List, [], _∷_, _++_, append-assoc, append-nil}
+use mathlib.Core.Path.{_≡_, refl, ap, ap₂, _∙_}
+use mathlib.Core.Bool.{Bool, true, false, cond, _||_}
+use mathlib.Core.List.{List, [], _∷_, _++_, append-assoc}
 use Prim.Native.Nat.{ℕ, zero, suc, _+_, _-_, _*_, _/_, _%_, _≤_, _<_}
 use native.Mathlib.Omega.{arith}
-use lib.Dec.{eqb, ltb, leb}
-use lib.ListN.{length, getD, take, drop, replicate, length-append, length-take, length-drop, length-replicate, take-append-drop}
-use lib.Seq.{sets, sets-eq, take-at, drop-at, take-append-seam, drop-append-seam, drop-append-add}
-use borrow.Author.Tests.{eq-eqb, le-leb, lt-ltb, le-ltb}
+use lib.Dec.{eqb, leb}
+use lib.ListN.{length, take, drop, replicate, length-append, length-take, length-drop, length-replicate, take-append-drop}
+use lib.Seq.{sets, sets-eq, take-at, take-append-seam, drop-append-seam, drop-append-add}
+use borrow.Author.Tests.{eq-eqb, le-leb, le-ltb}
 use Rattle.sheet.specs.declared.Check.{Check}
-use Rattle.sheet.specs.declared.Check.the-variants.{Passed, Refused}
+use Rattle.sheet.specs.declared.Check.the-variants.{Passed}
 use Rattle.sheet.specs.declared.Refusal.the-variants.{RamByte, AddressOutside, AddressTwice}
 use Rattle.sheet.specs.Parts.{within}
 use Rattle.sheet.specs.Checks.{unless, orElse, passed, overIn}
 use Rattle.image_sheet.specs.Hex.{textOf, sumOf, checksumOf, headOf, recordOf, lineOf, dataLines, fileOf}
-use Rattle.image_sheet.specs.Images.{valueOf, areDigits, bytesOf, digitsIn, lineEnd, endIn, isLine, sizeIn, countOf, addressOf, kindOf, dataOf, inside, noneGiven, headFault, dataFault, faultOf, faultIn, stored, Image, image, missingIn, ended, orFault, imageFrom, imageOf, a-record}
+use Rattle.image_sheet.specs.Images.{valueOf, areDigits, bytesOf, digitsIn, lineEnd, endIn, isLine, sizeIn, countOf, addressOf, kindOf, dataOf, noneGiven, headFault, dataFault, faultOf, faultIn, stored, Image, image, missingIn, ended, orFault, imageFrom, imageOf, a-record}
 use Rattle.laws.proofs.Nibbles.{Nibbles, check-nibbles, take-nibbles, drop-nibbles, join-nibbles}
 use Rattle.imagelaws.proofs.Lines.{Bytes, bytes-append, is-line, its-bytes, then-rest, sum-zero}
 use Rattle.imagelaws.proofs.Answers.{take-replicate}

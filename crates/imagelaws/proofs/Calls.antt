@@ -1,9 +1,9 @@
 -- The same by the calls: what a call wrote, a call reads back; and a refused file changes nothing.
 -- Assumes nothing.
-use mathlib.Core.Path.{_≡_, refl, sym, ap, ap₂, _∙_}
+use mathlib.Core.Path.{_≡_, refl, sym, ap, _∙_}
 use mathlib.Core.Bool.{Bool, true, false, true≢false}
-use mathlib.Core.List.{List, [], _∷_, _++_}
-use Prim.Native.Nat.{ℕ, _+_, _*_, _/_, _≤_}
+use mathlib.Core.List.{List}
+use Prim.Native.Nat.{ℕ, _*_, _≤_}
 use native.Mathlib.Omega.{arith}
 use lib.ListN.{length, take, drop}
 use lib.Seq.{take-at}
@@ -15,9 +15,9 @@ use Rattle.sheet.specs.declared.Check.{Check}
 use Rattle.sheet.specs.declared.Check.the-variants.{Passed, Refused}
 use Rattle.sheet.specs.Parts.{partOf}
 use Rattle.sheet.specs.Checks.{orElse, checkPart, checkPowerOn}
-use Rattle.sheet.specs.Written.{WrittenAfter, writtenBy, checkRoom}
+use Rattle.sheet.specs.Written.{writtenBy, checkRoom}
 use Rattle.image_sheet.specs.Hex.{fileOf, oneGroup, hexWritePart}
-use Rattle.image_sheet.specs.Images.{image, imageOf, checkFile, hexReadPart}
+use Rattle.image_sheet.specs.Images.{imageOf, checkFile, hexReadPart}
 use Rattle.image_sheet.specs.Covered.{GivesBack, Untouched}
 use Rattle.laws.proofs.Fits.{both-pass, unless-passes}
 use Rattle.laws.proofs.First.{or-else}

@@ -1,20 +1,20 @@
 -- A line that was written, as it is read: it is a line, its bytes are the record's, and what follows it is the rest.
 -- Assumes nothing.
-use mathlib.Core.Path.{_≡_, refl, sym, ap, ap₂, _∙_}
-use mathlib.Core.Bool.{Bool, true, false, _&&_}
+use mathlib.Core.Path.{_≡_, refl, ap, ap₂, _∙_}
+use mathlib.Core.Bool.{Bool, true, false}
 use mathlib.Core.List.{List, [], _∷_, _++_, append-assoc}
-use Prim.Native.Nat.{ℕ, zero, suc, _+_, _-_, _*_, _/_, _%_, _≤_, _<_}
+use Prim.Native.Nat.{ℕ, _+_, _-_, _*_, _/_, _%_, _<_}
 use native.Mathlib.Omega.{arith}
-use lib.Dec.{eqb, ltb}
+use lib.Dec.{eqb}
 use lib.ListN.{length, getD, take, drop, length-append}
-use lib.Seq.{take-at, drop-at, getD-at, getD-drop}
+use lib.Seq.{take-at, drop-at, getD-at}
 use borrow.Author.Tests.{eqb-true, lt-ltb}
 use lib.Dec.{T}
-use Rattle.lemmas.proofs.Tests.{all, all-at}
+use Rattle.lemmas.proofs.Tests.{all-at}
 use Rattle.sheet.specs.Parts.{within}
-use Rattle.image_sheet.specs.Hex.{digitOf, textOf, sumOf, checksumOf, headOf, recordOf, lineOf}
+use Rattle.image_sheet.specs.Hex.{digitOf, textOf, sumOf, checksumOf, lineOf}
 use Rattle.image_sheet.specs.Images.{valueOf, pairOf, areDigits, bytesOf, countIn, digitsIn, lineEnd, endIn, isLine, sizeIn}
-use Rattle.laws.proofs.Hexadecimal.{length-text, length-line, sum-append}
+use Rattle.laws.proofs.Hexadecimal.{length-text, sum-append}
 
 -- every number of a list is a byte
 abbrev pub Bytes : List ℕ → Type 0

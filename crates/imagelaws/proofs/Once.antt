@@ -2,23 +2,23 @@
 -- Assumes nothing.
 use mathlib.Core.Path.{_≡_, refl, sym, ap, ap₂, subst, _∙_}
 use mathlib.Core.Logic.{⊎-elim, inl, inr, _⊎_}
-use mathlib.Core.Bool.{Bool, true, false, cond, _&&_, _||_, true≢false}
+use mathlib.Core.Bool.{Bool, true, false, cond, true≢false}
 use mathlib.Core.List.{List, [], _∷_, _++_}
-use Prim.Native.Nat.{ℕ, zero, suc, _+_, _-_, _*_, _%_, _≤_, _<_}
+use Prim.Native.Nat.{ℕ, zero, suc, _+_, _-_, _≤_, _<_}
 use native.Mathlib.Omega.{arith}
-use lib.Dec.{T, eqb, ltb, leb}
+use lib.Dec.{eqb, ltb}
 use lib.ListN.{length, getD, set, take, drop, replicate, length-set, length-replicate, getD-replicate, length-take}
 use lib.Seq.{sets, length-sets, getD-set-same, getD-set-other, drop-cons, drop-set-lt}
-use borrow.Author.Tests.{eq-eqb, ne-eqb, ltb-true, ltb-false, leb-true, eqb-true}
+use borrow.Author.Tests.{eq-eqb, ne-eqb, ltb-true, ltb-false, leb-true}
 use Rattle.lemmas.proofs.Tests.{both-true}
-use Rattle.lemmas.proofs.Order.{lt-or-le, equal-or-not}
+use Rattle.lemmas.proofs.Order.{equal-or-not}
 use Rattle.sheet.specs.declared.Check.{Check}
 use Rattle.sheet.specs.declared.Check.the-variants.{Passed, Refused}
 use Rattle.sheet.specs.declared.Refusal.{Refusal}
-use Rattle.sheet.specs.declared.Refusal.the-variants.{RamByte, RecordForm, AddressOutside, AddressTwice, AddressMissing, NoEnd}
-use Rattle.sheet.specs.Checks.{unless, orElse, passed, overIn}
+use Rattle.sheet.specs.declared.Refusal.the-variants.{RamByte, RecordForm, AddressOutside, AddressTwice, NoEnd}
+use Rattle.sheet.specs.Checks.{unless, passed, overIn}
 use Rattle.image_sheet.specs.Images.{bytesOf, digitsIn, sizeIn, countOf, addressOf, kindOf, dataOf, isLine, inside, noneGiven, headFault, dataFault, faultOf, faultIn, stored, Image, image, missingIn, ended, orFault, imageIn, imageFrom, imageOf}
-use Rattle.image_sheet.specs.Covered.{valuesAt, valuesIn, valuesOf, Covered, Accepted}
+use Rattle.image_sheet.specs.Covered.{valuesAt, valuesIn, Covered, Accepted}
 use Rattle.laws.proofs.Fits.{both-pass, unless-passes}
 use Rattle.laws.proofs.Nibbles.{nibbles-of}
 

@@ -19,7 +19,7 @@ use Rattle.sheet.specs.Long.{Group, byteOf, byte, dataByte, heard, heardWhole}
 use Rattle.sheet.specs.Places.{position, atPosition}
 use Rattle.sheet.specs.Data.{widthOf}
 use Rattle.sheet.specs.Agree.{Keeps}
-use Rattle.laws.proofs.Ranges.{MarksIn, InRange, range-of, in-range, marked-in, pcf8532-kept, pca85133-kept, rows-fit}
+use Rattle.laws.proofs.Ranges.{InRange, range-of, in-range, marked-in, pcf8532-kept, pca85133-kept, rows-fit}
 use Rattle.laws.proofs.Named.{of-both}
 use Rattle.laws.proofs.Steps.{stays-in}
 use Rattle.laws.proofs.Runs.{length-bits}

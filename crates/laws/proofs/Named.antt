@@ -15,7 +15,7 @@ use Rattle.sheet.specs.declared.Registers.{Registers}
 use Rattle.sheet.specs.Parts.{Part, partOf, pcf8532, pca85133}
 use Rattle.sheet.specs.Protocol.{Sent}
 use Rattle.sheet.specs.Checks.{checkPart}
-use Rattle.sheet.specs.Long.{transferCall, pictureCall, transferPart, picturePart}
+use Rattle.sheet.specs.Long.{transferCall, transferPart}
 use Rattle.sheet.specs.Places.{position}
 use Rattle.laws.proofs.Ranges.{InRange, position-lt}
 
@@ -40,10 +40,6 @@ is-pcf8532 part d = rw (ne-eqb _ _ d)
 pub zero-transfer : (n : Chips) (r : Both) (ram : List ℕ) (t : Sent) → transferPart 0 n r ram t ≡ transferCall pcf8532 n r ram t
 unfolding transferPart checkPart partOf
 zero-transfer n r ram t = refl
-
-pub zero-picture : (n : Chips) (r : Both) (ram : List ℕ) (g phase : ℕ) (out : List ℕ) → picturePart 0 n r ram g phase out ≡ pictureCall pcf8532 n r ram g phase out
-unfolding picturePart checkPart partOf
-zero-picture n r ram g phase out = refl
 
 -- ---- sizes
 

@@ -4,13 +4,12 @@ use mathlib.Core.Path.{_≡_, refl, sym, ap, ap₂, subst, _∙_}
 use mathlib.Core.Logic.{_≢_}
 use mathlib.Core.Bool.{Bool, true, false, cond, _&&_, _||_}
 use mathlib.Core.List.{List, [], _∷_, _++_, map}
-use Prim.Native.Nat.{ℕ, zero, suc, _+_, _-_, _*_, _≤_, _<_}
-use native.Mathlib.Nat.{add-zero}
+use Prim.Native.Nat.{ℕ, zero, suc, _+_, _-_, _≤_, _<_}
 use native.Mathlib.Omega.{arith}
 use lib.Dec.{T, eqb, ltb, leb}
-use lib.ListN.{length, getD, take, drop, length-append, length-map}
+use lib.ListN.{length, getD, take, drop}
 use lib.Seq.{take-at}
-use borrow.Author.Tests.{lt-ltb, le-ltb, ltb-true, ltb-false, eq-eqb, ne-eqb, eqb-true, eqb-false, leb-true, le-leb}
+use borrow.Author.Tests.{lt-ltb, le-ltb, ltb-true, ne-eqb, eqb-true, eqb-false, leb-true, le-leb}
 use Rattle.lemmas.proofs.Tests.{both-true, all, all-at}
 use Rattle.price_sheet.specs.declared.Symbol.{Symbol}
 use Rattle.price_sheet.specs.declared.Symbol.the-variants.{Digit, Pointed, Space, Minus, LongMinus}
@@ -20,11 +19,11 @@ use Rattle.sheet.specs.declared.Check.{Check}
 use Rattle.sheet.specs.declared.Check.the-variants.{Passed, Refused}
 use Rattle.sheet.specs.Parts.{within}
 use Rattle.sheet.specs.Checks.{orElse, passed}
-use Rattle.sheet.specs.Written.{WrittenAfter, writtenBy}
+use Rattle.sheet.specs.Written.{writtenBy}
 use Rattle.price_sheet.specs.Price.{isSymbol, textOf, textsOf, plain, segmentsOf, byteOf, begun, begunAt, Spelled, andThen, moreOf, spelledFrom, spelled, shownAs, shownBelow, shown, readFrom, checkPrice, Sizes, priceBy, priceWrite, priceRead}
-use Rattle.price_sheet.specs.Prices.{areSymbols, whole, Grammar, Bytes, plainText, written, ReadsBack, WritesBack}
-use Rattle.laws.proofs.Symbols.{Shown, shown-is, shown-plain, nothing, inside, begun-symbol}
-use Rattle.laws.proofs.Spelling.{sizes, bytes-fit, texts-fit}
+use Rattle.price_sheet.specs.Prices.{areSymbols, whole, Grammar, Bytes, written, ReadsBack, WritesBack}
+use Rattle.laws.proofs.Symbols.{shown-is, nothing, inside, begun-symbol}
+use Rattle.laws.proofs.Spelling.{sizes, bytes-fit}
 
 -- ---- a symbol's byte is read as it
 

@@ -1,13 +1,13 @@
 -- A price's text and its data bytes, symbol by symbol (paper 02, request 1).
 -- Assumes nothing.
 use mathlib.Core.Path.{_≡_, refl, sym, ap, ap₂, subst, _∙_}
-use mathlib.Core.Bool.{Bool, true, false, cond, _&&_}
-use mathlib.Core.List.{List, [], _∷_, _++_, map}
+use mathlib.Core.Bool.{Bool, true, false}
+use mathlib.Core.List.{List, [], _∷_, map}
 use Prim.Native.Nat.{ℕ, zero, suc, _+_, _-_, _*_, _≤_, _<_}
 use native.Mathlib.Nat.{add-zero}
 use native.Mathlib.Numerals.{add-one}
 use native.Mathlib.Omega.{arith}
-use lib.Dec.{T, eqb, ltb, leb}
+use lib.Dec.{T, ltb, leb}
 use lib.ListN.{length, getD, drop, length-append, length-map}
 use lib.Seq.{drop-drop, getD-drop}
 use borrow.Author.Tests.{ltb-true, leb-true}
@@ -16,11 +16,11 @@ use Rattle.price_sheet.specs.declared.Symbol.{Symbol}
 use Rattle.price_sheet.specs.declared.Symbol.the-variants.{Digit, Pointed, Space, Minus, LongMinus}
 use Rattle.price_sheet.specs.declared.Found.{Found}
 use Rattle.sheet.specs.declared.Check.{Check}
-use Rattle.sheet.specs.declared.Check.the-variants.{Passed, Refused}
+use Rattle.sheet.specs.declared.Check.the-variants.{Passed}
 use Rattle.sheet.specs.declared.Refusal.the-variants.{LongTransfer, Register, OutputLength}
 use Rattle.sheet.specs.Checks.{unless, orElse, passed}
-use Rattle.price_sheet.specs.Price.{isSymbol, textOf, textsOf, plain, byteOf, begun, begunAt, Spelled, andThen, moreOf, spelledFrom, spelled, shown, readFrom, checkPrice, Sizes}
-use Rattle.laws.proofs.Symbols.{Shown, shown-is, plain-short}
+use Rattle.price_sheet.specs.Price.{textOf, textsOf, byteOf, begun, begunAt, Spelled, andThen, moreOf, spelledFrom, spelled, shown, readFrom, checkPrice, Sizes}
+use Rattle.laws.proofs.Symbols.{shown-is, plain-short}
 
 -- ---- a text
 

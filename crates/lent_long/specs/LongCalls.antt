@@ -7,12 +7,14 @@ use lib.Dec.{eqb}
 use lib.ListN.{length, getD}
 use Rattle.sheet.specs.declared.Chips.{Chips}
 use Rattle.sheet.specs.declared.Answer.{Answer}
+use Rattle.sheet.specs.declared.PowerOn.{PowerOn}
 use Rattle.sheet.specs.declared.Addressed.the-variants.{To}
 use Rattle.sheet.specs.declared.Check.the-variants.{Passed}
 use Rattle.sheet.specs.Refusals.{numbers, pictureNumbers, checkNumbers}
 use Rattle.sheet.specs.Parts.{Part, partOf}
 use Rattle.sheet.specs.Protocol.{heardBy, Sent, addressByte}
 use Rattle.sheet.specs.Checks.{orElse, checkSent, checkBytes, checkState}
+use Rattle.sheet.specs.Pictures.{Seen}
 use Rattle.sheet.specs.Long.{After, answered, taken, powerOnPart, transferPart, picturePart}
 use Rattle.wire.specs.Bytes.{bothOf, bothBytes}
 
@@ -57,17 +59,23 @@ abbrev pub sized : List ℕ → List ℕ → List ℕ → Called → Called
 sized registers buffer answer c =
     cond (eqb (length registers) 24 && eqb (length answer) 6) c (record { number = 255; registers = registers; buffer = buffer; answer = answer })
 
-unfoldable pub powerOnC : ℕ → Chips → List ℕ → List ℕ → List ℕ → Called
-powerOnC part n ram registers answer =
-    let p = powerOnPart part n ram in
+-- what a power-on says, and the registers that it gives
+abbrev pub poweredC : List ℕ → List ℕ → List ℕ → PowerOn → Called
+poweredC registers ram answer p =
     let k = checkNumbers (p .check) in
     sized registers ram answer (record { number = getD k 0 0; registers = bothBytes (p .registers); buffer = ram; answer = k })
 
-unfoldable pub transferC : ℕ → Chips → List ℕ → List ℕ → Sent → List ℕ → Called
-transferC part n registers ram transfer answer =
-    let t = transferPart part n (bothOf registers) ram transfer in
+unfoldable pub powerOnC : ℕ → Chips → List ℕ → List ℕ → List ℕ → Called
+powerOnC part n ram registers answer = poweredC registers ram answer (powerOnPart part n ram)
+
+-- what a transfer says, and what it leaves
+abbrev pub afterC : ℕ → List ℕ → List ℕ → List ℕ → After → Called
+afterC part registers ram answer t =
     let k = numbers (partOf part) (t .result .answer) in
     sized registers ram answer (record { number = getD k 0 0; registers = bothBytes (t .result .registers); buffer = t .ram; answer = k })
+
+unfoldable pub transferC : ℕ → Chips → List ℕ → List ℕ → Sent → List ℕ → Called
+transferC part n registers ram transfer answer = afterC part registers ram answer (transferPart part n (bothOf registers) ram transfer)
 
 -- ---- calls that lend one buffer to write: a picture, chips, a transfer or a log
 
@@ -85,7 +93,8 @@ abbrev pub saidC : Bool → List ℕ → List ℕ → List ℕ → List ℕ → 
 saidC whole numbers after buffer answer = filled whole buffer answer (record { number = getD numbers 0 0; buffer = after; answer = numbers })
 
 -- a picture of a group
+abbrev pub seenC : List ℕ → List ℕ → List ℕ → Seen → Filled
+seenC registers out answer s = saidC (eqb (length registers) 24) (pictureNumbers (s .result)) (s .out) out answer
+
 unfoldable pub pictureC : ℕ → Chips → List ℕ → List ℕ → ℕ → ℕ → List ℕ → List ℕ → Filled
-pictureC part n registers ram group phase out answer =
-    let s = picturePart part n (bothOf registers) ram group phase out in
-    saidC (eqb (length registers) 24) (pictureNumbers (s .result)) (s .out) out answer
+pictureC part n registers ram group phase out answer = seenC registers out answer (picturePart part n (bothOf registers) ram group phase out)

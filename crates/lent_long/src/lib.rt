@@ -1,17 +1,15 @@
 // The long account over registers and an answer that C lends as bytes and numbers, and columns that are a byte each or packed. A buffer of another size is answered 255 and nothing is written.
-use sheet::Acknowledger;
 use sheet::Addressed;
 use sheet::Answer;
 use sheet::Check;
 use sheet::Chips;
-use sheet::Counts;
 use sheet::Pictured;
 ghost use mathlib.Core.Path.{_≡_};
 ghost use Prim.Native.Nat.{_<_};
 ghost use lib.ListN.{length};
 ghost use Rattle.sheet.specs.Parts.{partOf};
 ghost use Rattle.sheet.specs.Protocol.{sent};
-ghost use Rattle.sheet.specs.Long.{noCounts, transferPart, picturePart};
+ghost use Rattle.sheet.specs.Long.{transferPart, picturePart};
 ghost use Rattle.packed_sheet.specs.Packed.{columnsIn};
 ghost use Rattle.refused.specs.Fitting.{fitting};
 ghost use Rattle.wire.specs.Bytes.{bothOf};
@@ -29,7 +27,7 @@ pub fn power_on(
     ensures { λ r. ⌜ powerOnC part bus (columnsIn packed (now (ram .entry))) (now (registers .entry)) (now (answer .entry)) ≡ record { number = r; registers = now (registers .exit); buffer = columnsIn packed (now (ram .entry)); answer = now (answer .exit) } ⌝ }
 {
     if (registers.len() == 24) & (answer.len() == 6) {
-        let done = long::power_on_in(part, bus, ram, packed);
+        let done = long::power_on(part, bus, ram, packed);
         let after = done.registers;
         let check = done.check;
         wire::put_both(after, registers);
@@ -48,20 +46,6 @@ fn fits(part: u8, registers: &[u8]) -> bool
 {
     registers::in_range(part, wire::registers_of(&registers[..12]))
         & registers::in_range(part, wire::registers_of(&registers[12..]))
-}
-
-// What nobody hears.
-fn unheard() -> Answer
-    ensures { λ r. ⌜ r ≡ Answer.Taken noCounts Acknowledger.None ⌝ }
-{
-    Answer::Taken {
-        counts: Counts {
-            acknowledged: 0,
-            stored: 0,
-            discarded: 0,
-        },
-        last: Acknowledger::None,
-    }
 }
 
 // To the group that hears it: 7, 17 and 18. Only its registers are read, and written if it is taken.
@@ -110,7 +94,7 @@ pub fn send(
         Check::Refused(refusal) => Answer::Refused(refusal),
         Check::Passed => match groups::heard_by(bus, checks::address_byte(bytes, bits)) {
             Addressed::To(group) => send_to(part, bus, group, registers, ram, packed, bytes, bits),
-            Addressed::Nobody => unheard(),
+            Addressed::Nobody => long::unheard(),
         },
     }
 }

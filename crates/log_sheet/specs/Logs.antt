@@ -76,21 +76,9 @@ line letter ns = letter ∷ (spaced ns ++ (10 ∷ []))
 
 -- ---- the text
 
--- what a line begins with: T, A, S, G, X
+-- the letter that a transfer's line begins with: T
 abbrev pub transferLetter : ℕ
 transferLetter = 84
-
-abbrev pub seenLetter : ℕ
-seenLetter = 65
-
-abbrev pub columnLetter : ℕ
-columnLetter = 83
-
-abbrev pub groupLetter : ℕ
-groupLetter = 71
-
-abbrev pub refusalLetter : ℕ
-refusalLetter = 88
 
 -- `T index answer place acknowledged stored discarded last`: who acknowledged the last data byte, 4 for none
 abbrev pub transferLine : ℕ → Answer → List ℕ
@@ -105,6 +93,10 @@ modelled (Answer.Refused r) = 0
 abbrev pub seenIn : List ℕ → ℕ
 seenIn body = lengthOf (getD body 0 0) (getD body 1 0)
 
+-- one where the bus and the model differ: A
+abbrev pub seenLetter : ℕ
+seenLetter = 65
+
 -- `A index seen modelled`, where the two differ
 abbrev pub seenLine : ℕ → ℕ → ℕ → List ℕ
 seenLine i s m = cond (eqb s m) [] (line seenLetter (i ∷ s ∷ m ∷ []))
@@ -118,6 +110,10 @@ transferLines seen n i s [] = []
 transferLines seen n i s (body ∷ bodies) =
     recordLines seen i (seenIn body) (transferCall pcf8532 n (s .registers) (s .ram) (transferIn seen body) .result .answer) ++ transferLines seen n (suc i) (stateAfter pcf8532 n s (transferIn seen body)) bodies
 
+-- a lit column's: S
+abbrev pub columnLetter : ℕ
+columnLetter = 83
+
 -- `S group column value`, if the column is lit
 abbrev pub columnLine : ℕ → ℕ → ℕ → List ℕ
 columnLine g c q = cond (eqb q 0) [] (line columnLetter (g ∷ c ∷ q ∷ []))
@@ -125,6 +121,10 @@ columnLine g c q = cond (eqb q 0) [] (line columnLetter (g ∷ c ∷ q ∷ []))
 unfoldable pub columnLines : ℕ → ℕ → List ℕ → List ℕ
 columnLines g c [] = []
 columnLines g c (q ∷ qs) = columnLine g c q ++ columnLines g (suc c) qs
+
+-- a group's: G
+abbrev pub groupLetter : ℕ
+groupLetter = 71
 
 -- `G group lit`
 abbrev pub groupLine : ℕ → ℕ → List ℕ
@@ -146,6 +146,10 @@ logStart n = stateOf bothOn (replicate (160 * (n .zero + n .one)) 0)
 
 abbrev pub logLines : ℕ → Chips → List (List ℕ) → List ℕ
 logLines seen n bodies = transferLines seen n 0 (logStart n) bodies ++ endLines n (stateAfterAll pcf8532 n (logStart n) (transfersIn seen bodies))
+
+-- a refusal's: X
+abbrev pub refusalLetter : ℕ
+refusalLetter = 88
 
 -- `X number place`
 abbrev pub refusalLine : Refusal → List ℕ

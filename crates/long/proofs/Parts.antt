@@ -8,15 +8,21 @@ use native.Mathlib.Nat.{add-sub-cancel-left}
 use native.Mathlib.Omega.{arith}
 use lib.ListN.{length, take, drop}
 use lib.Seq.{drop-drop}
+use Rattle.sheet.specs.declared.Both.{Both}
 use Rattle.sheet.specs.declared.Chips.{Chips}
-use Rattle.sheet.specs.Parts.{Part}
+use Rattle.sheet.specs.declared.Check.the-variants.{Passed}
+use Rattle.sheet.specs.Parts.{Part, partOf}
 use Rattle.sheet.specs.Protocol.{chipsIn}
+use Rattle.sheet.specs.Checks.{checkState}
 use Rattle.sheet.specs.Long.{startOf, endOf, columnsOf, withColumns}
 use Rattle.packed_sheet.specs.Packed.{unpacked, columnsIn}
+use Rattle.laws.proofs.Named.{columns-even}
+use Rattle.laws.proofs.Fits.{Fits, fits-of}
+use Rattle.laws.proofs.Lens.{ends-in-ram}
 use Rattle.laws.proofs.Packed.{ordered, end-in-bytes, part-unpacked, back-unpacked}
 
 module _ (K : Part) (half : ℕ) (even : K .columns ≡ 2 * half) (n : Chips) (ram : List ℕ) (g start end : ℕ) where
-  pub part-taken : (packed : Bool) → start ≡ cond packed (startOf K n g / 2) (startOf K n g) → end ≡ cond packed (endOf K n g / 2) (endOf K n g)
+  part-taken : (packed : Bool) → start ≡ cond packed (startOf K n g / 2) (startOf K n g) → end ≡ cond packed (endOf K n g / 2) (endOf K n g)
       → columnsIn packed (take (end - start) (drop start ram)) ≡ columnsOf K n g (columnsIn packed ram)
   part-taken true es ee = ap₂ (λ (s e : ℕ). unpacked (take (e - s) (drop s ram))) es ee ∙ part-unpacked K half even n g ram
   part-taken false es ee = rw (es, ee, add-sub-cancel-left (startOf K n g) (K .columns * chipsIn g n))
@@ -33,10 +39,29 @@ module _ (K : Part) (half : ℕ) (even : K .columns ≡ 2 * half) (n : Chips) (r
       rw (es, ee, e, add-sub-cancel-left (startOf K n g) (K .columns * chipsIn g n), drop-drop (K .columns * chipsIn g n) (startOf K n g) ram)
 
   -- it begins before it ends, and ends in the RAM
-  pub in-order : (packed : Bool) → start ≡ cond packed (startOf K n g / 2) (startOf K n g) → end ≡ cond packed (endOf K n g / 2) (endOf K n g) → start ≤ end
+  in-order : (packed : Bool) → start ≡ cond packed (startOf K n g / 2) (startOf K n g) → end ≡ cond packed (endOf K n g / 2) (endOf K n g) → start ≤ end
   in-order true es ee = rw (es, ee) (omega (arith, ordered K half even n g))
   in-order false es ee = omega (arith, es, ee)
 
-  pub end-in : (packed : Bool) → end ≡ cond packed (endOf K n g / 2) (endOf K n g) → endOf K n g ≤ length (columnsIn packed ram) → end ≤ length ram
+  end-in : (packed : Bool) → end ≡ cond packed (endOf K n g / 2) (endOf K n g) → endOf K n g ≤ length (columnsIn packed ram) → end ≤ length ram
   end-in true ee l = subst (λ (k : ℕ). k ≤ length ram) (sym ee) (end-in-bytes K half even n g ram l)
   end-in false ee l = subst (λ (k : ℕ). k ≤ length ram) (sym ee) l
+
+-- a group's part of a RAM that passed its checks
+pub record Cut (K : Part) (n : Chips) (both : Both) (g : ℕ) (packed : Bool) (ram : List ℕ) (start end : ℕ) : Type 0 where
+  pub fits : Fits K n both (columnsIn packed ram)
+  pub part : columnsIn packed (take (end - start) (drop start ram)) ≡ columnsOf K n g (columnsIn packed ram)
+  pub begins : start ≤ end
+  pub ends : end ≤ length ram
+
+pub cut : (part : ℕ) (n : Chips) (both : Both) (g : ℕ) (packed : Bool) (ram : List ℕ) (start end : ℕ) → let K = partOf part in
+    checkState K n both (columnsIn packed ram) ≡ Passed → start ≡ cond packed (startOf K n g / 2) (startOf K n g) → end ≡ cond packed (endOf K n g / 2) (endOf K n g)
+    → Cut K n both g packed ram start end
+cut part n both g packed ram start end e es ee = let K = partOf part in
+    let f = fits-of K n both (columnsIn packed ram) e in
+    record {
+      fits = f;
+      part = part-taken K _ (columns-even part) n ram g start end packed es ee;
+      begins = in-order K _ (columns-even part) n ram g start end packed es ee;
+      ends = end-in K _ (columns-even part) n ram g start end packed ee (ends-in-ram K n both (columnsIn packed ram) f g);
+    }

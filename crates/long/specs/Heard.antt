@@ -1,31 +1,22 @@
 -- A group, its registers given, that hears a transfer or is shown in the RAM of both groups: what it is asked to have passed, and what it is after.
-use Prim.Native.Nat.{ℕ, _*_, _<_}
+use Prim.Native.Nat.{ℕ}
 use mathlib.Core.Path.{_≡_}
 use mathlib.Core.List.{List}
-use lib.ListN.{length}
 use Rattle.sheet.specs.declared.Registers.{Registers}
 use Rattle.sheet.specs.declared.Both.{Both}
 use Rattle.sheet.specs.declared.Chips.{Chips}
 use Rattle.sheet.specs.declared.Check.the-variants.{Passed}
 use Rattle.sheet.specs.Parts.{Part}
 use Rattle.sheet.specs.Registers.{registersOf}
-use Rattle.sheet.specs.Protocol.{chipsIn, Sent}
+use Rattle.sheet.specs.Protocol.{Sent}
 use Rattle.sheet.specs.Checks.{checkState}
 use Rattle.sheet.specs.Long.{Group, begun, heardWhole, columnsOf, withColumns}
 
--- the registers are the group's in a state that passed its checks, and the transfer is no longer than one may be
-pub record Passes (K : Part) (n : Chips) (g : ℕ) (before : Registers) (ram bytes : List ℕ) : Type 0 where
+-- the registers are the group's in a state that passed its checks
+pub record Owned (K : Part) (n : Chips) (g : ℕ) (own : Registers) (ram : List ℕ) : Type 0 where
   pub both : Both
-  pub own : registersOf g both ≡ before
+  pub same : registersOf g both ≡ own
   pub state : checkState K n both ram ≡ Passed
-  pub short : length bytes < 4097
-
--- and the buffer has a byte for each of its columns
-pub record Shows (K : Part) (n : Chips) (g : ℕ) (shown : Registers) (ram out : List ℕ) : Type 0 where
-  pub both : Both
-  pub own : registersOf g both ≡ shown
-  pub state : checkState K n both ram ≡ Passed
-  pub size : length out ≡ K .columns * chipsIn g n
 
 -- the group after the transfer, with the RAM of both groups, in which its columns are replaced
 abbrev pub heardInRam : Part → Chips → ℕ → Registers → List ℕ → Sent → Group

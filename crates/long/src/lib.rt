@@ -12,23 +12,22 @@ use sheet::PowerOn;
 use sheet::Registers;
 use sheet::Transferred;
 ghost use mathlib.Core.Path.{_≡_};
-ghost use Prim.Native.Nat.{_<_};
+ghost use Prim.Native.Nat.{_*_, _<_};
 ghost use lib.ListN.{length};
 ghost use Rattle.sheet.specs.Refusals.{numbers, pictureNumbers, checkNumbers};
 ghost use Rattle.sheet.specs.Parts.{partOf};
-ghost use Rattle.sheet.specs.Protocol.{sent};
+ghost use Rattle.sheet.specs.Protocol.{chipsIn, sent};
 ghost use Rattle.sheet.specs.Checks.{checkState};
 ghost use Rattle.sheet.specs.Pictures.{pictureOf, litIn};
 ghost use Rattle.sheet.specs.Long.{noCounts, replaced, columnsOf, taken, powerOnPart, transferPart, picturePart};
 ghost use Rattle.listener.specs.Listeners.{groupOf};
-ghost use Rattle.long.specs.Heard.{Passes, Shows, heardInRam};
-ghost use Rattle.packed_sheet.specs.Packed.{columnsIn, powerOnPacked, transferPacked, picturePacked};
-
-// ---- over columns that are a byte each, or packed
+ghost use Rattle.long.specs.Heard.{Owned, heardInRam};
+ghost use Rattle.packed_sheet.specs.Packed.{columnsIn};
 
 // Power-on: the power-on registers, taken or refused by 16, 3, 4, 5; the RAM is only read.
-pub fn power_on_in(part: u8, chips: Chips, ram: &[u8], packed: bool) -> PowerOn
+pub fn power_on(part: u8, chips: Chips, ram: &[u8], packed: bool) -> PowerOn
     ensures { λ r. ⌜ r ≡ powerOnPart part chips (columnsIn packed (now (ram .entry))) ⌝ }
+    ensures { λ r. ⌜ checkNumbers (r .check) ≡ checkNumbers (powerOnPart part chips (columnsIn packed (now (ram .entry))) .check) ⌝ }
 {
     let check = refused::check_power_on(part, chips, ram, packed);
     let registers = Both {
@@ -49,7 +48,7 @@ pub fn hear_in(
     bytes: &[u8],
     bits: u8,
 ) -> Listener
-    requires { ⌜ Passes (partOf part) chips group before (columnsIn packed (now ram)) (now bytes) ⌝ }
+    requires { ⌜ Owned (partOf part) chips group before (columnsIn packed (now ram)) × (length (now bytes) < 4097) ⌝ }
     ensures { λ r. ⌜ groupOf r (columnsIn packed (now (ram .exit))) ≡ heardInRam (partOf part) chips group before (columnsIn packed (now (ram .entry))) (sent (now (bytes .entry)) bits) ⌝ }
 {
     let start = groups::start_in(part, chips, group, packed);
@@ -82,25 +81,22 @@ fn deliver(
     }
 }
 
-// A transfer that nobody hears.
-fn unheard(registers: Both) -> Transferred
-    ensures { λ r. ⌜ r ≡ record { answer = Answer.Taken noCounts Acknowledger.None; registers = registers } ⌝ }
+// What is said of a transfer that nobody hears.
+pub fn unheard() -> Answer
+    ensures { λ r. ⌜ r ≡ Answer.Taken noCounts Acknowledger.None ⌝ }
 {
-    Transferred {
-        answer: Answer::Taken {
-            counts: Counts {
-                acknowledged: 0,
-                stored: 0,
-                discarded: 0,
-            },
-            last: Acknowledger::None,
+    Answer::Taken {
+        counts: Counts {
+            acknowledged: 0,
+            stored: 0,
+            discarded: 0,
         },
-        registers,
+        last: Acknowledger::None,
     }
 }
 
 // A transfer, START to STOP, of whose last byte so many bits came, taken or refused by 16, 3, 6, 4, 5, 1, 2, 19, then 7, 17 and 18.
-pub fn transfer_in(
+pub fn transfer(
     part: u8,
     chips: Chips,
     registers: Both,
@@ -110,6 +106,7 @@ pub fn transfer_in(
     bits: u8,
 ) -> Transferred
     ensures { λ r. ⌜ record { result = r; ram = columnsIn packed (now (ram .exit)) } ≡ transferPart part chips registers (columnsIn packed (now (ram .entry))) (sent (now (bytes .entry)) bits) ⌝ }
+    ensures { λ r. ⌜ numbers (partOf part) (r .answer) ≡ numbers (partOf part) (transferPart part chips registers (columnsIn packed (now (ram .entry))) (sent (now (bytes .entry)) bits) .result .answer) ⌝ }
 {
     match refused::check_transfer(part, chips, registers, ram, packed, bytes, bits) {
         Check::Refused(refusal) => Transferred {
@@ -127,7 +124,10 @@ pub fn transfer_in(
                 bits,
                 group,
             ),
-            Addressed::Nobody => unheard(registers),
+            Addressed::Nobody => Transferred {
+                answer: unheard(),
+                registers,
+            },
         },
     }
 }
@@ -143,7 +143,7 @@ pub fn show_in(
     phase: u8,
     out: &mut [u8],
 ) -> usize
-    requires { ⌜ Shows (partOf part) chips group shown (columnsIn packed (now ram)) (now out) ⌝ }
+    requires { ⌜ Owned (partOf part) chips group shown (columnsIn packed (now ram)) × (length (now out) ≡ partOf part .columns * chipsIn group chips) ⌝ }
     ensures { λ _. ⌜ now (out .exit) ≡ pictureOf shown phase (columnsOf (partOf part) chips group (columnsIn packed (now (ram .entry)))) ⌝ }
     ensures { λ r. ⌜ r ≡ litIn (pictureOf shown phase (columnsOf (partOf part) chips group (columnsIn packed (now (ram .entry))))) ⌝ }
 {
@@ -153,7 +153,7 @@ pub fn show_in(
 }
 
 // The picture of a group at a blink phase and its lit elements, or a refusal by 16, 3, 6, 4, 5, 8, 9.
-pub fn picture_in(
+pub fn picture(
     part: u8,
     chips: Chips,
     registers: Both,
@@ -164,6 +164,7 @@ pub fn picture_in(
     out: &mut [u8],
 ) -> Pictured
     ensures { λ r. ⌜ record { result = r; out = now (out .exit) } ≡ picturePart part chips registers (columnsIn packed (now (ram .entry))) group phase (now (out .entry)) ⌝ }
+    ensures { λ r. ⌜ pictureNumbers r ≡ pictureNumbers (picturePart part chips registers (columnsIn packed (now (ram .entry))) group phase (now (out .entry)) .result) ⌝ }
 {
     let fit = refused::registers_fit(part, registers);
     match refused::check_picture(part, chips, fit, ram, packed, group, phase, out.len()) {
@@ -173,78 +174,4 @@ pub fn picture_in(
             Pictured::Lit(show_in(part, chips, group, shown, ram, packed, phase, out))
         }
     }
-}
-
-// ---- the calls, a byte a column; packed, two columns a byte (paper 02, request 6), the RAM has half as many bytes, and 5 can't occur
-
-pub fn power_on(part: u8, chips: Chips, ram: &[u8]) -> PowerOn
-    ensures { λ r. ⌜ r ≡ powerOnPart part chips (now (ram .entry)) ⌝ }
-    ensures { λ r. ⌜ checkNumbers (r .check) ≡ checkNumbers (powerOnPart part chips (now (ram .entry)) .check) ⌝ }
-{
-    power_on_in(part, chips, ram, false)
-}
-
-pub fn packed_power_on(part: u8, chips: Chips, ram: &[u8]) -> PowerOn
-    ensures { λ r. ⌜ r ≡ powerOnPacked part chips (now (ram .entry)) ⌝ }
-    ensures { λ r. ⌜ checkNumbers (r .check) ≡ checkNumbers (powerOnPacked part chips (now (ram .entry)) .check) ⌝ }
-{
-    power_on_in(part, chips, ram, true)
-}
-
-pub fn transfer(
-    part: u8,
-    chips: Chips,
-    registers: Both,
-    ram: &mut [u8],
-    bytes: &[u8],
-    bits: u8,
-) -> Transferred
-    ensures { λ r. ⌜ record { result = r; ram = now (ram .exit) } ≡ transferPart part chips registers (now (ram .entry)) (sent (now (bytes .entry)) bits) ⌝ }
-    ensures { λ r. ⌜ numbers (partOf part) (r .answer) ≡ numbers (partOf part) (transferPart part chips registers (now (ram .entry)) (sent (now (bytes .entry)) bits) .result .answer) ⌝ }
-{
-    transfer_in(part, chips, registers, ram, false, bytes, bits)
-}
-
-pub fn packed_transfer(
-    part: u8,
-    chips: Chips,
-    registers: Both,
-    ram: &mut [u8],
-    bytes: &[u8],
-    bits: u8,
-) -> Transferred
-    ensures { λ r. ⌜ record { result = r; ram = now (ram .exit) } ≡ transferPacked part chips registers (now (ram .entry)) (sent (now (bytes .entry)) bits) ⌝ }
-    ensures { λ r. ⌜ numbers (partOf part) (r .answer) ≡ numbers (partOf part) (transferPacked part chips registers (now (ram .entry)) (sent (now (bytes .entry)) bits) .result .answer) ⌝ }
-{
-    transfer_in(part, chips, registers, ram, true, bytes, bits)
-}
-
-pub fn picture(
-    part: u8,
-    chips: Chips,
-    registers: Both,
-    ram: &[u8],
-    group: u8,
-    phase: u8,
-    out: &mut [u8],
-) -> Pictured
-    ensures { λ r. ⌜ record { result = r; out = now (out .exit) } ≡ picturePart part chips registers (now (ram .entry)) group phase (now (out .entry)) ⌝ }
-    ensures { λ r. ⌜ pictureNumbers r ≡ pictureNumbers (picturePart part chips registers (now (ram .entry)) group phase (now (out .entry)) .result) ⌝ }
-{
-    picture_in(part, chips, registers, ram, false, group, phase, out)
-}
-
-pub fn packed_picture(
-    part: u8,
-    chips: Chips,
-    registers: Both,
-    ram: &[u8],
-    group: u8,
-    phase: u8,
-    out: &mut [u8],
-) -> Pictured
-    ensures { λ r. ⌜ record { result = r; out = now (out .exit) } ≡ picturePacked part chips registers (now (ram .entry)) group phase (now (out .entry)) ⌝ }
-    ensures { λ r. ⌜ pictureNumbers r ≡ pictureNumbers (picturePacked part chips registers (now (ram .entry)) group phase (now (out .entry)) .result) ⌝ }
-{
-    picture_in(part, chips, registers, ram, true, group, phase, out)
 }

@@ -22,7 +22,15 @@ fn carry_out(log: &[u8], chips: Chips, initial: Both, ram: &mut [u8])
     } = cursor.read(log) {
         let end = start + size;
         let from = start + seen;
-        let done = long::transfer(sheet::PCF8532, chips, registers, ram, &log[from..end], 8);
+        let done = long::transfer(
+            sheet::PCF8532,
+            chips,
+            registers,
+            ram,
+            false,
+            &log[from..end],
+            8,
+        );
         registers = done.registers;
         cursor = Cursor { at: end, seen };
     }
@@ -33,6 +41,6 @@ pub fn leave(log: &[u8], ram: &mut [u8])
     ensures { λ _. ⌜ now (ram .exit) ≡ stateAfterAll pcf8532 (logChips (now (log .entry))) (stateOf bothOn (now (ram .entry))) (logTransfers (now (log .entry))) .ram ⌝ }
 {
     let chips = records::chips_of(log);
-    let start = long::power_on(sheet::PCF8532, chips, ram);
+    let start = long::power_on(sheet::PCF8532, chips, ram, false);
     carry_out(log, chips, start.registers, ram);
 }

@@ -5,7 +5,7 @@ use mathlib.Core.Bool.{Bool, cond}
 use mathlib.Core.Logic.{_≢_}
 use mathlib.Core.List.{List, [], _∷_}
 use Prim.Native.Nat.{ℕ, zero, suc, _+_, _-_, _*_, _/_, _%_, _^_, _≤_, _<_}
-use native.Mathlib.Nat.{add-zero, zero-add, add-suc, suc-add, add-comm, add-assoc, mul-zero, mul-suc, mul-comm, mul-assoc, mul-add, div-one, le-refl, le-of-suc-le-suc, add-mul-div-right, add-mul-mod-self-right, mod-eq-of-lt}
+use native.Mathlib.Nat.{add-zero, zero-add, add-comm, add-assoc, mul-zero, mul-suc, mul-assoc, mul-add, div-one, le-refl, le-of-suc-le-suc, add-mul-div-right, add-mul-mod-self-right}
 use native.Mathlib.Numerals.{add-one}
 use native.Mathlib.Omega.{arith}
 use lib.Arith.{digits-div, digits-mod}
@@ -16,18 +16,12 @@ use lib.Pow as pow
 use borrow.Author.Tests.{ne-eqb}
 use Rattle.lemmas.proofs.Tests.{all-at}
 use Rattle.sheet.specs.Data.{bitOf, changed, putBits, widthOf}
-use Rattle.sheet.specs.declared.Check.the-variants.{Passed}
-use Rattle.sheet.specs.Registers.{bankRow}
-use Rattle.sheet.specs.Checks.{overIn}
 use Rattle.sheet.specs.Runs.{putRun}
 use Rattle.packed_sheet.specs.Packed.{unpacked}
-use Rattle.laws.proofs.Ranges.{bank-rows-fit}
-use Rattle.words.specs.Fields.{withRows, field, merged}
+use Rattle.words.specs.Fields.{withRows, field}
 use Rattle.words.proofs.Fields.{column}
 use Rattle.ram.proofs.Runs.{Running, begun, turn, done, small}
-use Rattle.packed_words.specs.Placed.{RowsWord, Word}
 use Rattle.packed_ram.specs.Stream.{earlier, stream, ending}
-use Rattle.packed_ram.proofs.Bytes.{word-put}
 
 -- ---- the bits of a byte of the stream
 
@@ -78,6 +72,12 @@ pub exact : (m : ℕ) → 0 < m → m < 5 → m ≢ 3 → m * widthOf m ≡ 8
 exact m some four ne =
     let told = eqb→eq (m * widthOf m) (cond (eqb m 0) 0 (cond (eqb m 3) 9 8)) (all-at 5 (λ n. eqb (n * widthOf n) (cond (eqb n 0) 0 (cond (eqb n 3) 9 8))) tt m four) in
     told ∙ ap₂ (λ (a b : Bool). cond a 0 (cond b 9 8)) (ne-eqb m 0 (omega arith)) (ne-eqb m 3 ne)
+
+-- such a byte covers two columns of each packed byte
+pub halves : (m : ℕ) → 0 < m → m < 5 → m ≢ 3 → 2 * (widthOf m / 2) ≡ widthOf m
+halves m some four ne =
+    let told = eqb→eq (2 * (widthOf m / 2)) (cond (eqb m 0) 0 (cond (eqb m 3) 2 (widthOf m))) (all-at 5 (λ n. eqb (2 * (widthOf n / 2)) (cond (eqb n 0) 0 (cond (eqb n 3) 2 (widthOf n)))) tt m four) in
+    told ∙ ap₂ (λ (a b : Bool). cond a 0 (cond b 2 (widthOf m))) (ne-eqb m 0 (omega arith)) (ne-eqb m 3 ne)
 
 -- the byte of a run that comes last; p where there is none
 abbrev pub lastOf : ℕ → List ℕ → ℕ
@@ -193,11 +193,3 @@ pub packed-turn : (n at : ℕ) (ram after : List ℕ) {m b s p last z i : ℕ} {
 packed-turn n at ram after {m} {b} {z = z} {i = i} e l ez ea r =
     let there : 2 * (at + n * i) ≡ 2 * at + widthOf m * i = mul-add 2 at (n * i) ∙ ap (λ (k : ℕ). 2 * at + k) (sym (mul-assoc 2 n i) ∙ ap (λ (k : ℕ). k * i) e) in
     stream-turn l ez (ea ∙ ap (λ (c : ℕ). putBits 8 m b c z (unpacked ram)) there) r
-
--- the same by a word of its rows and one of its columns
-pub word-turn : (n m bank at rows t : ℕ) (ram : List ℕ) {s p last z i : ℕ} {bytes ram₀ after : List ℕ} → 2 * n ≡ widthOf m → 0 < m → m < 5 → bank < 2 → overIn 0 ram₀ ≡ Passed
-    → i < length bytes → z ≡ earlier s last (getD bytes i 0) → RowsWord m bank rows → Word m z t → after ≡ merged n rows t (at + n * i) ram
-    → Streaming m (bankRow m bank) (2 * at) s p bytes ram₀ (unpacked ram) last i → Streaming m (bankRow m bank) (2 * at) s p bytes ram₀ (unpacked after) (getD bytes i 0) (i + 1)
-word-turn n m bank at rows t ram {z = z} {i = i} {after = after} e some four two w l ez er et ea r =
-    packed-turn n at ram after e l ez
-    (ap unpacked ea ∙ word-put n m bank z (at + n * i) rows t ram e some four two (small some (bank-rows-fit m bank four two) w (r .run)) er et) r

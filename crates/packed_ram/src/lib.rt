@@ -1,11 +1,10 @@
 // Data bytes into a group's packed columns, two a byte (paper 02, request 6). Every run goes from an even column on: from an odd one its bits are a stream that begins one column earlier.
 ghost use mathlib.Core.Path.{_≡_};
 ghost use mathlib.Core.Logic.{_≢_};
-ghost use Prim.Native.Nat.{_-_, _*_, _%_, _≤_, _<_};
+ghost use Prim.Native.Nat.{_+_, _-_, _*_, _%_, _≤_, _<_};
 ghost use lib.ListN.{length};
-ghost use Rattle.sheet.specs.declared.Check.the-variants.{Passed};
 ghost use Rattle.sheet.specs.Registers.{bankRow};
-ghost use Rattle.sheet.specs.Checks.{overIn};
+ghost use Rattle.sheet.specs.Data.{putBits, widthOf};
 ghost use Rattle.sheet.specs.Runs.{putRun};
 ghost use Rattle.packed_sheet.specs.Packed.{unpacked};
 ghost use Rattle.ram.specs.Writes.{Whole, Cut};
@@ -20,71 +19,17 @@ fn earlier_byte(last: u8, x: u8, shift: usize) -> u8
     ((both >> shift) % 256) as u8
 }
 
-// Static from an even column on: a byte of the stream is four packed bytes.
-fn static_run(ram: &mut [u8], at: usize, bank: u8, shift: usize, before: u8, bytes: &[u8])
-    requires { ⌜ (bank < 2) × (shift < 8) × (4 * length (now bytes) ≤ length (now ram) - at) × (overIn 0 (unpacked (now ram)) ≡ Passed) ⌝ }
-    ensures { λ _. ⌜ unpacked (now (ram .exit)) ≡ putRun 1 (bankRow 1 bank) (2 * at) (stream shift before (now (bytes .entry))) (unpacked (now (ram .entry))) ⌝ }
+// A byte of a stream into the packed bytes that it covers: four in static, two in 1:2, one in 1:4.
+fn stream_byte(ram: &mut [u8], at: usize, m: usize, bank: u8, x: u8)
+    requires { ⌜ (0 < m) × (m < 5) × (m ≢ 3) × (bank < 2) × (2 * at + widthOf m ≤ 2 * length (now ram)) ⌝ }
+    ensures { λ _. ⌜ unpacked (now (ram .exit)) ≡ putBits 8 m (bankRow m bank) (2 * at) x (unpacked (now (ram .entry))) ⌝ }
 {
-    let rows = packed_words::rows_of(1, bank) as u32;
-    let mut last = before;
-    let mut i: usize = 0;
-    while i < bytes.len() {
-        let x = bytes[i];
-        let t = packed_words::eight_columns(earlier_byte(last, x, shift));
-        words::put_four(ram, at + 4 * i, rows, t as u32);
-        last = x;
-        i += 1;
-    }
-}
-
-// 1:2 from an even column on: two packed bytes.
-fn two_run(ram: &mut [u8], at: usize, bank: u8, shift: usize, before: u8, bytes: &[u8])
-    requires { ⌜ (bank < 2) × (shift < 8) × (2 * length (now bytes) ≤ length (now ram) - at) × (overIn 0 (unpacked (now ram)) ≡ Passed) ⌝ }
-    ensures { λ _. ⌜ unpacked (now (ram .exit)) ≡ putRun 2 (bankRow 2 bank) (2 * at) (stream shift before (now (bytes .entry))) (unpacked (now (ram .entry))) ⌝ }
-{
-    let rows = packed_words::rows_of(2, bank) as u32;
-    let mut last = before;
-    let mut i: usize = 0;
-    while i < bytes.len() {
-        let x = bytes[i];
-        let t = packed_words::four_columns(earlier_byte(last, x, shift));
-        words::put_two(ram, at + 2 * i, rows, t as u32);
-        last = x;
-        i += 1;
-    }
-}
-
-// 1:4 from an even column on: one packed byte.
-fn four_run(ram: &mut [u8], at: usize, shift: usize, before: u8, bytes: &[u8])
-    requires { ⌜ (shift < 8) × (length (now bytes) ≤ length (now ram) - at) × (overIn 0 (unpacked (now ram)) ≡ Passed) ⌝ }
-    ensures { λ _. ⌜ unpacked (now (ram .exit)) ≡ putRun 4 0 (2 * at) (stream shift before (now (bytes .entry))) (unpacked (now (ram .entry))) ⌝ }
-{
-    let mut last = before;
-    let mut i: usize = 0;
-    while i < bytes.len() {
-        let x = bytes[i];
-        ram[at + i] = words::reversed(earlier_byte(last, x, shift));
-        last = x;
-        i += 1;
-    }
-}
-
-// 1:3: two bytes are six columns, which from an even column on are three packed bytes.
-fn three_run(ram: &mut [u8], v: usize, bytes: &[u8])
-    requires { ⌜ (3 * length (now bytes) ≤ 2 * length (now ram) - v) × (overIn 0 (unpacked (now ram)) ≡ Passed) × (length (now ram) < 65536) ⌝ }
-    ensures { λ _. ⌜ unpacked (now (ram .exit)) ≡ putRun 3 0 v (now (bytes .entry)) (unpacked (now (ram .entry))) ⌝ }
-{
-    let mut i: usize = 0;
-    while i < bytes.len() {
-        let c = v + 3 * i;
-        let t = packed_words::three_columns(bytes[i]);
-        if (c % 2 == 0) & (i + 1 < bytes.len()) {
-            let both = t + 4096 * packed_words::three_columns(bytes[i + 1]);
-            packed_words::put_three(ram, c / 2, 0x377377, both as u32);
-            i += 2;
-        } else {
-            packed_words::put_columns(ram, c, 3, 0x377, t);
-            i += 1;
+    let rows = packed_words::rows_of(m, bank) as u32;
+    match m {
+        1 => words::put_four(ram, at, rows, packed_words::eight_columns(x) as u32),
+        2 => words::put_two(ram, at, rows, packed_words::four_columns(x) as u32),
+        _ => {
+            ram[at] = words::reversed(x);
         }
     }
 }
@@ -94,10 +39,84 @@ fn stream_run(ram: &mut [u8], at: usize, m: usize, bank: u8, shift: usize, befor
     requires { ⌜ Whole (unpacked (now ram)) (2 * at) m bank (now bytes) × (m ≢ 3) × (shift < 8) ⌝ }
     ensures { λ _. ⌜ unpacked (now (ram .exit)) ≡ putRun m (bankRow m bank) (2 * at) (stream shift before (now (bytes .entry))) (unpacked (now (ram .entry))) ⌝ }
 {
+    let each = arithmetic::width(m) / 2;
+    let mut last = before;
+    let mut i: usize = 0;
+    while i < bytes.len() {
+        let x = bytes[i];
+        stream_byte(ram, at + each * i, m, bank, earlier_byte(last, x, shift));
+        last = x;
+        i += 1;
+    }
+}
+
+// 1:3 from an even column on, four bytes at a time, whose twelve columns are six packed bytes.
+fn three_fours(ram: &mut [u8], at: usize, bytes: &[u8])
+    requires { ⌜ (3 * length (now bytes) ≤ 2 * length (now ram) - 2 * at) × (length (now ram) < 65536) × (length (now bytes) % 4 ≡ 0) ⌝ }
+    ensures { λ _. ⌜ unpacked (now (ram .exit)) ≡ putRun 3 0 (2 * at) (now (bytes .entry)) (unpacked (now (ram .entry))) ⌝ }
+{
+    let mut i: usize = 0;
+    while i < bytes.len() {
+        let a = packed_words::three_columns(bytes[i]);
+        let b = packed_words::three_columns(bytes[i + 1]);
+        let c = packed_words::three_columns(bytes[i + 2]);
+        let d = packed_words::three_columns(bytes[i + 3]);
+        packed_words::put_twelve(
+            ram,
+            at + i / 2 * 3,
+            a + 4096 * b + 0x1000000 * (c + 4096 * d),
+        );
+        i += 4;
+    }
+}
+
+// 1:3, byte by byte.
+fn three_bytes(ram: &mut [u8], v: usize, bytes: &[u8])
+    requires { ⌜ (3 * length (now bytes) ≤ 2 * length (now ram) - v) × (length (now ram) < 65536) ⌝ }
+    ensures { λ _. ⌜ unpacked (now (ram .exit)) ≡ putRun 3 0 v (now (bytes .entry)) (unpacked (now (ram .entry))) ⌝ }
+{
+    let mut i: usize = 0;
+    while i < bytes.len() {
+        let t = packed_words::three_columns(bytes[i]);
+        packed_words::put_columns(ram, v + 3 * i, 3, 0x377, t);
+        i += 1;
+    }
+}
+
+// 1:3 from an even column on.
+fn three_even(ram: &mut [u8], at: usize, bytes: &[u8])
+    requires { ⌜ (3 * length (now bytes) ≤ 2 * length (now ram) - 2 * at) × (length (now ram) < 65536) ⌝ }
+    ensures { λ _. ⌜ unpacked (now (ram .exit)) ≡ putRun 3 0 (2 * at) (now (bytes .entry)) (unpacked (now (ram .entry))) ⌝ }
+{
+    let fours = bytes.len() / 4 * 4;
+    three_fours(ram, at, &bytes[..fours]);
+    if fours < bytes.len() {
+        three_bytes(ram, 2 * at + 3 * fours, &bytes[fours..]);
+    }
+}
+
+// 1:3: from an odd column on the first byte ends at an even one.
+fn three_run(ram: &mut [u8], v: usize, bytes: &[u8])
+    requires { ⌜ (3 * length (now bytes) ≤ 2 * length (now ram) - v) × (length (now ram) < 65536) ⌝ }
+    ensures { λ _. ⌜ unpacked (now (ram .exit)) ≡ putRun 3 0 v (now (bytes .entry)) (unpacked (now (ram .entry))) ⌝ }
+{
+    if v % 2 == 0 {
+        three_even(ram, v / 2, bytes);
+    } else if 0 < bytes.len() {
+        three_bytes(ram, v, &bytes[..1]);
+        three_even(ram, v / 2 + 2, &bytes[1..]);
+    }
+}
+
+// The same, each mode by its own number: the compiler makes a loop of each.
+fn even_run(ram: &mut [u8], at: usize, m: usize, bank: u8, shift: usize, before: u8, bytes: &[u8])
+    requires { ⌜ Whole (unpacked (now ram)) (2 * at) m bank (now bytes) × (m ≢ 3) × (shift < 8) ⌝ }
+    ensures { λ _. ⌜ unpacked (now (ram .exit)) ≡ putRun m (bankRow m bank) (2 * at) (stream shift before (now (bytes .entry))) (unpacked (now (ram .entry))) ⌝ }
+{
     match m {
-        1 => static_run(ram, at, bank, shift, before, bytes),
-        2 => two_run(ram, at, bank, shift, before, bytes),
-        _ => four_run(ram, at, shift, before, bytes),
+        1 => stream_run(ram, at, 1, bank, shift, before, bytes),
+        2 => stream_run(ram, at, 2, bank, shift, before, bytes),
+        _ => stream_run(ram, at, 4, bank, shift, before, bytes),
     }
 }
 
@@ -118,7 +137,7 @@ fn odd_run(ram: &mut [u8], v: usize, m: usize, bank: u8, bytes: &[u8])
     let at = v / 2;
     let w = arithmetic::width(m);
     let before = ending_in(m, bank, ram[at] % 16);
-    stream_run(ram, at, m, bank, m, before, bytes);
+    even_run(ram, at, m, bank, m, before, bytes);
     let n = bytes.len();
     let t = packed_words::columns_of(m, bytes[n - 1]);
     let down = 4 * (w - 1);
@@ -139,7 +158,7 @@ pub fn whole_bytes(ram: &mut [u8], v: usize, m: usize, bank: u8, bytes: &[u8])
     if m == 3 {
         three_run(ram, v, bytes);
     } else if v % 2 == 0 {
-        stream_run(ram, v / 2, m, bank, 0, 0, bytes);
+        even_run(ram, v / 2, m, bank, 0, 0, bytes);
     } else if 0 < bytes.len() {
         odd_run(ram, v, m, bank, bytes);
     }

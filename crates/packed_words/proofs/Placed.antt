@@ -1,11 +1,10 @@
 -- Bytes changed two columns at a time are columns changed one by one, from an even and from an odd column on; and a byte's columns so put are its bits.
 -- Assumes nothing.
-use mathlib.Core.Path.{_≡_, refl, sym, ap, ap₂, _∙_, subst}
-use mathlib.Core.Bool.{Bool, true, false, cond}
+use mathlib.Core.Path.{_≡_, refl, sym, ap, ap₂, _∙_}
 use mathlib.Core.Logic.{_≢_}
 use mathlib.Core.List.{List}
 use Prim.Native.Nat.{ℕ, zero, suc, _+_, _-_, _*_, _/_, _%_, _^_, _≤_, _<_, min}
-use native.Mathlib.Nat.{add-zero, add-suc, suc-add, zero-add, add-assoc, add-comm, mul-suc, mul-comm, mul-div-cancel, mul-mod-left, mod-lt, div-one, div-add-mod', div-mul-le-self, div-eq-of-lt, le-refl, le-trans, pow-le-pow-right, mul-zero, mul-add, mul-assoc, mul-le-mul-left, add-mul-div-right, add-mul-mod-self-right}
+use native.Mathlib.Nat.{add-zero, add-suc, add-assoc, add-comm, mul-suc, mul-comm, mul-div-cancel, mul-mod-left, mod-lt, div-one, div-add-mod', div-mul-le-self, div-eq-of-lt, le-refl, le-trans, pow-le-pow-right, mul-zero, mul-add, mul-assoc, mul-le-mul-left, add-mul-div-right, add-mul-mod-self-right}
 use native.Mathlib.Omega.{arith}
 use lib.Bits.{bitAnd, bitOr, bitXor, and-shr, and-mod, and-lt, and-zero-r, or-shr, or-mod, or-lt, or-zero-r, xor-shr, xor-mod, xor-lt, xor-zero-r}
 use lib.ListN.{length, getD}

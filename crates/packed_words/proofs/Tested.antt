@@ -3,7 +3,6 @@
 use mathlib.Core.Path.{_≡_, ap₂, _∙_}
 use mathlib.Core.Bool.{Bool, _&&_}
 use Prim.Native.Nat.{ℕ, _-_, _*_, _^_, _<_}
-use native.Mathlib.Omega.{arith}
 use lib.Dec.{T, eqb, eqb→eq, ltb, ltb→lt}
 use Rattle.lemmas.proofs.Tests.{all, all-at, and-left, and-right}
 use Rattle.sheet.specs.Registers.{bankRow}

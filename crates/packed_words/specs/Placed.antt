@@ -35,3 +35,7 @@ inBanks m = cond (ltb m 3) 5 1
 pub record Word (m x t : ℕ) : Type 0 where
   pub columns : (j : ℕ) → j < widthOf m → nibbleOf t j ≡ inBanks m * field x (m * j) (height m j)
   pub small : t < 2 ^ (4 * widthOf m)
+
+-- the rows that four bytes set in their twelve columns in 1:3
+abbrev pub twelveRows : ℕ
+twelveRows = 0x377377377377

@@ -5,7 +5,7 @@ ghost use lib.ListN.{length};
 ghost use Rattle.sheet.specs.Data.{changed};
 ghost use Rattle.packed_sheet.specs.Packed.{unpacked};
 ghost use Rattle.words.specs.Fields.{columnOf, mixed, merged};
-ghost use Rattle.packed_words.specs.Placed.{placed, RowsWord, Word};
+ghost use Rattle.packed_words.specs.Placed.{placed, RowsWord, Word, twelveRows};
 
 // ---- two columns a byte
 
@@ -37,18 +37,13 @@ fn put_bytes(ram: &mut [u8], at: usize, n: usize, rows: u64, t: u64)
     }
 }
 
-// Three bytes, six columns, the first two as one word.
-pub fn put_three(ram: &mut [u8], at: usize, rows: u32, t: u32)
-    requires { ⌜ at + 3 ≤ length (now ram) ⌝ }
-    ensures { λ _. ⌜ now (ram .exit) ≡ merged 3 rows t at (now (ram .entry)) ⌝ }
+// 1:3: the twelve columns of four data bytes in six bytes, the first four as one word.
+pub fn put_twelve(ram: &mut [u8], at: usize, t: u64)
+    requires { ⌜ (at + 6 ≤ length (now ram)) × (t < 2 ^ 48) ⌝ }
+    ensures { λ _. ⌜ now (ram .exit) ≡ merged 6 twelveRows t at (now (ram .entry)) ⌝ }
 {
-    words::put_two(ram, at, rows, t);
-    put(
-        ram,
-        at + 2,
-        (rows / 65536 % 256) as u8,
-        (t / 65536 % 256) as u8,
-    );
+    words::put_four(ram, at, 0x77377377, (t % 0x100000000) as u32);
+    words::put_two(ram, at + 4, 0x3773, (t / 0x100000000) as u32);
 }
 
 // ---- a byte's columns

@@ -143,13 +143,10 @@ pub fn write(mode: u8, text: &[u8], out: &mut [u8]) -> Written
     ensures { λ r. ⌜ record { result = r; out = now (out .exit) } ≡ priceWrite mode (now (text .entry)) (now (out .entry)) ⌝ }
     ensures { λ r. ⌜ writtenNumbers r ≡ writtenNumbers (priceWrite mode (now (text .entry)) (now (out .entry)) .result) ⌝ }
 {
+    let mut bytes = no_bytes();
     match check_sizes(text.len(), mode, 80, out.len()) {
         Check::Refused(refusal) => Written::Refused(refusal),
-        Check::Passed => {
-            let mut bytes = no_bytes();
-            let written = put_bytes(mode, text, &mut bytes);
-            keep(written, &bytes, out)
-        }
+        Check::Passed => keep(put_bytes(mode, text, &mut bytes), &bytes, out),
     }
 }
 
@@ -159,12 +156,9 @@ pub fn read(mode: u8, segments: &[u8], out: &mut [u8]) -> Written
     ensures { λ r. ⌜ record { result = r; out = now (out .exit) } ≡ priceRead mode (now (segments .entry)) (now (out .entry)) ⌝ }
     ensures { λ r. ⌜ writtenNumbers r ≡ writtenNumbers (priceRead mode (now (segments .entry)) (now (out .entry)) .result) ⌝ }
 {
+    let mut text = no_text();
     match check_sizes(segments.len(), mode, 160, out.len()) {
         Check::Refused(refusal) => Written::Refused(refusal),
-        Check::Passed => {
-            let mut text = no_text();
-            let written = put_texts(mode, segments, &mut text);
-            keep(written, &text, out)
-        }
+        Check::Passed => keep(put_texts(mode, segments, &mut text), &text, out),
     }
 }

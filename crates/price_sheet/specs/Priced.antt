@@ -1,9 +1,9 @@
 -- Write a price on the glass (paper 02, request 1), computed: every digit with and without its point, space and minus in every mode, written and read back; and every refusal in its order.
-use Prim.Native.Nat.{ℕ, zero, suc, _+_, _-_, _*_}
+use Prim.Native.Nat.{ℕ, _+_, _-_}
 use mathlib.Core.Bool.{Bool, true, cond, _&&_}
 use mathlib.Core.List.{List, [], _∷_, _++_}
-use lib.Dec.{T, eqb}
-use lib.ListN.{length, take, drop, replicate}
+use lib.Dec.{T}
+use lib.ListN.{length, replicate}
 use Rattle.sheet.specs.Refusals.{writtenNumbers}
 use Rattle.sheet.specs.Parts.{within}
 use Rattle.sheet.specs.Written.{WrittenAfter}
@@ -100,41 +100,25 @@ texts =
     ∷ price 3 (0x34 ∷ 0x00 ∷ []) 15 1 []
     ∷ []
 
+-- in a mode, what lights no symbol beside what does: DP alone after 1, g with DP, and segment a alone between two 4s and a space are 15;
+-- everything lit is 8 with its point; and E is 15, after 6 with its point
+abbrev odd : ℕ → ℕ → ℕ → ℕ → ℕ → ℕ → ℕ → ℕ → List Price
+odd mode one dp g-dp four a six e =
+    price mode (one ∷ dp ∷ []) 15 1 []
+    ∷ price mode (g-dp ∷ []) 15 0 []
+    ∷ price mode (four ∷ 0x00 ∷ a ∷ four ∷ []) 15 2 []
+    ∷ price mode (0xFF ∷ []) 0 0 (0x38 ∷ 0x2E ∷ [])
+    ∷ price mode (six ∷ e ∷ []) 15 1 []
+    ∷ []
+
 abbrev pub glasses : List Price
 glasses =
     -- what the incident's glass shows
     price 3 (0x04 ∷ 0xA6 ∷ []) 0 0 (0x2D ∷ 0x34 ∷ [])
     -- no byte
     ∷ price 1 [] 0 0 []
-    -- 15 in static: DP alone; g with DP; segment a alone
-    ∷ price 1 (0xC1 ∷ 0x01 ∷ []) 15 1 []
-    ∷ price 1 (0x09 ∷ []) 15 0 []
-    ∷ price 1 (0xD8 ∷ 0x00 ∷ 0x20 ∷ 0xD8 ∷ []) 15 2 []
-    -- everything lit, 8 with its point; then 15 at an E after 6 with its point
-    ∷ price 1 (0xFF ∷ []) 0 0 (0x38 ∷ 0x2E ∷ [])
-    ∷ price 1 (0xBF ∷ 0x3E ∷ []) 15 1 []
-    -- 15 in 1:2: DP alone; g with DP; segment a alone
-    ∷ price 2 (0x45 ∷ 0x01 ∷ []) 15 1 []
-    ∷ price 2 (0x11 ∷ []) 15 0 []
-    ∷ price 2 (0x74 ∷ 0x00 ∷ 0x80 ∷ 0x74 ∷ []) 15 2 []
-    -- everything lit, 8 with its point; then 15 at an E after 6 with its point
-    ∷ price 2 (0xFF ∷ []) 0 0 (0x38 ∷ 0x2E ∷ [])
-    ∷ price 2 (0xBF ∷ 0xBA ∷ []) 15 1 []
-    -- 15 in 1:3: DP alone; g with DP; segment a alone
-    ∷ price 3 (0xE0 ∷ 0x40 ∷ []) 15 1 []
-    ∷ price 3 (0x44 ∷ []) 15 0 []
-    ∷ price 3 (0xA6 ∷ 0x00 ∷ 0x10 ∷ 0xA6 ∷ []) 15 2 []
-    -- everything lit, 8 with its point; then 15 at an E after 6 with its point
-    ∷ price 3 (0xFF ∷ []) 0 0 (0x38 ∷ 0x2E ∷ [])
-    ∷ price 3 (0x7F ∷ 0x1F ∷ []) 15 1 []
-    -- 15 in 1:4: DP alone; g with DP; segment a alone
-    ∷ price 0 (0x70 ∷ 0x10 ∷ []) 15 1 []
-    ∷ price 0 (0x12 ∷ []) 15 0 []
-    ∷ price 0 (0x6A ∷ 0x00 ∷ 0x80 ∷ 0x6A ∷ []) 15 2 []
-    -- everything lit, 8 with its point; then 15 at an E after 6 with its point
-    ∷ price 0 (0xFF ∷ []) 0 0 (0x38 ∷ 0x2E ∷ [])
-    ∷ price 0 (0xDF ∷ 0x8F ∷ []) 15 1 []
-    ∷ []
+    -- static, 1:2, 1:3 and 1:4
+    ∷ (odd 1 0xC1 0x01 0x09 0xD8 0x20 0xBF 0x3E ++ (odd 2 0x45 0x01 0x11 0x74 0x80 0xBF 0xBA ++ (odd 3 0xE0 0x40 0x44 0xA6 0x10 0x7F 0x1F ++ odd 0 0x70 0x10 0x12 0x6A 0x80 0xDF 0x8F)))
 
 -- ---- the order of the refusals, each at its edge: 80 bytes or 81, an M of 3 or 4, an output as long as the call's or a byte shorter, and at place 5 a byte that is none
 

@@ -1,7 +1,7 @@
 -- Request 1's laws, stated: a text is its symbols' texts; what is written is read back with plain minuses, and what is read is written back. Proved in `laws`, of every mode.
 -- Assumes nothing.
 use mathlib.Core.Path.{_≡_}
-use Prim.Native.Nat.{ℕ, _≤_, _<_}
+use Prim.Native.Nat.{ℕ, _≤_}
 use mathlib.Core.Bool.{Bool, true, _&&_}
 use mathlib.Core.List.{List, [], _∷_, _++_, map}
 use lib.ListN.{length, take, drop}
@@ -10,7 +10,7 @@ use Rattle.price_sheet.specs.declared.Found.{Found}
 use Rattle.sheet.specs.declared.Written.{Written}
 use Rattle.sheet.specs.declared.Check.the-variants.{Passed}
 use Rattle.sheet.specs.Written.{WrittenAfter}
-use Rattle.price_sheet.specs.Price.{isSymbol, textsOf, plain, byteOf, Spelled, spelled, shown, readFrom, priceWrite, priceRead}
+use Rattle.price_sheet.specs.Price.{isSymbol, textsOf, plain, byteOf, Spelled, spelled, shown, priceWrite, priceRead}
 
 abbrev pub areSymbols : List Symbol → Bool
 areSymbols [] = true

@@ -190,3 +190,13 @@ pub fn check_wanted(
         }
     }
 }
+
+// Those of a transfer for every element in 1:3: 16, 3, 6, 8, 4, 5. No call shares it, so that its registers are not handed on through memory.
+pub fn check_every(part: u8, chips: Chips, registers: Both, group: u8, wanted: &[u8]) -> Check
+    ensures { λ r. ⌜ r ≡ orElse (checkPart part) (checkWanted (partOf part) chips registers group 3 0 (now (wanted .entry))) ⌝ }
+{
+    match check_registers(part, chips, registers_fit(part, registers)) {
+        Check::Refused(refusal) => Check::Refused(refusal),
+        Check::Passed => check_rows(part, chips, group, wanted),
+    }
+}

@@ -10,7 +10,7 @@ use Rattle.sheet.specs.declared.Chip.{Chip}
 use Rattle.sheet.specs.Refusals.{numbers, plainNumbers, pictureNumbers, checkNumbers}
 use Rattle.sheet.specs.Registers.{powerOn, marked, inRange, backplanes, bankRow}
 use Rattle.sheet.specs.Parts.{within, commandIn, partOf}
-use Rattle.sheet.specs.Protocol.{heardBy, controlOf, Sent, sent, whole, wholeOf, cutData}
+use Rattle.sheet.specs.Protocol.{heardBy, controlOf, sent, whole, wholeOf, cutData}
 use Rattle.sheet.specs.Checks.{checkPart, checkChips, checkRegisters, overIn, checkRam, checkLength, checkBits, checkSent, faultIn, checkState, checkPowerOn, checkTransfer, checkPicture}
 use Rattle.sheet.specs.Pictures.{shown, pictureOf, litIn}
 use Rattle.sheet.specs.Long.{heard, dataByte, powerOnCall, transferCall, pictureCall, powerOnPart, transferPart, picturePart}

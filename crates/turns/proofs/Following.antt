@@ -1,6 +1,6 @@
 -- A turn of a transfer: what is left for the chips to follow gives the whole answer, before the turn and after it.
 -- Assumes nothing.
-use mathlib.Core.Path.{_≡_, refl, sym, ap, ap₂, _∙_}
+use mathlib.Core.Path.{_≡_, refl, sym, ap, _∙_}
 use mathlib.Core.Logic.{_⊎_, inl, inr}
 use mathlib.Core.Bool.{Bool, true, false, cond, not, _&&_, and-false}
 use mathlib.Core.List.{List, [], _∷_, map}
@@ -22,7 +22,7 @@ use Rattle.sheet.specs.Agree.{AllIn}
 use Rattle.turns.specs.declared.BusByte.{BusByte}
 use Rattle.turns.specs.declared.Turn.{Turn}
 use Rattle.turns.specs.Asking.{answers, taken}
-use Rattle.turns.specs.Turns.{lastHeard, turnAfter, plainAt, tallyOf, lostTo, plainLeft, followed, Ready}
+use Rattle.turns.specs.Turns.{turnAfter, plainAt, tallyOf, lostTo, plainLeft, followed, Ready}
 use Rattle.turns.proofs.Agreeing.{asked, all-taken, all-kept}
 
 -- from the chips cs₀ in the turn t₀, the transfer has come to cs in the turn t

@@ -13,19 +13,18 @@ use borrow.Author.Tests.{lt-leb, lt-ltb, le-ltb}
 use Rattle.lemmas.proofs.Order.{lt-or-le}
 use Rattle.lemmas.proofs.Lists.{next as next-of}
 use Rattle.sheet.specs.declared.Chip.{Chip}
-use Rattle.sheet.specs.declared.Registers.{Registers}
 use Rattle.sheet.specs.declared.Acknowledger.{Acknowledger}
 use Rattle.sheet.specs.declared.Kind.{Kind}
 use Rattle.sheet.specs.declared.Expect.{Expect}
 use Rattle.sheet.specs.declared.Expect.the-variants.{Control, One, All}
-use Rattle.sheet.specs.Parts.{within, Part, partOf}
+use Rattle.sheet.specs.Parts.{within, partOf}
 use Rattle.sheet.specs.Registers.{inRange, backplanes}
-use Rattle.sheet.specs.Plain.{hears, chipData, acknowledgesData, lower, smallest, once}
+use Rattle.sheet.specs.Plain.{hears, lower, smallest, once}
 use Rattle.sheet.specs.Places.{advancedBy}
 use Rattle.sheet.specs.Data.{widthOf}
 use Rattle.sheet.specs.Agree.{AllIn}
-use Rattle.laws.proofs.Ranges.{InRange, range-of, in-range}
-use Rattle.columns.specs.Stored.{columnsAfter, ranOver, chipRan, roomIn}
+use Rattle.laws.proofs.Ranges.{range-of, in-range}
+use Rattle.columns.specs.Stored.{columnsAfter, ranOver, roomIn}
 use Rattle.columns.proofs.Apart.{with, byte-apart, on-in}
 use Rattle.columns.proofs.Inside.{Inside, has-room, byte-inside, acknowledged-inside}
 use Rattle.turns.specs.declared.BusByte.{BusByte}
@@ -33,7 +32,7 @@ use Rattle.turns.specs.declared.Tally.{Tally}
 use Rattle.turns.specs.declared.Turn.{Turn}
 use Rattle.turns.specs.declared.Said.{Said}
 use Rattle.turns.specs.Asking.{answers, oneOr, alikeOf, saidBy, taken, ranBy}
-use Rattle.turns.specs.Turns.{onceEach, lastHeard, turnAfter, turnPast, mostOf, mostAfter, mostIn, takenBy}
+use Rattle.turns.specs.Turns.{onceEach, lastHeard, turnAfter, turnPast, mostAfter, mostIn, takenBy}
 use Rattle.turns.proofs.Lowering.{who-is}
 use Rattle.turns.proofs.Following.{Following, turn-more}
 

@@ -1,11 +1,11 @@
 -- Lists of which a part is replaced, and lists element by element.
 -- Assumes nothing.
 use mathlib.Core.Path.{_≡_, refl, sym, ap, ap₂, _∙_}
-use mathlib.Core.List.{List, [], _∷_, _++_, append-nil, append-assoc}
+use mathlib.Core.List.{List, [], _∷_, _++_, append-assoc}
 use Prim.Native.Nat.{ℕ, zero, suc, _+_, _-_, _≤_}
 use native.Mathlib.Omega.{arith}
-use lib.ListN.{length, getD, set, take, drop, length-append, drop-of-length-le}
-use lib.Seq.{length-take-le, take-all, take-append-le, take-at, take-suc, take-take, drop-at, drop-drop, sets-eq}
+use lib.ListN.{length, getD, set, take, drop, length-append}
+use lib.Seq.{length-take-le, take-all, take-append-le, take-at, take-suc, take-take, drop-at, sets-eq}
 use Rattle.lemmas.proofs.Lists.{end-replaced}
 
 -- 160 columns, then two bytes, then b

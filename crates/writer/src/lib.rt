@@ -92,7 +92,7 @@ fn backplanes_of(mut registers: Registers, mode: u8) -> usize
 
 // How long it is for so many columns.
 fn rows_size(part: u8, m: usize, columns: usize) -> usize
-    requires { ⌜ (0 < m) × (columns < 2 ^ 32) ⌝ }
+    requires { ⌜ (0 < m) × (m < 5) × (columns < 2 ^ 32) ⌝ }
     ensures { λ r. ⌜ r ≡ 8 + 2 * length (partOf part .pointer 0) + bytesFor m columns ⌝ }
 {
     head_size(part) + gather::count(m, columns)

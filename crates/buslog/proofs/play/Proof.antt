@@ -6,10 +6,8 @@ use Prim.Native.Nat.{ℕ, _+_, _≤_}
 use native.Mathlib.Omega.{arith}
 use lib.ListN.{length}
 use Rattle.sheet.specs.declared.Both.{Both}
-use Rattle.sheet.specs.declared.Check.the-variants.{Passed}
 use Rattle.sheet.specs.Parts.{pcf8532}
 use Rattle.sheet.specs.Protocol.{Sent}
-use Rattle.sheet.specs.Checks.{checkState}
 use Rattle.sheet.specs.Long.{stateOf, State, powerOnPart, stateAfterAll}
 use Rattle.log_sheet.specs.Logs.{seenBytes, logRecords, logTransfers, transferLines, endLines, logStart, logLines}
 use Rattle.sheet.specs.Agree.{Valid}

@@ -1,12 +1,14 @@
 -- `cabi::humtrellis_packed_picture` meets its contract.
 -- Assumes nothing.
+use Rattle.packed_sheet.specs.Packed.{picturePacked}
+use Rattle.lent_long.specs.LongCalls.{pictureC}
 use Rattle.cabi.specs.Calls.{packedPictureC}
 use borrow.Author.Needs.{needs}
 use Rattle.cabi.proofs.humtrellis_packed_picture.Statement.{statement}
 use Rattle.cabi.proofs.humtrellis_packed_picture.Tie as tie
 
 returns : tie.Need-returns
-unfolding packedPictureC
+unfolding packedPictureC pictureC picturePacked
 returns c = c .before .before .before .before .picture .ensures
 
 pub humtrellis-packed-picture-spec : {M : Type 1} → statement M

@@ -1,15 +1,16 @@
 -- `cabi::humtrellis_packed_power_on` meets its contract.
 -- Assumes nothing.
-use Rattle.cabi.specs.Calls.{packedPowerOnC}
-use Rattle.cabi.proofs.Repacked.{repacked}
+use denote.Ref.{now}
+use Rattle.cabi.specs.Calls.{chipsOf}
+use Rattle.cabi.proofs.Repacked.{power-on-packs}
 use borrow.Author.Needs.{needs}
 use Rattle.cabi.proofs.humtrellis_packed_power_on.Statement.{statement}
 use Rattle.cabi.proofs.humtrellis_packed_power_on.Tie as tie
 
 returns : tie.Need-returns
-unfolding packedPowerOnC
 returns c = let p = c .before .before .before .before in
-    repacked (p .before .before .before .before .before .before .args .ram .now) (p .power-on .ensures)
+    let a = p .before .before .before .before .before .before .args in
+    power-on-packs (a .part) (chipsOf (a .zero) (a .one)) (now (a .registers)) (now (a .ram)) (now (a .answer)) (p .power-on .ensures)
 
 pub humtrellis-packed-power-on-spec : {M : Type 1} → statement M
 humtrellis-packed-power-on-spec = tie.close (tie.spec (λ c κs. search needs) (λ c. search needs) (λ c. search needs) returns)

@@ -1,14 +1,16 @@
 -- `cabi::humtrellis_packed_transfer` meets its contract.
 -- Assumes nothing.
-use Rattle.cabi.specs.Calls.{packedTransferC}
-use Rattle.cabi.proofs.Repacked.{repacked}
+use denote.Ref.{now}
+use Rattle.cabi.specs.Calls.{chipsOf}
+use Rattle.cabi.proofs.Repacked.{transfer-packs}
 use borrow.Author.Needs.{needs}
 use Rattle.cabi.proofs.humtrellis_packed_transfer.Statement.{statement}
 use Rattle.cabi.proofs.humtrellis_packed_transfer.Tie as tie
 
 returns : tie.Need-returns
-unfolding packedTransferC
-returns c = let t = c .before .before .before .before .before .before .transfer in repacked (t .last .1 .1 .1 .0) (t .ensures)
+returns c = let f = c .before .before .before .before .before .before in
+    let a = f .before .before .before .before .before .before .before .before .args in
+    transfer-packs (a .part) (chipsOf (a .zero) (a .one)) (now (a .registers)) (now (a .ram)) (now (a .answer)) _ (f .transfer .last .1 .1 .1 .0) (f .transfer .ensures)
 
 pub humtrellis-packed-transfer-spec : {M : Type 1} → statement M
 humtrellis-packed-transfer-spec = tie.close (tie.spec (λ c κs. search needs) (λ c. search needs) (λ c. search needs) (λ c. search needs) returns)

@@ -1,4 +1,4 @@
--- search_over: what is left from column i on gives the whole answer.
+-- `checks::search_over` meets its contract: what is left from column i on gives the whole answer.
 -- Assumes nothing.
 use mathlib.Core.Path.{_≡_, refl, sym, _∙_}
 use mathlib.Core.List.{List}
@@ -29,19 +29,19 @@ abbrev μ-loop : tie.MeasureT-loop
 μ-loop columns i₀ i = length columns - i
 
 loop-holds : tie.Need-loop-holds Inv-loop μ-loop
-loop-holds c = refl
+loop-holds c = c .blocks-passed .ensures .0
 
 returns : tie.Need-returns Inv-loop μ-loop
 returns c = let p = c .before .before .before in
-    sym (rw (lt-ltb _ _ (c .if1 .taken)) at (turn (p .before .args .columns .now) (p .loop .i) (c .before .before .loop-test .taken))) ∙ p .loop .inv
+    sym (rw (lt-ltb _ _ (c .if1 .taken)) at (turn (p .before .before .before .args .columns .now) (p .loop .i) (c .before .before .loop-test .taken))) ∙ p .loop .inv
 
 loop-again : tie.Need-loop-again Inv-loop μ-loop
 loop-again c = let p = c .before .before .before in
-    sym (rw (le-ltb _ _ (c .if1 .left)) at (turn (p .before .args .columns .now) (p .loop .i) (c .before .before .loop-test .taken))) ∙ p .loop .inv
+    sym (rw (le-ltb _ _ (c .if1 .left)) at (turn (p .before .before .before .args .columns .now) (p .loop .i) (c .before .before .loop-test .taken))) ∙ p .loop .inv
 
 returns-2 : tie.Need-returns-2 Inv-loop μ-loop
 unfolding overIn
-returns-2 c = rw (drop-of-length-le (c .before .before .args .columns .now) {i = c .before .loop .i} (c .loop-test .left)) at (c .before .loop .inv)
+returns-2 c = rw (drop-of-length-le (c .before .before .before .before .args .columns .now) {i = c .before .loop .i} (c .loop-test .left)) at (c .before .loop .inv)
 
 pub search-over-spec : {M : Type 1} → statement M
 search-over-spec =
@@ -49,6 +49,7 @@ search-over-spec =
     (tie.spec
     Inv-loop
     μ-loop
+    (λ c κs. search needs)
     loop-holds
     (λ c. search needs)
     returns

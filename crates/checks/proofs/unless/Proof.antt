@@ -1,6 +1,5 @@
 -- `checks::unless` meets its contract.
 -- Assumes nothing.
-use borrow.Author.Needs.{needs}
 use Rattle.checks.proofs.unless.Statement.{statement}
 use Rattle.checks.proofs.unless.Tie as tie
 

@@ -1,6 +1,6 @@
 -- put_inside: after j turns the bits of the first j columns are put.
 -- Assumes nothing.
-use mathlib.Core.Path.{_≡_, refl, sym, ap, _∙_}
+use mathlib.Core.Path.{_≡_, refl, ap, _∙_}
 use mathlib.Core.List.{List}
 use Prim.Native.Nat.{ℕ, _+_, _-_, _*_, _/_, _%_, _^_, _≤_, _<_, min}
 use native.Mathlib.Nat.{mul-zero, mul-suc, min-le-left, min-eq-right, min-eq-left, le-of-lt}

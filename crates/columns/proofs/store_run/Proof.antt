@@ -1,6 +1,6 @@
 -- store_run: what is left of the bytes gives the whole answer.
 -- Assumes nothing.
-use mathlib.Core.Path.{_≡_, refl, sym, ap, ap₂, _∙_, subst}
+use mathlib.Core.Path.{_≡_, refl, sym, ap, ap₂, _∙_}
 use mathlib.Core.Bool.{true}
 use mathlib.Core.List.{List}
 use Prim.Native.Nat.{ℕ, _+_, _-_, _≤_, _<_}
@@ -12,7 +12,6 @@ use Rattle.sheet.specs.declared.Chip.{Chip}
 use Rattle.sheet.specs.declared.Registers.{Registers}
 use Rattle.sheet.specs.Parts.{Part, partOf}
 use Rattle.sheet.specs.Registers.{inRange, backplanes}
-use Rattle.sheet.specs.Plain.{chipData}
 use Rattle.sheet.specs.Places.{advancedBy}
 use Rattle.sheet.specs.Data.{widthOf}
 use Rattle.laws.proofs.Ranges.{range-of, in-range}

@@ -1,12 +1,10 @@
 -- take_data: columns and registers apart.
 -- Assumes nothing.
 use mathlib.Core.Path.{_≡_, sym, ap, ap₂, _∙_}
-use mathlib.Core.List.{List}
 use Prim.Native.Nat.{ℕ}
 use native.Mathlib.Nat.{mul-one}
 use native.Mathlib.Omega.{arith}
 use lib.ListN.{length}
-use Rattle.sheet.specs.declared.Registers.{Registers}
 use Rattle.sheet.specs.Parts.{partOf}
 use Rattle.sheet.specs.Registers.{backplanes}
 use Rattle.sheet.specs.Places.{advancedBy}

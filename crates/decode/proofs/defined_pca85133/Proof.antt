@@ -5,7 +5,6 @@ use lib.Dec.{leb}
 use Rattle.sheet.specs.Parts.{within, commandIn, pca85133}
 use Rattle.sheet.specs.Commands.{defined}
 use Rattle.decode.proofs.Ends.{told-alike}
-use borrow.Author.Needs.{needs}
 use Rattle.decode.proofs.defined_pca85133.Statement.{statement}
 use Rattle.decode.proofs.defined_pca85133.Tie as tie
 

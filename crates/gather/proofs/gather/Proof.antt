@@ -1,120 +1,90 @@
--- `gather::gather` meets its contract: the bytes whose columns are all there, and the one at the edge where a rest is left.
+-- `gather::gather` meets its contract, mode by mode.
 -- Assumes nothing.
-use mathlib.Core.Path.{_≡_, sym, ap, ap₂, _∙_}
-use mathlib.Core.Logic.{⊎-elim, _≢_}
-use mathlib.Core.List.{List, [], _∷_, _++_, append-nil}
-use Prim.Native.Nat.{ℕ, suc, _+_, _*_, _/_, _%_, _≤_, _<_}
-use native.Mathlib.Nat.{div-mul-le-self}
+use mathlib.Core.Path.{_≡_, refl, sym, ap, ap₂, _∙_}
+use mathlib.Core.Logic.{_≢_}
+use Prim.Native.Nat.{ℕ, zero, suc, _+_, _*_, _/_, _%_, _≤_, _<_}
 use native.Mathlib.Omega.{arith}
-use lib.ListN.{length, set, drop, length-set, length-append, length-drop, drop-of-length-le}
-use lib.Seq.{length-take-le, take-all, take-at, take-suc-set}
+use lib.Arith.{digits-mod}
+use lib.ListN.{length}
+use borrow.Author.Tests.{lt-ltb, le-ltb}
 use denote.Ref.{now}
-use Rattle.lemmas.proofs.Order.{equal-or-not}
 use Rattle.sheet.specs.Registers.{bankRow}
 use Rattle.sheet.specs.Data.{widthOf}
-use Rattle.writer_sheet.specs.Writer.{bitsFrom, dataFrom, bytesFor}
-use Rattle.laws.proofs.Enough.{even-bytes, odd-bytes}
-use Rattle.laws.proofs.Ranges.{bank-rows-fit}
-use Rattle.laws.proofs.Wanted.{length-data}
+use Rattle.writer_sheet.specs.Writer.{dataFrom, bytesFor}
 use borrow.Author.Needs.{needs}
 use Rattle.gather.proofs.gather.Statement.{statement}
 use Rattle.gather.proofs.gather.Tie as tie
 
--- as many as are whole, or one more
-bytes-are : (m size : ℕ) → 0 < m → (size / widthOf m ≤ bytesFor m size) × (bytesFor m size ≤ suc (size / widthOf m))
-bytes-are m size pm =
-    ⊎-elim
-    (λ (e : size % widthOf m ≡ 0). (omega (arith, even-bytes m size pm e), omega (arith, even-bytes m size pm e)))
-    (λ (ne : size % widthOf m ≢ 0). (omega (arith, odd-bytes m size pm ne), omega (arith, odd-bytes m size pm ne)))
-    (equal-or-not (size % widthOf m) 0)
+-- columns by sixteen are whole bytes but in 1:3
+whole : (m size : ℕ) → 0 < m → m < 5 → m ≢ 3 → size % 16 ≡ 0 → widthOf m * bytesFor m size ≤ size
+whole zero size p l n e = absurd (omega (arith, p))
+whole (suc zero) size p l n e = omega (arith, e)
+whole (suc (suc zero)) size p l n e = omega (arith, e)
+whole (suc (suc (suc zero))) size p l n e = absurd (n refl)
+whole (suc (suc (suc (suc zero)))) size p l n e = omega (arith, e)
+whole (suc (suc (suc (suc (suc m))))) size p l n e = absurd (omega (arith, l))
 
--- the whole ones, by their number n
-is-whole : (c : tie.After-width) → let a = c .before .before .before .args in length (now (a .columns)) / c .width .result ≡ length (now (a .columns)) / widthOf (a .m)
-is-whole c = ap (λ (w : ℕ). length (now (c .before .before .before .args .columns)) / w) (c .width .ensures)
+by-four : (size : ℕ) → size % 16 ≡ 0 → bytesFor 4 size % 4 ≡ 0
+by-four size e =
+    let half : (size + 1) / 2 ≡ size / 16 * 2 * 4 + 0 = omega (arith, e) in
+    ap (λ (n : ℕ). n % 4) half ∙ digits-mod (size / 16 * 2) (omega arith)
 
-are : (c : tie.After-width) → let s = c .before .before .before in
-    let n = length (now (s .args .columns)) / c .width .result in
-    (n ≤ length (now (s .args .out))) × (length (now (s .args .out)) ≤ suc n)
-are c = let s = c .before .before .before in
-    let b = bytes-are (s .args .m) (length (now (s .args .columns))) (s .pre .some) in
-    (omega (arith, b .0, is-whole c, s .pre .all), omega (arith, b .1, is-whole c, s .pre .all))
+few-banks : (m bank : ℕ) → m < 3 → 2 * bank ≡ bankRow m bank
+unfolding bankRow
+few-banks m bank h = rw (lt-ltb m 3 h) refl
 
--- their columns
-columns-are : (c : tie.After-width) → let s = c .before .before .before in c .width .result * (length (now (s .args .columns)) / c .width .result) ≤ length (now (s .args .columns))
-columns-are c = let size = length (now (c .before .before .before .args .columns)) in omega (arith, div-mul-le-self size (c .width .result))
+no-banks : (m bank : ℕ) → 3 ≤ m → 0 ≡ bankRow m bank
+unfolding bankRow
+no-banks m bank h = rw (le-ltb m 3 h) refl
 
--- the last of n + 1 bytes set
-last-set : (n x : ℕ) (front rest : List ℕ) → length front ≡ n → length rest ≡ 1 → set (front ++ rest) n x ≡ front ++ (x ∷ [])
-last-set n x front rest ef er =
-    let l : List ℕ = front ++ rest in
-    let el : length l ≡ suc n = length-append front rest ∙ omega arith in
-    sym (take-all (suc n) (set l n x) (omega (arith, length-set l n x, el)))
-    ∙ take-suc-set l n x (omega (arith, el)) ∙ ap (λ (k : List ℕ). k ++ (x ∷ [])) (take-at front rest n ef)
+byte-data-requires : tie.Need-byte-data-requires
+byte-data-requires c κs = let s = c .before .before .before .before in
+    let p = s .pre in
+    let few : s .args .m < 3 = c .before .if1 .taken in
+    record { some = p .some; few = few; two = p .two; fit = rw (p .all) (whole (s .args .m) (length (now (s .args .columns))) (p .some) (p .four) (λ e. omega (arith, few, e)) (p .sixteen)) }
 
-whole-bytes-requires : tie.Need-whole-bytes-requires
-whole-bytes-requires c κs = let w = c .before in
-    let s = w .before .before .before in
-    record {
-      some = s .pre .some;
-      four = s .pre .four;
-      two = s .pre .two;
-      fit = rw (length-take-le _ (now (s .args .out)) (are w .0), ← w .width .ensures) (columns-are w);
-    }
+three-data-requires : tie.Need-three-data-requires
+three-data-requires c κs = let s = c .before .before .before .before .before in
+    (s .pre .all ∙ ap (λ (m : ℕ). bytesFor m (length (now (s .args .columns)))) (c .before .if2 .taken), s .pre .near)
 
--- what the whole bytes are
-front-is : (c : tie.After-whole-bytes) → let w = c .before .before in
-    let a = w .before .before .before .args in
-    let n = length (now (a .columns)) / w .width .result in
-    c .whole-bytes .last .1 .1 .1 .0 ≡ dataFrom n (a .m) (bankRow (a .m) (a .bank)) (now (a .columns))
-front-is c = let w = c .before .before in
-    let a = w .before .before .before .args in
-    c .whole-bytes .ensures ∙ ap (λ (k : ℕ). dataFrom k (a .m) (bankRow (a .m) (a .bank)) (now (a .columns))) (length-take-le _ (now (a .out)) (are w .0))
+-- past both tests it is 1:4
+is-four : (c : tie.Else2) → c .before .before .before .before .args .m ≡ 4
+is-four c = let p = c .before .before .before .before .pre in omega (arith, c .if2 .left, c .before .if1 .left, p .four)
 
-edge-byte-requires : tie.Need-edge-byte-requires
-edge-byte-requires c κs = let w = c .before .before .before .before .before .before in
-    let s = w .before .before .before in
-    (s .pre .some, rw (c .bank-row .ensures) (bank-rows-fit (s .args .m) (s .args .bank) (s .pre .four) (s .pre .two)), omega (arith, columns-are w, s .pre .near))
+word-data-requires : tie.Need-word-data-requires
+word-data-requires c κs = let s = c .before .before .before .before .before in
+    let p = s .pre in
+    let all : length (now (s .args .out)) ≡ bytesFor 4 (length (now (s .args .columns))) = p .all ∙ ap (λ (m : ℕ). bytesFor m (length (now (s .args .columns)))) (is-four (c .before)) in
+    record { more = omega arith; four = omega arith; words = rw all (by-four (length (now (s .args .columns))) (p .sixteen)); fit = rw all (omega (arith, p .sixteen)) }
 
 returns : tie.Need-returns
-unfolding dataFrom
-returns c = let r = c .before in
-    let f = r .before .before .before .before in
-    let w = f .before .before in
-    let s = w .before .before .before in
-    let a = s .args in
-    let n = length (now (a .columns)) / w .width .result in
-    let b = bankRow (a .m) (a .bank) in
-    let front = f .whole-bytes .last .1 .1 .1 .0 in
-    let is : length (now (a .out)) ≡ suc n = omega (arith, are w .1, r .before .if1 .taken) in
-    last-set n (c .edge-byte .result) front (drop n (now (a .out))) (ap length (front-is f) ∙ length-data n (a .m) b (now (a .columns))) (length-drop n (now (a .out)) ∙ omega (arith, is))
-    ∙ ap₂ (λ (l : List ℕ) (x : ℕ). l ++ (x ∷ [])) (front-is f)
-    (c .edge-byte .ensures ∙ ap₂ (λ (k v : ℕ). bitsFrom 8 (a .m) k (v * n) (now (a .columns))) (r .bank-row .ensures) (w .width .ensures))
-    ∙ sym (ap (λ (k : ℕ). dataFrom k (a .m) b (now (a .columns))) is)
+returns c = let d = c .before .before in
+    let a = d .before .before .before .before .before .args in
+    d .byte-data .ensures ∙ ap (λ (b : ℕ). dataFrom (length (now (a .out))) (a .m) b (now (a .columns))) (few-banks (a .m) (a .bank) (d .before .before .if1 .taken))
 
 returns-2 : tie.Need-returns-2
-returns-2 c = let f = c .before .before .before in
-    let w = f .before .before in
-    let a = w .before .before .before .args in
-    let n = length (now (a .columns)) / w .width .result in
-    let b = bankRow (a .m) (a .bank) in
-    let is : n ≡ length (now (a .out)) = omega (arith, are w .0, c .if1 .left) in
-    ap₂ (λ (l k : List ℕ). l ++ k) (front-is f) (drop-of-length-le (now (a .out)) {i = n} (omega (arith, is)))
-    ∙ append-nil (dataFrom n (a .m) b (now (a .columns))) ∙ ap (λ (k : ℕ). dataFrom k (a .m) b (now (a .columns))) is
+returns-2 c = let d = c .before .before in
+    let t = d .before .before in
+    let a = t .before .before .before .before .args in
+    d .three-data .ensures
+    ∙ ap₂ (λ (m b : ℕ). dataFrom (length (now (a .out))) m b (now (a .columns))) (sym (t .if2 .taken)) (no-banks (a .m) (a .bank) (omega (arith, t .if2 .taken)))
+
+returns-3 : tie.Need-returns-3
+returns-3 c = let d = c .before .before in
+    let t = d .before .before in
+    let a = t .before .before .before .before .args in
+    d .word-data .ensures ∙ ap₂ (λ (m b : ℕ). dataFrom (length (now (a .out))) m b (now (a .columns))) (sym (is-four t)) (no-banks (a .m) (a .bank) (omega (arith, is-four t)))
 
 pub gather-spec : {M : Type 1} → statement M
 gather-spec =
     tie.close
     (tie.spec
-    (λ c κs. search needs)
-    (λ c. search needs)
-    (λ c. are c .0)
-    (λ c. sym (length-take-le _ _ (are (c .before) .0)))
-    whole-bytes-requires
-    (λ c κs. search needs)
-    (λ c. let w = c .before .before .before .before .before .before in omega (arith, columns-are w, w .before .before .before .pre .near))
-    edge-byte-requires
-    (λ c. search needs)
+    byte-data-requires
+    three-data-requires
+    word-data-requires
     (λ c. search needs)
     returns
     (λ c. search needs)
-    returns-2)
+    returns-2
+    (λ c. search needs)
+    returns-3)

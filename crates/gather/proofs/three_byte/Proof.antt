@@ -1,35 +1,32 @@
 -- `gather::three_byte` meets its contract: columns of three, three and two rows.
 -- Assumes nothing.
-use mathlib.Core.Path.{_≡_, ap, _∙_}
-use mathlib.Core.List.{List}
+use mathlib.Core.Path.{ap₂, _∙_}
 use Prim.Native.Nat.{ℕ, _+_, _*_, _%_}
-use native.Mathlib.Nat.{add-zero}
-use native.Mathlib.Omega.{arith}
-use lib.ListN.{getD}
 use denote.Ref.{now}
-use Rattle.gather.specs.Lows.{lowBits}
-use Rattle.gather.proofs.Lows.{low-whole, low-none, turned}
+use Rattle.words.specs.Fields.{field}
+use Rattle.gather.proofs.Exchanged.{three-read}
 use borrow.Author.Needs.{needs}
 use Rattle.gather.proofs.three_byte.Statement.{statement}
 use Rattle.gather.proofs.three_byte.Tie as tie
 
-side-by-side : (v : ℕ) (columns : List ℕ) → getD columns v 0 % 8 + getD columns (v + 1) 0 % 8 * 8 + getD columns (v + 2) 0 % 4 * 64 ≡ lowBits 8 3 0 v columns
-side-by-side v columns =
-    omega (arith, low-none 3 0 v columns, low-whole 3 v columns 0 3 (omega arith) _ (ap (λ (i : ℕ). getD columns i 0) (add-zero v)), low-whole 3 v columns 1 3 (omega arith) _ (λ i. getD columns (v + 1) 0), low-whole 3 v columns 2 2 (omega arith) _ (λ i. getD columns (v + 2) 0))
-
 returns : tie.Need-returns
-returns c = let a = c .before .before .before .before .before .args in
-    c .reversed .ensures ∙ turned 3 0 (a .at) (now (a .columns)) _ (side-by-side (a .at) (now (a .columns)))
+returns c = let third = c .before in
+    let second = third .before in
+    let first = second .before in
+    let a = first .before .before .args in
+    c .reversed .ensures
+    ∙ ap₂ (λ (x y : ℕ). field (x + y % 4 * 64) 0 8) (ap₂ (λ (x y : ℕ). x % 8 + y % 8 * 8) (first .byte-at .ensures) (second .byte-at2 .ensures)) (third .byte-at3 .ensures)
+    ∙ three-read (a .at) (now (a .columns))
 
 pub three-byte-spec : {M : Type 1} → statement M
 three-byte-spec =
     tie.close
     (tie.spec
+    (λ c κs. search needs)
     (λ c. search needs)
+    (λ c κs. search needs)
     (λ c. search needs)
-    (λ c. search needs)
-    (λ c. search needs)
-    (λ c. search needs)
+    (λ c κs. search needs)
     (λ c. search needs)
     (λ c. search needs)
     (λ c. search needs)

@@ -2,7 +2,6 @@
 -- Assumes nothing.
 use mathlib.Core.Path.{_≡_, refl}
 use native.Mathlib.Omega.{arith}
-use Prim.Native.Nat.{ℕ}
 use Rattle.glyphs.proofs.order_of.Statement.{statement}
 use Rattle.glyphs.proofs.order_of.Tie as tie
 

@@ -1,7 +1,6 @@
 -- `hexadecimal::read` meets its contract: the bytes read so far, and those of the digits left, are all.
 -- Assumes nothing.
 use mathlib.Core.Path.{_≡_, refl, sym, ap, ap₂, _∙_}
-use mathlib.Core.Bool.{true}
 use mathlib.Core.List.{List, [], _∷_, _++_, append-assoc, append-nil}
 use Prim.Native.Nat.{ℕ, _+_, _*_, _-_, _<_, _≤_}
 use native.Mathlib.Numerals.{add-one}
@@ -9,7 +8,7 @@ use native.Mathlib.Omega.{arith}
 use lib.ListN.{length, getD, take, drop, set, length-set}
 use lib.Seq.{take-all, take-suc-set}
 use borrow.Author.Needs.{needs}
-use Rattle.image_sheet.specs.Images.{valueOf, pairOf, areDigits, bytesOf}
+use Rattle.image_sheet.specs.Images.{pairOf, bytesOf}
 use Rattle.hexadecimal.proofs.Digits.{digit-at, one-pair, no-pair}
 use Rattle.hexadecimal.proofs.read.Statement.{statement}
 use Rattle.hexadecimal.proofs.read.Tie as tie

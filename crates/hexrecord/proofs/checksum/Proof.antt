@@ -1,6 +1,6 @@
 -- `hexrecord::checksum` meets its contract: the sum of both parts, and what is left to 256.
 -- Assumes nothing.
-use Prim.Native.Nat.{_-_, _%_}
+use Prim.Native.Nat.{_-_}
 use native.Mathlib.Omega.{arith}
 use denote.Ref.{now}
 use Rattle.laws.proofs.Hexadecimal.{sum-append}

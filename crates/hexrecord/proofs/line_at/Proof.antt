@@ -2,14 +2,14 @@
 -- Assumes nothing.
 use mathlib.Core.Path.{_≡_, sym, ap, ap₂, _∙_}
 use mathlib.Core.Bool.{Bool, true, false, _&&_}
-use Prim.Native.Nat.{ℕ, _+_, _*_, _<_}
+use Prim.Native.Nat.{ℕ, _+_}
 use native.Mathlib.Omega.{arith}
 use lib.Dec.{eqb, ltb}
-use lib.ListN.{length, getD}
+use lib.ListN.{getD}
 use borrow.Author.Tests.{ltb-true}
 use denote.Ref.{now}
 use Rattle.lemmas.proofs.Tests.{both-true}
-use Rattle.image_sheet.specs.Images.{pairOf, lineEnd}
+use Rattle.image_sheet.specs.Images.{pairOf}
 use Rattle.hexrecord.proofs.Finding.{ends-inside, is-line, no-line}
 use borrow.Author.Needs.{needs}
 use Rattle.hexrecord.proofs.line_at.Statement.{statement}

@@ -1,13 +1,8 @@
 -- `hexrecord::line_end` meets its contract: LF, CR LF, or neither.
 -- Assumes nothing.
-use mathlib.Core.Path.{_≡_, refl, sym, ap, ap₂, _∙_}
-use mathlib.Core.Bool.{_&&_}
-use Prim.Native.Nat.{ℕ, _+_}
+use mathlib.Core.Path.{refl}
 use native.Mathlib.Omega.{arith}
-use lib.Dec.{eqb}
-use lib.ListN.{getD}
 use borrow.Author.Tests.{eq-eqb, ne-eqb}
-use denote.Ref.{now}
 use Rattle.image_sheet.specs.Images.{lineEnd}
 use borrow.Author.Needs.{needs}
 use Rattle.hexrecord.proofs.line_end.Statement.{statement}

@@ -1,7 +1,6 @@
 -- `hexrecord::read_record` meets its contract: no line, or the record of the line's digits.
 -- Assumes nothing.
-use mathlib.Core.Path.{_≡_, refl, sym, ap, subst, _∙_}
-use mathlib.Core.Bool.{true}
+use mathlib.Core.Path.{_≡_, sym, ap, subst, _∙_}
 use mathlib.Core.List.{List, _++_}
 use Prim.Native.Nat.{ℕ, _+_, _*_, _-_, _≤_, _<_}
 use native.Mathlib.Omega.{arith}
@@ -9,9 +8,7 @@ use lib.ListN.{length, take, drop, length-drop, length-append}
 use lib.Seq.{length-take-le, take-at}
 use denote.Ref.{now}
 use Rattle.sheet.specs.declared.Check.{Check}
-use Rattle.image_sheet.specs.Images.{areDigits, bytesOf, digitsIn, kindOf, faultOf, faultIn, sizeIn}
-use Rattle.hexrecord.specs.declared.Line.the-variants.{None}
-use Rattle.hexrecord.specs.declared.Step.{Step}
+use Rattle.image_sheet.specs.Images.{areDigits, bytesOf, digitsIn, kindOf, faultOf, sizeIn}
 use Rattle.hexrecord.specs.Lines.{stepOf, givenAfter, Whole}
 use Rattle.hexrecord.proofs.Finding.{Lined, Found, found-line, digits, all-there, length-digits, count-small, count-first, part-is, fault-line, fault-none}
 use borrow.Author.Needs.{needs}

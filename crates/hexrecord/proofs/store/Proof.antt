@@ -1,12 +1,11 @@
 -- `hexrecord::store` meets its contract: the data bytes stand where the address says, and a record without any changes nothing.
 -- Assumes nothing.
-use mathlib.Core.Path.{_≡_, refl, sym, ap, _∙_}
+use mathlib.Core.Path.{_≡_, ap, _∙_}
 use mathlib.Core.List.{List, _++_}
 use Prim.Native.Nat.{ℕ, _+_, _-_, _≤_}
 use native.Mathlib.Omega.{arith}
 use lib.ListN.{length, getD, take, drop}
 use denote.Ref.{now}
-use Rattle.image_sheet.specs.Images.{stored}
 use Rattle.hexrecord.proofs.Faults.{inside-of, stored-is}
 use borrow.Author.Needs.{needs}
 use Rattle.hexrecord.proofs.store.Statement.{statement}

@@ -1,7 +1,6 @@
 -- `hexrecord::take` meets its contract: refused, or stored.
 -- Assumes nothing.
 use mathlib.Core.Path.{_≡_, sym, ap, _∙_}
-use mathlib.Core.Bool.{Bool, cond}
 use mathlib.Core.List.{List}
 use Prim.Native.Nat.{ℕ}
 use borrow.Author.Tests.{eq-eqb, ne-eqb}
@@ -10,7 +9,6 @@ use Rattle.sheet.specs.declared.Check.{Check}
 use Rattle.sheet.specs.declared.Check.the-variants.{Passed}
 use Rattle.image_sheet.specs.Images.{kindOf, faultOf}
 use Rattle.hexrecord.specs.declared.Step.{Step}
-use Rattle.hexrecord.specs.declared.Step.the-variants.{Next, Last}
 use Rattle.hexrecord.specs.Lines.{stepOf, givenAfter}
 use Rattle.hexrecord.proofs.Faults.{passed-inside}
 use borrow.Author.Needs.{needs}

@@ -1,43 +1,40 @@
--- `image::first_missing` meets its contract: what is left from column i on gives the whole answer.
+-- `image::first_missing` meets its contract: the first column over 15, by the other number.
 -- Assumes nothing.
-use mathlib.Core.Path.{_≡_, refl, sym, _∙_}
-use mathlib.Core.List.{List}
-use mathlib.Core.Bool.{cond}
-use Prim.Native.Nat.{ℕ, _+_, _-_, _<_}
-use native.Mathlib.Numerals.{add-one}
+use mathlib.Core.Path.{_≡_, refl, sym, ap, _∙_}
+use mathlib.Core.Bool.{Bool, true, false, cond}
+use mathlib.Core.List.{List, [], _∷_}
+use Prim.Native.Nat.{ℕ, suc}
 use lib.Dec.{ltb}
-use lib.ListN.{length, getD, drop, drop-of-length-le}
-use borrow.Author.Tests.{lt-ltb, le-ltb}
+use denote.Ref.{now}
 use borrow.Author.Needs.{needs}
-use Rattle.lemmas.proofs.Lists.{next}
-use Rattle.sheet.specs.declared.Refusal.the-variants.{AddressMissing}
-use Rattle.sheet.specs.declared.Check.the-variants.{Refused}
+use Rattle.sheet.specs.declared.Refusal.the-variants.{RamByte, AddressMissing}
+use Rattle.sheet.specs.declared.Check.{Check}
+use Rattle.sheet.specs.declared.Check.the-variants.{Passed, Refused}
+use Rattle.sheet.specs.Refusals.{placeOf}
+use Rattle.sheet.specs.Checks.{overIn}
 use Rattle.image_sheet.specs.Images.{missingIn}
 use Rattle.image.proofs.first_missing.Statement.{statement}
 use Rattle.image.proofs.first_missing.Tie as tie
 
--- column i decides, or those after it do
-turn : (given : List ℕ) (i : ℕ) → i < length given → missingIn i (drop i given) ≡ cond (ltb 15 (getD given i 0)) (Refused (AddressMissing i)) (missingIn (i + 1) (drop (i + 1) given))
-unfolding missingIn
-turn given i h = rw (next given i h, add-one i) refl
+abbrev renumbered : Check → Check
+renumbered Passed = Passed
+renumbered (Refused r) = Refused (AddressMissing (placeOf r))
 
-abbrev Inv-loop : tie.InvT-loop
-Inv-loop given i₀ i = missingIn i (drop i given) ≡ missingIn 0 given
+either : (over : Bool) (i : ℕ) {x : Check} (y : Check) → x ≡ renumbered y → cond over (Refused (AddressMissing i)) x ≡ renumbered (cond over (Refused (RamByte i)) y)
+either true i y e = refl
+either false i y e = e
 
-abbrev μ-loop : tie.MeasureT-loop
-μ-loop given i₀ i = length given - i
+missing-is : (i : ℕ) (given : List ℕ) → missingIn i given ≡ renumbered (overIn i given)
+unfolding missingIn overIn
+missing-is i [] = refl
+missing-is i (q ∷ qs) = either (ltb 15 q) i (overIn (suc i) qs) (missing-is (suc i) qs)
 
-returns : tie.Need-returns Inv-loop μ-loop
-returns c = let p = c .before .before .before in
-    sym (rw (lt-ltb _ _ (c .if1 .taken)) at (turn (p .before .args .given .now) (p .loop .i) (c .before .before .loop-test .taken))) ∙ p .loop .inv
+-- by what the search answers
+told : (c : tie.After-search-over) (k : Check) → c .search-over .result ≡ k → renumbered k ≡ missingIn 0 (now (c .before .before .args .given))
+told c k e = ap renumbered (sym e ∙ c .search-over .ensures) ∙ sym (missing-is 0 (now (c .before .before .args .given)))
 
-loop-again : tie.Need-loop-again Inv-loop μ-loop
-loop-again c = let p = c .before .before .before in
-    sym (rw (le-ltb _ _ (c .if1 .left)) at (turn (p .before .args .given .now) (p .loop .i) (c .before .before .loop-test .taken))) ∙ p .loop .inv
-
-returns-2 : tie.Need-returns-2 Inv-loop μ-loop
-unfolding missingIn
-returns-2 c = rw (drop-of-length-le (c .before .before .args .given .now) {i = c .before .loop .i} (c .loop-test .left)) at (c .before .loop .inv)
+returns : tie.Need-returns
+returns c = ap (λ (i : ℕ). Refused (AddressMissing i)) (c .place-of .ensures) ∙ told (c .before .before .before .before) _ (c .before .before .refusal .given .1)
 
 pub first-missing-spec : {M : Type 1} → statement M
-first-missing-spec = tie.close (tie.spec Inv-loop μ-loop (λ c. refl) (λ c. search needs) returns (λ c. search needs) (λ c. search needs) loop-again returns-2)
+first-missing-spec = tie.close (tie.spec (λ c κs. search needs) (λ c. search needs) (λ c κs. search needs) (λ c. search needs) returns (λ c. told (c .before .before) _ (c .enum-told .given .1)))

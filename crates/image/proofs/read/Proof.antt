@@ -1,6 +1,6 @@
 -- `image::read` meets its contract: refused before the file, by the file, or what it gives copied to the output.
 -- Assumes nothing.
-use mathlib.Core.Path.{_≡_, refl, sym, ap, _∙_}
+use mathlib.Core.Path.{_≡_, sym, ap, _∙_}
 use mathlib.Core.List.{List, _++_}
 use Prim.Native.Nat.{ℕ, _*_, _≤_}
 use native.Mathlib.Omega.{arith}
@@ -11,8 +11,7 @@ use Rattle.sheet.specs.declared.Written.{Written}
 use Rattle.sheet.specs.declared.Check.{Check}
 use Rattle.sheet.specs.declared.Check.the-variants.{Passed}
 use Rattle.sheet.specs.Parts.{partOf}
-use Rattle.sheet.specs.Written.{WrittenAfter}
-use Rattle.image_sheet.specs.Images.{Image, image, imageFrom, imageOf, checkFile}
+use Rattle.image_sheet.specs.Images.{image, imageFrom, imageOf, checkFile}
 use Rattle.laws.proofs.Written.{numbered}
 use Rattle.imagelaws.proofs.Sizes.{Asked, asked-of}
 use Rattle.imagelaws.proofs.Answers.{take-replicate, not-read, faulty, all-read}

@@ -2,11 +2,11 @@
 -- Assumes nothing.
 use mathlib.Core.Path.{_≡_, refl, sym, ap, subst, _∙_}
 use mathlib.Core.List.{List, [], _∷_}
-use Prim.Native.Nat.{ℕ, _-_, _<_}
+use Prim.Native.Nat.{ℕ, _-_}
 use native.Mathlib.Omega.{arith}
 use lib.ListN.{length, drop, drop-of-length-le}
 use Rattle.sheet.specs.declared.Check.{Check}
-use Rattle.image_sheet.specs.Images.{Image, image, ended, imageFrom, no-records}
+use Rattle.image_sheet.specs.Images.{image, ended, imageFrom, no-records}
 use Rattle.hexrecord.specs.declared.Step.{Step}
 use Rattle.hexrecord.specs.declared.Step.the-variants.{Next, Last}
 use Rattle.image.proofs.Walking.{Stepped, stepped}

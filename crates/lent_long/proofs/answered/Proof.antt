@@ -1,8 +1,6 @@
 -- `lent_long::answered` meets its contract: refused for the bus, or sent.
 -- Assumes nothing.
 use mathlib.Core.Path.{_≡_, refl, sym, ap, _∙_}
-use mathlib.Core.List.{List}
-use Prim.Native.Nat.{ℕ}
 use denote.Ref.{now}
 use Rattle.sheet.specs.declared.Check.{Check}
 use Rattle.sheet.specs.Parts.{partOf}

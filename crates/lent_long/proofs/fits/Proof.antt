@@ -1,11 +1,10 @@
 -- `lent_long::fits` meets its contract: group 0's bytes and then group 1's.
 -- Assumes nothing.
 use mathlib.Core.Path.{ap, ap₂, _∙_}
-use mathlib.Core.Bool.{Bool, _&&_}
+use mathlib.Core.Bool.{_&&_}
 use native.Mathlib.Omega.{arith}
 use lib.ListN.{length-take}
 use denote.Ref.{now}
-use Rattle.sheet.specs.declared.Registers.{Registers}
 use Rattle.sheet.specs.Parts.{partOf}
 use Rattle.sheet.specs.Registers.{inRange}
 use Rattle.lemmas.proofs.Lists.{part-rest}

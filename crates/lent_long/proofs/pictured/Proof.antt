@@ -64,7 +64,7 @@ show-in-requires c κs = let b = c .before in
     let s = t .before .before .before .before .before .before .before in
     let a = s .args in
     let p = picture-passed (partOf (a .part)) (a .bus) (bothOf (now (a .registers))) (columns s) (a .group) (a .phase) (length (now (a .out))) (both-pass (checkPart (a .part)) _ (passes t) .1) in
-    record { both = bothOf (now (a .registers)); own = sym (own b); state = p .0; size = p .1 }
+    (record { both = bothOf (now (a .registers)); same = sym (own b); state = p .0 }, p .1)
 
 returns : tie.Need-returns
 returns c = let k = c .before .before .before in

@@ -14,7 +14,7 @@ returns c = let put = c .before .before in
     let said = put .before .before in
     let both = said .before .before .before in
     let done = both .before .before .before in
-    rw (done .before .if1 .taken, put .put-numbers .ensures .0, put .put-numbers .ensures .1, said .check-numbers .ensures, both .put-both .ensures, done .power-on-in .ensures)
+    rw (done .before .if1 .taken, put .put-numbers .ensures .0, put .put-numbers .ensures .1, said .check-numbers .ensures, both .put-both .ensures, done .power-on .ensures .0)
 
 pub power-on-spec : {M : Type 1} → statement M
 unfolding powerOnC

@@ -1,12 +1,9 @@
 -- `lent_long::send` meets its contract: refused by its length or its bits, heard by a group, or by nobody.
 -- Assumes nothing.
 use mathlib.Core.Path.{_≡_, sym, ap, ap₂, _∙_}
-use mathlib.Core.List.{List}
-use Prim.Native.Nat.{ℕ}
 use denote.Ref.{now}
-use Rattle.sheet.specs.declared.Answer.{Answer}
 use Rattle.sheet.specs.declared.Addressed.{Addressed}
-use Rattle.sheet.specs.declared.Addressed.the-variants.{To, Nobody}
+use Rattle.sheet.specs.declared.Addressed.the-variants.{Nobody}
 use Rattle.sheet.specs.declared.Check.{Check}
 use Rattle.sheet.specs.Parts.{partOf}
 use Rattle.sheet.specs.Protocol.{heardBy, sent, addressByte}

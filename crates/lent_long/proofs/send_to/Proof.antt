@@ -1,11 +1,11 @@
 -- `lent_long::send_to` meets its contract: refused, nothing is written; taken, the group's bytes are its registers after it.
 -- Assumes nothing.
-use mathlib.Core.Path.{_≡_, refl, sym, ap, _∙_}
+use mathlib.Core.Path.{_≡_, sym, ap, _∙_}
 use mathlib.Core.List.{List, _++_}
 use Prim.Native.Nat.{ℕ, _+_, _*_}
 use native.Mathlib.Nat.{add-sub-cancel-left}
 use native.Mathlib.Omega.{arith}
-use lib.ListN.{length, take, drop, length-take, length-drop}
+use lib.ListN.{take, drop}
 use denote.Ref.{now}
 use Rattle.sheet.specs.declared.Registers.{Registers}
 use Rattle.sheet.specs.declared.Answer.{Answer}
@@ -15,11 +15,11 @@ use Rattle.sheet.specs.Parts.{partOf}
 use Rattle.sheet.specs.Registers.{registersOf}
 use Rattle.sheet.specs.Protocol.{sent}
 use Rattle.sheet.specs.Checks.{faultOfSent}
-use Rattle.sheet.specs.Long.{After, taken, answered}
+use Rattle.sheet.specs.Long.{taken, answered}
 use Rattle.packed_sheet.specs.Packed.{columnsIn}
 use Rattle.long.specs.Heard.{heardInRam}
 use Rattle.wire.specs.Bytes.{registersIn, bytesOf, bothOf}
-use Rattle.wire.proofs.Given.{Bytes, own-bytes, replaced-bytes}
+use Rattle.wire.proofs.Given.{own-bytes, replaced-bytes}
 use Rattle.lent_long.specs.LongCalls.{lentAfter}
 use Rattle.lent_long.proofs.Sending.{nothing-written}
 use borrow.Author.Needs.{needs}
@@ -43,7 +43,7 @@ fault f = let a = f .before .before .before .before .before .before .before .arg
 hear-in-requires : tie.Need-hear-in-requires
 hear-in-requires c κs = let b = c .before .before .before .before in
     let s = b .before .before .before .before .before .before in
-    record { both = bothOf (now (s .args .registers)); own = sym (own b); state = s .pre .0 .state; short = s .pre .2 }
+    (record { both = bothOf (now (s .args .registers)); same = sym (own b); state = s .pre .0 .state }, s .pre .2)
 
 part-put-registers-end : tie.Need-part-put-registers-end
 part-put-registers-end c = let s = c .before .before .before .before .before .before .before .before .before .before .before .before .before .before .before in

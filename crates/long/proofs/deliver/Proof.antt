@@ -1,6 +1,6 @@
 -- `long::deliver` meets its contract: the group that hears, with its registers replaced.
 -- Assumes nothing.
-use mathlib.Core.Path.{refl, sym, ap, _∙_}
+use mathlib.Core.Path.{sym, ap, _∙_}
 use denote.Ref.{now}
 use Rattle.sheet.specs.declared.Registers.{Registers}
 use Rattle.sheet.specs.declared.Answer.{Answer}
@@ -15,7 +15,7 @@ use Rattle.long.proofs.deliver.Tie as tie
 
 hear-in-requires : tie.Need-hear-in-requires
 hear-in-requires c κs = let s = c .before .before .before .before in
-    record { both = s .args .registers; own = sym (c .before .registers-of .ensures); state = s .pre .0; short = s .pre .1 }
+    (record { both = s .args .registers; same = sym (c .before .registers-of .ensures); state = s .pre .0 }, s .pre .1)
 
 returns : tie.Need-returns
 returns c = let h = c .before .before .before .before .before in

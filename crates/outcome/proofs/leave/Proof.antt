@@ -5,8 +5,8 @@ use Rattle.sheet.specs.declared.Both.{Both}
 use Rattle.sheet.specs.declared.Chips.{Chips}
 use denote.Ref.{now}
 use Rattle.sheet.specs.Parts.{pcf8532}
-use Rattle.sheet.specs.Long.{bothOn, stateOf, State, powerOnPart, stateAfterAll}
-use Rattle.log_sheet.specs.Logs.{logChips, logTransfers}
+use Rattle.sheet.specs.Long.{bothOn, stateOf, powerOnPart, stateAfterAll}
+use Rattle.log_sheet.specs.Logs.{logTransfers}
 use borrow.Author.Needs.{needs}
 use Rattle.outcome.proofs.leave.Statement.{statement}
 use Rattle.outcome.proofs.leave.Tie as tie

@@ -3,7 +3,7 @@
 use mathlib.Core.Path.{sym, ap, _∙_}
 use mathlib.Core.List.{List}
 use Prim.Native.Nat.{ℕ, _+_, _*_, _≤_, _<_}
-use native.Mathlib.Nat.{div-le-self, div-add-mod', mod-lt}
+use native.Mathlib.Nat.{div-add-mod', mod-lt}
 use native.Mathlib.Omega.{arith}
 use lib.ListN.{length, getD, drop, drop-of-length-le}
 use denote.Ref.{now}
@@ -16,7 +16,7 @@ use Rattle.laws.proofs.Runs.{run-past}
 use Rattle.laws.proofs.Packed.{length-unpacked, unpacked-nibbles}
 use Rattle.ram.proofs.Runs.{run-cut}
 use Rattle.packed_words.proofs.Placed.{rows-lt}
-use Rattle.packed_ram.proofs.Bytes.{byte-put}
+use Rattle.packed_ram.proofs.Bytes.{few, byte-put}
 use borrow.Author.Needs.{needs}
 use Rattle.packed_ram.proofs.cut_byte.Statement.{statement}
 use Rattle.packed_ram.proofs.cut_byte.Tie as tie
@@ -29,8 +29,7 @@ reaches t = let s = t .before .before .before in
 cut-columns-requires : tie.Need-cut-columns-requires
 cut-columns-requires c κs = let t = c .before .before .before .before in
     let a = t .before .before .before .before .args in
-    let few : widthOf (a .m) ≤ 8 = omega (arith, div-le-self 7 (a .m)) in
-    (omega (arith, t .if2 .taken, div-add-mod' (a .at) 2, mod-lt (a .at) {m = 2} (omega arith)), omega (arith, reaches (t .before), few), rows-lt (widthOf (a .m)) _ few (c .before .before .rows-of .ensures .small), rows-lt (widthOf (a .m)) _ few (c .columns-of .ensures .small))
+    (omega (arith, t .if2 .taken, div-add-mod' (a .at) 2, mod-lt (a .at) {m = 2} (omega arith)), omega (arith, reaches (t .before), few (a .m)), rows-lt (widthOf (a .m)) _ (few (a .m)) (c .before .before .rows-of .ensures .small), rows-lt (widthOf (a .m)) _ (few (a .m)) (c .columns-of .ensures .small))
 
 returns : tie.Need-returns
 returns c = let f = c .before .before in

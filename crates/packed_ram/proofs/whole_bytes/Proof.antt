@@ -21,13 +21,13 @@ three-run-requires : tie.Need-three-run-requires
 three-run-requires c κs = let s = c .before .before .before .before in
     let a = s .args in
     let fit = subst (λ (m : ℕ). widthOf m * length (now (a .bytes)) ≤ length (unpacked (now (a .ram))) - a .v) (c .before .if1 .taken) (s .pre .0 .fit) in
-    (omega (arith, fit, length-unpacked (now (a .ram))), s .pre .0 .nibbles, s .pre .1)
+    (omega (arith, fit, length-unpacked (now (a .ram))), s .pre .1)
 
 even : (v : ℕ) → v % 2 ≡ 0 → 2 * (v / 2) ≡ v
 even v e = omega (arith, div-add-mod' v 2, e)
 
-stream-run-requires : tie.Need-stream-run-requires
-stream-run-requires c κs = let t = c .before in
+even-run-requires : tie.Need-even-run-requires
+even-run-requires c κs = let t = c .before in
     let s = t .before .before .before .before in
     let h = s .pre .0 in
     (record { some = h .some; four = h .four; two = h .two; fit = omega (arith, h .fit, even (s .args .v) (t .if2 .taken)); nibbles = h .nibbles }, t .before .if1 .left, omega arith)
@@ -42,7 +42,7 @@ returns-2 : tie.Need-returns-2
 returns-2 c = let t = c .before .before .before .before in
     let k = t .before .before in
     let a = k .before .before .args in
-    c .before .before .stream-run .ensures
+    c .before .before .even-run .ensures
     ∙ ap₂ (λ (v : ℕ) (xs : List ℕ). putRun (a .m) (bankRow (a .m) (a .bank)) v xs (unpacked (now (a .ram)))) (even (a .v) (t .if2 .taken)) (stream-none 0 (now (a .bytes)) (λ i. k .shared-slice-known .given i .fits))
 
 returns-4 : tie.Need-returns-4
@@ -55,7 +55,7 @@ whole-bytes-spec =
     tie.close
     (tie.spec
     three-run-requires
-    stream-run-requires
+    even-run-requires
     (λ c κs. search needs)
     (λ c. search needs)
     returns

@@ -1,6 +1,6 @@
 -- `plain::transfer` meets its contract: a walk of its MIR, by hand, of nine calls and no branch. The list is opened once; its row is shown to `first` five times, and lent to `follow`.
 -- Assumes nothing.
-use Rattle.walks.proofs.Walk.{_≡_, refl, ap, _∙_, List, [], _∷_, ℕ, length, getD, URA, fullShare, Lfts, Args, w64, SProp, emp, id⊢, Memory, Routine, Heap, Tables, Atoms, Fun, factI, givenOf, tables, tablesOf, Given, ‵, _$_, !, move, lit, of-opd, and-then, no-more, agg, Is, u8, usize, row, plain, Meets, tripleOf, entered, cited}
+use Rattle.walks.proofs.Walk.{_≡_, refl, ap, _∙_, List, [], _∷_, ℕ, length, URA, fullShare, Lfts, Args, w64, SProp, emp, id⊢, Memory, Routine, Heap, Tables, Atoms, Fun, factI, givenOf, tables, tablesOf, Given, ‵, _$_, !, move, lit, of-opd, and-then, no-more, agg, Is, u8, usize, row, plain, Meets, tripleOf, entered, cited}
 use Rattle.walks.proofs.Walk.{get, field, sets, leaves, number, opens, shuts, reslices, then, calls-plain, calls-showing, calls-passing, calls-lending-passing, both-said, Mut-shared-walk, mut-shared-meets, said-both}
 use mir.Syntax.{w8}
 use denote.Struct.Laws.{owed, owes as owes-fields}

@@ -1,6 +1,5 @@
 -- lose: all marks, or none.
 -- Assumes nothing.
-use borrow.Author.Needs.{needs}
 use Rattle.registers.proofs.lose.Statement.{statement}
 use Rattle.registers.proofs.lose.Tie as tie
 

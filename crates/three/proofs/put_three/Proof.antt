@@ -28,7 +28,7 @@ length-rest a m l = let k = headed a m l in ap length (part-rest k 3) ∙ length
 put-pairs-requires : tie.Need-put-pairs-requires
 put-pairs-requires c κs = let m = c .before in
     let s = m .before .before .before in
-    record { there = s .pre .3 .there; even = s .pre .3 .even; room = length-rest (112 + 2 * s .args .group) (m .mode-set .result) (now (s .args .out)) ∙ omega (arith, s .pre .3 .room) }
+    record { there = s .pre .3 .there; chips = s .pre .3 .chips; room = length-rest (112 + 2 * s .args .group) (m .mode-set .result) (now (s .args .out)) ∙ omega (arith, s .pre .3 .room) }
 
 returns : tie.Need-returns
 returns c = let put = c .before .before in

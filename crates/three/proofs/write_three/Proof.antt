@@ -35,7 +35,7 @@ is-none K n r g wanted none = rw (eq-eqb (chipsIn g n) 0 none)
 
 passes : (t : tie.After-enum-told) → let a = t .before .before .before .before .before .args in
     orElse (checkPart (a .part)) (checkWanted (partOf (a .part)) (a .chips) (a .registers) (a .group) 3 0 (now (a .wanted))) ≡ Passed
-passes t = sym (t .before .before .check-wanted .ensures) ∙ t .enum-told .given .1
+passes t = sym (t .before .before .check-every .ensures) ∙ t .enum-told .given .1
 
 asks : (t : tie.After-enum-told) → let a = t .before .before .before .before .before .args in Asked (partOf (a .part)) (a .chips) (a .registers) (a .group) 3 0 (now (a .wanted))
 asks t = let a = t .before .before .before .before .before .args in asked-of (partOf (a .part)) (a .chips) (a .registers) (a .group) 3 0 (now (a .wanted)) (both-pass (checkPart (a .part)) _ (passes t) .1)
@@ -43,9 +43,9 @@ asks t = let a = t .before .before .before .before .before .args in asked-of (pa
 few : (t : tie.After-enum-told) → length (now (t .before .before .before .before .before .args .wanted)) ≤ 640
 few t = few-wanted (t .before .before .before .before .before .args .part) (asks t)
 
--- the columns are two by two
-even-columns : (part chips : ℕ) → partOf part .columns * chips % 2 ≡ 0
-even-columns part chips = of-both (λ K. K .columns * chips % 2 ≡ 0) part (omega arith) (omega arith)
+-- the columns are those of whole chips
+whole-chips : (part chips : ℕ) → partOf part .columns * chips % partOf part .columns ≡ 0
+whole-chips part chips = of-both (λ K. K .columns * chips % K .columns ≡ 0) part (omega arith) (omega arith)
 
 -- past the test of the chips there is one
 some : (c : tie.After-registers-of) → let a = c .before .before .before .before .before .before .before .before .args in 0 < chipsIn (a .group) (a .chips)
@@ -97,7 +97,7 @@ put-three-requires c κs = let z = c .before .before in
       rw e (own .b-in),
       record {
         there = rw (asked .columns) (mul-le-mul-left (partOf (a .part) .columns) (asked .few));
-        even = rw (asked .columns) (even-columns (a .part) (chipsIn (a .group) (a .chips)));
+        chips = rw (asked .columns) (whole-chips (a .part) (chipsIn (a .group) (a .chips)));
         room =
             length-take-le (3 + z .byte-size .result * (length (now (a .wanted)) / 2)) (now (a .out)) (room (c .before))
             ∙ ap (λ (k : ℕ). 3 + k * (length (now (a .wanted)) / 2)) (z .byte-size .ensures);
@@ -107,7 +107,7 @@ put-three-requires c κs = let z = c .before .before in
 returns-3 : tie.Need-returns-3
 unfolding writeThreePart
 returns-3 c = let a = c .before .before .before .before .before .before .args in
-    numbered (refuses (a .part) (checkWanted (partOf (a .part)) (a .chips) (a .registers) (a .group) 3 0 (now (a .wanted))) (threeTransfer (partOf (a .part)) (a .chips) (a .registers) (a .group) (now (a .wanted))) (now (a .out)) _ (sym (c .before .before .before .check-wanted .ensures) ∙ c .before .refusal .given .1))
+    numbered (refuses (a .part) (checkWanted (partOf (a .part)) (a .chips) (a .registers) (a .group) 3 0 (now (a .wanted))) (threeTransfer (partOf (a .part)) (a .chips) (a .registers) (a .group) (now (a .wanted))) (now (a .out)) _ (sym (c .before .before .before .check-every .ensures) ∙ c .before .refusal .given .1))
 
 returns-4 : tie.Need-returns-4
 unfolding writeThreePart

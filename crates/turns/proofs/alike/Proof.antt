@@ -1,6 +1,6 @@
 -- alike: by whether there are several bytes, and whether the chip hears.
 -- Assumes nothing.
-use mathlib.Core.Path.{refl, sym, ap, ap₂, _∙_}
+use mathlib.Core.Path.{refl, sym, ap, _∙_}
 use Prim.Native.Nat.{ℕ, min}
 use borrow.Author.Tests.{lt-ltb, le-ltb}
 use Rattle.turns.specs.Asking.{oneOr}

@@ -1,6 +1,5 @@
 -- most_in: by whether the last byte is cut.
 -- Assumes nothing.
-use mathlib.Core.Path.{refl}
 use borrow.Author.Needs.{needs}
 use Rattle.turns.proofs.most_in.Statement.{statement}
 use Rattle.turns.proofs.most_in.Tie as tie

@@ -2,7 +2,6 @@
 -- Assumes nothing.
 use mathlib.Core.Path.{refl}
 use borrow.Author.Tests.{lt-ltb, le-ltb}
-use borrow.Author.Needs.{needs}
 use Rattle.turns.proofs.one_or.Statement.{statement}
 use Rattle.turns.proofs.one_or.Tie as tie
 

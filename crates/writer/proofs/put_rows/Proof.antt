@@ -50,6 +50,7 @@ gather-requires c κs = let d = c .before .before .before in
       four = rw m (omega (arith, planes .1));
       two = s .pre .0 .bank-in;
       all = left-long d ∙ ap (λ (k : ℕ). bytesFor k (length (now (s .args .wanted)))) (sym m);
+      sixteen = s .pre .1 .sixteen;
       near = s .pre .1 .near;
     }
 
