@@ -1,17 +1,15 @@
 -- `refused::check_every` meets its contract: a mode of 3 and a bank of 0 are in range.
 -- Assumes nothing.
-use mathlib.Core.Path.{_≡_, sym, ap, _∙_}
-use mathlib.Core.Bool.{Bool}
 use Prim.Native.Nat.{_*_}
 use lib.Dec.{ltb}
 use denote.Ref.{now}
 use Rattle.sheet.specs.declared.Check.{Check}
-use Rattle.sheet.specs.declared.Refusal.the-variants.{Register, GroupOrPhase}
+use Rattle.sheet.specs.declared.Refusal.the-variants.{GroupOrPhase}
 use Rattle.sheet.specs.Parts.{partOf}
 use Rattle.sheet.specs.Protocol.{chipsIn}
-use Rattle.sheet.specs.Checks.{unless, orElse, checkPart, checkChips, checkRegisters, checkColumns}
+use Rattle.sheet.specs.Checks.{unless, orElse, checkColumns}
 use Rattle.writer_sheet.specs.Writer.{checkWanted}
-use Rattle.laws.proofs.First.{three-refused, three-passed}
+use Rattle.refused.proofs.Fitted.{rest-refused, rest-passed}
 use borrow.Author.Needs.{needs}
 use Rattle.refused.proofs.check_every.Statement.{statement}
 use Rattle.refused.proofs.check_every.Tie as tie
@@ -20,27 +18,18 @@ use Rattle.refused.proofs.check_every.Tie as tie
 abbrev rest : (c : tie.Start) → Check
 rest c = let a = c .args in orElse (unless (ltb (a .group) 2) GroupOrPhase) (checkColumns (partOf (a .part) .columns * chipsIn (a .group) (a .chips)) (now (a .wanted)))
 
--- 16, 3 and 6, told of the registers
-asked : (k : tie.After-check-registers) → let a = k .before .before .before .args in
-    k .check-registers .result ≡ orElse (checkPart (a .part)) (orElse (checkChips (partOf (a .part)) (a .chips)) (checkRegisters (partOf (a .part)) (a .registers)))
-unfolding checkRegisters
-asked k = let a = k .before .before .before .args in
-    k .check-registers .ensures
-    ∙ ap (λ (fit : Bool). orElse (checkPart (a .part)) (orElse (checkChips (partOf (a .part)) (a .chips)) (unless fit Register))) (k .before .registers-fit .ensures)
-
 returns : tie.Need-returns
 unfolding checkWanted
 returns c = let k = c .before .before .before in
     let s = k .before .before .before in
-    let K = partOf (s .args .part) in
-    three-refused (checkPart (s .args .part)) (checkChips K (s .args .chips)) (checkRegisters K (s .args .registers)) (rest s) _ (sym (asked k) ∙ c .before .refusal .given .1)
+    rest-refused (s .args .part) (s .args .chips) (s .args .registers) (k .before .registers-fit .ensures) (k .check-registers .ensures) (rest s) _ (c .before .refusal .given .1)
 
 returns-2 : tie.Need-returns-2
 unfolding checkWanted
 returns-2 c = let t = c .before in
-    let s = t .before .before .before .before .before in
-    let K = partOf (s .args .part) in
-    three-passed (checkPart (s .args .part)) (checkChips K (s .args .chips)) (checkRegisters K (s .args .registers)) (rest s) _ (sym (asked (t .before .before)) ∙ t .enum-told .given .1) (c .check-rows .ensures)
+    let q = t .before .before in
+    let s = q .before .before .before in
+    rest-passed (s .args .part) (s .args .chips) (s .args .registers) (q .before .registers-fit .ensures) (q .check-registers .ensures) (rest s) _ (t .enum-told .given .1) (c .check-rows .ensures)
 
 pub check-every-spec : {M : Type 1} → statement M
 check-every-spec =

@@ -1,7 +1,7 @@
 -- `refused::check_wanted` meets its contract.
 -- Assumes nothing.
-use mathlib.Core.Path.{_≡_, refl, sym, ap, _∙_}
-use mathlib.Core.Bool.{Bool, _&&_}
+use mathlib.Core.Path.{_≡_, refl}
+use mathlib.Core.Bool.{_&&_}
 use Prim.Native.Nat.{_*_}
 use lib.Dec.{ltb}
 use denote.Ref.{now}
@@ -9,9 +9,9 @@ use Rattle.sheet.specs.declared.Check.{Check}
 use Rattle.sheet.specs.declared.Refusal.the-variants.{Register, GroupOrPhase}
 use Rattle.sheet.specs.Parts.{partOf}
 use Rattle.sheet.specs.Protocol.{chipsIn}
-use Rattle.sheet.specs.Checks.{unless, orElse, checkPart, checkChips, checkRegisters, checkColumns}
+use Rattle.sheet.specs.Checks.{unless, orElse, checkPart, checkColumns}
 use Rattle.writer_sheet.specs.Writer.{checkWanted}
-use Rattle.laws.proofs.First.{three-refused, three-passed}
+use Rattle.refused.proofs.Fitted.{rest-refused, rest-passed}
 use borrow.Author.Needs.{needs}
 use Rattle.refused.proofs.check_wanted.Statement.{statement}
 use Rattle.refused.proofs.check_wanted.Tie as tie
@@ -22,27 +22,18 @@ rest c = let a = c .args in
     orElse (unless (ltb (a .mode) 4 && ltb (a .bank) 2) Register)
     (orElse (unless (ltb (a .group) 2) GroupOrPhase) (checkColumns (partOf (a .part) .columns * chipsIn (a .group) (a .chips)) (now (a .wanted))))
 
--- 16, 3 and 6, told of the registers
-asked : (k : tie.After-check-registers) → let a = k .before .before .before .args in
-    k .check-registers .result ≡ orElse (checkPart (a .part)) (orElse (checkChips (partOf (a .part)) (a .chips)) (checkRegisters (partOf (a .part)) (a .registers)))
-unfolding checkRegisters
-asked k = let a = k .before .before .before .args in
-    k .check-registers .ensures
-    ∙ ap (λ (fit : Bool). orElse (checkPart (a .part)) (orElse (checkChips (partOf (a .part)) (a .chips)) (unless fit Register))) (k .before .registers-fit .ensures)
-
 returns : tie.Need-returns
 unfolding checkWanted
 returns c = let k = c .before .before .before in
     let s = k .before .before .before in
-    let K = partOf (s .args .part) in
-    three-refused (checkPart (s .args .part)) (checkChips K (s .args .chips)) (checkRegisters K (s .args .registers)) (rest s) _ (sym (asked k) ∙ c .before .refusal .given .1)
+    rest-refused (s .args .part) (s .args .chips) (s .args .registers) (k .before .registers-fit .ensures) (k .check-registers .ensures) (rest s) _ (c .before .refusal .given .1)
 
 -- past the match the part, the counts and the registers have passed
 passes : (t : tie.After-enum-told) (k : Check) → let s = t .before .before .before .before .before in k ≡ rest s → k ≡ orElse (checkPart (s .args .part)) (checkWanted (partOf (s .args .part)) (s .args .chips) (s .args .registers) (s .args .group) (s .args .mode) (s .args .bank) (now (s .args .wanted)))
 unfolding checkWanted
-passes t k e = let s = t .before .before .before .before .before in
-    let K = partOf (s .args .part) in
-    three-passed (checkPart (s .args .part)) (checkChips K (s .args .chips)) (checkRegisters K (s .args .registers)) (rest s) k (sym (asked (t .before .before)) ∙ t .enum-told .given .1) e
+passes t k e = let q = t .before .before in
+    let s = q .before .before .before in
+    rest-passed (s .args .part) (s .args .chips) (s .args .registers) (q .before .registers-fit .ensures) (q .check-registers .ensures) (rest s) k (t .enum-told .given .1) e
 
 pub check-wanted-spec : {M : Type 1} → statement M
 check-wanted-spec =
