@@ -124,3 +124,28 @@ class Sigrok(TestCase):
         self.fails(2, f"{capture}: sigrok-cli could not read it: no zip", "from-sigrok", capture, path=self.program("echo no zip >&2; exit 1"))
         self.fails(2, f"{capture}: sigrok-cli could not read it: status 0", "from-sigrok", capture, path=self.program("exit 0"))
         self.fails(2, f"[Errno 2] No such file or directory: '{self.folder}/gone'", "from-sigrok", self.folder / "gone", path=self.program(""))
+
+    def test_an_earlier_result_stays(self):
+        capture, result = self.file("x.sr", b"PK.."), self.file("x.bus", "chips 2 0\n[70+]\n")
+        path = self.program("echo no zip >&2; exit 1")
+        self.fails(2, f"{capture}: sigrok-cli could not read it: no zip", "from-sigrok", capture, "--chips", "2,0", "-o", result, path=path)
+        self.assertEqual(Path(result).read_text(), "chips 2 0\n[70+]\n")
+
+    def test_a_sigrok_file_has_a_name(self):
+        message = "standard input: sigrok-cli opens a sigrok file by its name: give that in place of -"
+        for command in ("check", "from-sigrok"):
+            self.fails(2, message, command, "-", "--chips", "2,0", given=b"PK..", path=self.program(""))
+
+    def test_a_file_of_the_other_kind(self):
+        vcd, capture = EXAMPLES / "minus-lost.vcd", self.file("x.sr", b"PK..")
+        self.fails(1, f"{vcd}: this is no sigrok file; from-vcd takes a VCD", "from-sigrok", vcd, "--chips", "2,0", path=self.program(""))
+        self.fails(1, f"{capture}: this is a sigrok file, which from-sigrok takes", "from-vcd", capture, "--chips", "2,0")
+
+    def test_lines_of_analog_channels_are_passed_over(self):
+        """They count as lines of its VCD."""
+        capture = self.file("x.sr", b"PK..")
+        vcd = self.file("x.vcd", wave("S 01110000 0 P") + "A0: -10.00 V DC\nlow side: 1.00 V\n#9999 ?\n")
+        channels = self.file("x.txt", "Channels: 4\n- SCL: logic\n- SDA: logic\n- A0: analog\n- low side: analog\n")
+        path = self.program(f'case "$*" in "-i {capture} --show") cat "{channels}";; *) cat "{vcd}";; esac')
+        said = f"bin/buslog: {capture}:32: ? is neither a time nor a change of a signal of this file\n"
+        self.assertEqual(self.run_buslog("from-sigrok", capture, path=path), (1, b"@1e-05 [70+]\n", said))

@@ -4,7 +4,7 @@ import random
 import time
 import unittest
 
-from bench import BYTE, CLOCK, EXAMPLES, Bench, acknowledged
+from bench import BYTE, CLOCK, EXAMPLES, Bench, Decoder, acknowledged
 
 import humtrellis
 
@@ -197,8 +197,15 @@ class Transfers(unittest.TestCase):
         self.assertEqual((bench.texts("data", "answer")), ["Data FF: columns 0 to 1, chip 0", "T 0 0 0 3 8 0 0"])
 
     def test_more_chips_than_a_group_has(self):
-        with self.assertRaisesRegex(humtrellis.Refusal, "refused by 3"):
-            Bench(chips0=5)
+        """Nothing is decoded, with and without the model of a run before."""
+        again, first = Bench(chips0=2), Bench(chips0=2)
+        first.decoder = Decoder()
+        for bench in (again, first):
+            bench.decoder.options = again.decoder.options | {"chips0": 5}
+            with self.assertRaisesRegex(humtrellis.Refusal, "refused by 3"):
+                bench.start()
+            bench.transfers("70+ 40+ FF+]")
+            self.assertEqual(bench.outputs, [])
 
 
 class Logs(unittest.TestCase):

@@ -4,12 +4,13 @@ from __future__ import annotations
 
 import argparse
 import contextlib
+import itertools
 import os
 import re
 import signal
 import sys
 from fractions import Fraction
-from typing import BinaryIO, Iterable, Iterator, Optional, Sequence
+from typing import BinaryIO, Iterator, Optional, Sequence
 
 import humtrellis
 from humtrellis import Part
@@ -25,12 +26,16 @@ PARTS = {part.name.lower(): part for part in Part}
 # ---- The commands ------------------------------------------------------------
 
 
+def quiet(path: Optional[str]) -> None:
+    """No line about progress on a terminal that the result goes to."""
+    if path is None and os.isatty(1):
+        silence()
+
+
 @contextlib.contextmanager
 def output(path: Optional[str], source: str) -> Iterator[BinaryIO]:
     """Where a result goes: a file, which is not the one that is read, or standard output."""
     if path is None:
-        if os.isatty(1):
-            silence()
         # A file of its own, so that a failure of the last write is seen here.
         with open(1, "wb", closefd=False) as out:
             yield out
@@ -41,11 +46,14 @@ def output(path: Optional[str], source: str) -> Iterator[BinaryIO]:
         yield out
 
 
-def _text(asked: argparse.Namespace, transfers: Iterable[text.Transfer]) -> int:
+def _text(asked: argparse.Namespace, transfers: Iterator[text.Transfer]) -> int:
+    quiet(asked.output)
+    # Before the result is opened, so that a capture that is wrong from the start leaves an earlier result as it is.
+    first = list(itertools.islice(transfers, 1))
     with output(asked.output, asked.file) as out:
         if asked.chips:
             out.write(text.chips_line(asked.chips).encode())
-        for line in text.captured(transfers):
+        for line in text.captured(itertools.chain(first, transfers)):
             out.write(line.encode())
     return 0
 
@@ -90,6 +98,7 @@ def to_text(asked: argparse.Namespace) -> int:
 
 def check_capture(asked: argparse.Namespace) -> int:
     """Each transfer of a capture held against the library."""
+    quiet(None)
     with capture.any_kind(asked.file, _signals(asked)) as read, output(None, asked.file) as out:
         chips = asked.chips or read.chips
         if chips is None:

@@ -5,6 +5,7 @@ from __future__ import annotations
 import contextlib
 import math
 import os
+import re
 import shutil
 import subprocess
 import sys
@@ -47,11 +48,13 @@ def name(path: str) -> str:
     return "standard input" if path == "-" else path
 
 
-def from_vcd(file: BinaryIO, called: str, signals: Signals) -> Iterator[Transfer]:
-    """The transfers of a VCD file, each as soon as it has ended."""
+def from_vcd(file: BinaryIO, called: str, signals: Signals, passed: tuple[bytes, ...] = ()) -> Iterator[Transfer]:
+    """The transfers of a VCD file, each as soon as it has ended; lines that begin with one of `passed` are passed over."""
+    if file.peek(len(SIGROK)).startswith(SIGROK):
+        raise Fault(called, None, "this is a sigrok file, which from-sigrok takes")
     progress = Progress(os.fstat(file.fileno()).st_size, "MB", MEGABYTE)
     try:
-        vcd = Vcd(file, called, progress)
+        vcd = Vcd(file, called, progress, passed)
         levels = vcd.levels(signals.scl, signals.sda)
         if signals.spike:
             levels = wire.without_spikes(levels, math.ceil(signals.spike / 10**9 / vcd.unit))
@@ -60,20 +63,35 @@ def from_vcd(file: BinaryIO, called: str, signals: Signals) -> Iterator[Transfer
         progress.over()
 
 
-def from_sigrok(path: str, signals: Signals) -> Iterator[Transfer]:
-    """The transfers of a sigrok file, which sigrok-cli turns into VCD on the way."""
+def _for_sigrok(path: str) -> None:
+    """What sigrok-cli cannot be asked is this program's message."""
+    if path == "-":
+        raise Failure("standard input: sigrok-cli opens a sigrok file by its name: give that in place of -")
     if not shutil.which("sigrok-cli"):
         raise Failure(
             f"{path}: sigrok-cli, which reads sigrok files, is not installed (Debian: apt-get install sigrok-cli);"
             " or save the capture as VCD in PulseView and use from-vcd"
         )
-    # Opened here, so that a file that is missing is this program's message.
-    with open(path, "rb"), tempfile.TemporaryFile() as said:
-        command = ["sigrok-cli", "-i", os.path.abspath(path), "-O", "vcd"]
-        with subprocess.Popen(command, stdin=subprocess.DEVNULL, stdout=subprocess.PIPE, stderr=said) as program:
+    with open(path, "rb") as file:
+        if file.read(len(SIGROK)) != SIGROK:
+            raise Fault(path, None, "this is no sigrok file; from-vcd takes a VCD")
+
+
+def _analog(command: list[str]) -> tuple[bytes, ...]:
+    """The beginnings of the lines about analog channels that sigrok-cli puts into its VCD."""
+    shown = subprocess.run([*command, "--show"], stdin=subprocess.DEVNULL, capture_output=True, check=False).stdout
+    return tuple(name + b": " for name in re.findall(rb"^- (.*): analog$", shown, re.MULTILINE))
+
+
+def from_sigrok(path: str, signals: Signals) -> Iterator[Transfer]:
+    """The transfers of a sigrok file, which sigrok-cli turns into VCD on the way."""
+    _for_sigrok(path)
+    command = ["sigrok-cli", "-i", os.path.abspath(path)]
+    with tempfile.TemporaryFile() as said:
+        with subprocess.Popen([*command, "-O", "vcd"], stdin=subprocess.DEVNULL, stdout=subprocess.PIPE, stderr=said) as program:
             came = program.stdout.peek(1)
             if came:
-                yield from from_vcd(program.stdout, path, signals)
+                yield from from_vcd(program.stdout, path, signals, _analog(command))
         if program.returncode or not came:
             said.seek(0)
             reason = said.read().decode(errors="replace").strip() or f"status {program.returncode}"

@@ -29,10 +29,10 @@ class Variable(NamedTuple):
 
 
 class Vcd:
-    """A VCD file whose header has been read; `unit` is its timescale in seconds."""
+    """A VCD file whose header has been read; `unit` is its timescale in seconds, and lines that begin with one of `passed` are passed over."""
 
-    def __init__(self, file: BinaryIO, name: str, progress: Progress) -> None:
-        self.file, self.name, self.progress = file, name, progress
+    def __init__(self, file: BinaryIO, name: str, progress: Progress, passed: tuple[bytes, ...] = ()) -> None:
+        self.file, self.name, self.progress, self.passed = file, name, progress, passed
         self.line = 0
         self.unit: Optional[Fraction] = None
         self.variables: list[Variable] = []
@@ -50,6 +50,8 @@ class Vcd:
             done += len(piece)
             self.line += ended
             ended = piece[-1:] == b"\n"
+            if piece.startswith(self.passed):
+                continue
             piece, kept = kept + piece, b""
             if not ended:
                 whole = len(piece) - len(re.search(rb"\S*\Z", piece)[0])

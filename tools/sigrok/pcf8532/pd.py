@@ -64,7 +64,7 @@ class Decoder(srd.Decoder):
 
     def reset(self):
         self.index = 0
-        self.course = None
+        self.course = self.model = None
 
     def start(self):
         self.annotated = self.register(srd.OUTPUT_ANN)
@@ -77,6 +77,9 @@ class Decoder(srd.Decoder):
             self._log(0, 0, version, bytes([version, *chips]))
 
     def decode(self, ss, es, data):
+        # sigrok goes on after a start that was refused.
+        if not self.model:
+            return
         packet, bits = data
         if packet in ("START", "START REPEAT"):
             self._end(ss)
