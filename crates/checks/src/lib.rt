@@ -3,9 +3,9 @@ use sheet::Check;
 use sheet::Chips;
 use sheet::Refusal;
 ghost use mathlib.Core.Path.{_≡_};
-ghost use Prim.Native.Nat.{_≤_, max};
+ghost use Prim.Native.Nat.{_+_, _≤_, max};
 ghost use lib.ListN.{length, getD, drop};
-ghost use Rattle.checks.specs.Highest.{highestOf};
+ghost use Rattle.checks.specs.Highest.{highestOf, firstOver};
 ghost use Rattle.sheet.specs.Parts.{partOf};
 ghost use Rattle.sheet.specs.Protocol.{sent, wholeCount, addressByte};
 ghost use Rattle.sheet.specs.Checks.{unless, orElse, overIn, checkPart, checkChips, checkLength, checkBits, passed};
@@ -78,7 +78,7 @@ fn highest(columns: &[u8]) -> u8
 
 // The columns of the blocks before the first one that has a column over 15.
 fn blocks_passed(columns: &[u8]) -> usize
-    ensures { λ r. ⌜ (overIn r (drop r (now (columns .entry))) ≡ overIn 0 (now (columns .entry))) × (r ≤ length (now (columns .entry))) ⌝ }
+    ensures { λ r. ⌜ (r + firstOver (drop r (now (columns .entry))) ≡ firstOver (now (columns .entry))) × (r ≤ length (now (columns .entry))) ⌝ }
 {
     let mut i = 0;
     while 32 <= columns.len() - i {
@@ -90,18 +90,18 @@ fn blocks_passed(columns: &[u8]) -> usize
     i
 }
 
-// The first column over 15, where there is one.
-pub fn search_over(columns: &[u8]) -> Check
-    ensures { λ r. ⌜ r ≡ overIn 0 (now (columns .entry)) ⌝ }
+// The place of the first column over 15, or past the last: a number, so that no answer goes through memory where there is none.
+pub fn search_over(columns: &[u8]) -> usize
+    ensures { λ r. ⌜ r ≡ firstOver (now (columns .entry)) ⌝ }
 {
     let mut i = blocks_passed(columns);
     while i < columns.len() {
         if 15 < columns[i] {
-            return Check::Refused(Refusal::RamByte(i));
+            return i;
         }
         i += 1;
     }
-    Check::Passed
+    i
 }
 
 // The first column over 15, if there is one; most RAMs have none.
@@ -111,7 +111,7 @@ pub fn first_over(columns: &[u8]) -> Check
     if highest(columns) <= 15 {
         Check::Passed
     } else {
-        search_over(columns)
+        Check::Refused(Refusal::RamByte(search_over(columns)))
     }
 }
 

@@ -82,13 +82,8 @@ pub fn write(part: u8, chips: u8, ram: &[u8], out: &mut [u8]) -> Written
 fn first_missing(given: &[u8]) -> Check
     ensures { λ r. ⌜ r ≡ missingIn 0 (now (given .entry)) ⌝ }
 {
-    match checks::search_over(given) {
-        Check::Refused(refusal) => {
-            let place = answers::place_of(refusal);
-            Check::Refused(Refusal::AddressMissing(place))
-        }
-        Check::Passed => Check::Passed,
-    }
+    let place = checks::search_over(given);
+    checks::unless(place == given.len(), Refusal::AddressMissing(place))
 }
 
 // After the end record: 27, then 26.

@@ -1,40 +1,38 @@
--- `image::first_missing` meets its contract: the first column over 15, by the other number.
+-- `image::first_missing` meets its contract: the first place over 15, by its own number.
 -- Assumes nothing.
-use mathlib.Core.Path.{_≡_, refl, sym, ap, _∙_}
+use mathlib.Core.Path.{_≡_, refl, ap, _∙_}
 use mathlib.Core.Bool.{Bool, true, false, cond}
 use mathlib.Core.List.{List, [], _∷_}
-use Prim.Native.Nat.{ℕ, suc}
-use lib.Dec.{ltb}
+use Prim.Native.Nat.{ℕ, suc, _+_}
+use native.Mathlib.Nat.{add-zero, add-suc, suc-add}
+use native.Mathlib.Omega.{arith}
+use lib.Dec.{ltb, eqb, eqb·suc-suc, eqb·zero-suc}
+use lib.ListN.{length}
 use denote.Ref.{now}
-use borrow.Author.Needs.{needs}
-use Rattle.sheet.specs.declared.Refusal.the-variants.{RamByte, AddressMissing}
-use Rattle.sheet.specs.declared.Check.{Check}
-use Rattle.sheet.specs.declared.Check.the-variants.{Passed, Refused}
-use Rattle.sheet.specs.Refusals.{placeOf}
-use Rattle.sheet.specs.Checks.{overIn}
+use Rattle.sheet.specs.declared.Refusal.the-variants.{AddressMissing}
+use Rattle.sheet.specs.declared.Check.the-variants.{Refused}
+use Rattle.sheet.specs.Checks.{unless}
+use Rattle.checks.specs.Highest.{firstOver}
 use Rattle.image_sheet.specs.Images.{missingIn}
+use borrow.Author.Needs.{needs}
 use Rattle.image.proofs.first_missing.Statement.{statement}
 use Rattle.image.proofs.first_missing.Tie as tie
 
-abbrev renumbered : Check → Check
-renumbered Passed = Passed
-renumbered (Refused r) = Refused (AddressMissing (placeOf r))
-
-either : (over : Bool) (i : ℕ) {x : Check} (y : Check) → x ≡ renumbered y → cond over (Refused (AddressMissing i)) x ≡ renumbered (cond over (Refused (RamByte i)) y)
-either true i y e = refl
-either false i y e = e
-
-missing-is : (i : ℕ) (given : List ℕ) → missingIn i given ≡ renumbered (overIn i given)
-unfolding missingIn overIn
-missing-is i [] = refl
-missing-is i (q ∷ qs) = either (ltb 15 q) i (overIn (suc i) qs) (missing-is (suc i) qs)
-
--- by what the search answers
-told : (c : tie.After-search-over) (k : Check) → c .search-over .result ≡ k → renumbered k ≡ missingIn 0 (now (c .before .before .args .given))
-told c k e = ap renumbered (sym e ∙ c .search-over .ensures) ∙ sym (missing-is 0 (now (c .before .before .args .given)))
+first-missing : (i : ℕ) (given : List ℕ) → unless (eqb (firstOver given) (length given)) (AddressMissing (i + firstOver given)) ≡ missingIn i given
+unfolding firstOver missingIn
+first-missing i [] = refl
+first-missing i (q ∷ qs) = by-place (ltb 15 q) (first-missing (suc i) qs)
+  where
+    by-place : (over : Bool) → unless (eqb (firstOver qs) (length qs)) (AddressMissing (suc i + firstOver qs)) ≡ missingIn (suc i) qs
+        → unless (eqb (cond over 0 (suc (firstOver qs))) (suc (length qs))) (AddressMissing (i + cond over 0 (suc (firstOver qs)))) ≡ cond over (Refused (AddressMissing i)) (missingIn (suc i) qs)
+    by-place true later = rw (eqb·zero-suc (length qs), add-zero i) refl
+    by-place false later = rw (eqb·suc-suc (firstOver qs) (length qs), add-suc i (firstOver qs), ← suc-add i (firstOver qs)) later
 
 returns : tie.Need-returns
-returns c = ap (λ (i : ℕ). Refused (AddressMissing i)) (c .place-of .ensures) ∙ told (c .before .before .before .before) _ (c .before .before .refusal .given .1)
+returns c = let place = c .before .search-over in
+    let given = now (c .before .before .before .args .given) in
+    c .unless .ensures ∙ ap (λ (p : ℕ). unless (eqb p (length given)) (AddressMissing p)) (place .ensures)
+    ∙ ap (λ (p : ℕ). unless (eqb (firstOver given) (length given)) (AddressMissing p)) {y = 0 + firstOver given} (omega arith) ∙ first-missing 0 given
 
 pub first-missing-spec : {M : Type 1} → statement M
-first-missing-spec = tie.close (tie.spec (λ c κs. search needs) (λ c. search needs) (λ c κs. search needs) (λ c. search needs) returns (λ c. told (c .before .before) _ (c .enum-told .given .1)))
+first-missing-spec = tie.close (tie.spec (λ c κs. search needs) (λ c κs. search needs) returns)
