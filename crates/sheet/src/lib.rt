@@ -93,6 +93,11 @@ pub enum Check {
     Refused(Refusal),
 }
 
+pub struct PowerOn {
+    pub check: Check,
+    pub registers: Both,
+}
+
 // What follows a control byte: commands or display data, by its RS.
 pub enum Kind {
     Command,
@@ -112,9 +117,10 @@ pub enum Addressed {
     Nobody,
 }
 
+// Stored and discarded bits do not stand side by side, so that they are not read as one word right after they are written as two.
 pub struct Counts {
-    pub acknowledged: usize,
     pub stored: usize,
+    pub acknowledged: usize,
     pub discarded: usize,
 }
 
@@ -132,11 +138,6 @@ pub enum Answer {
 
 pub struct Transferred {
     pub answer: Answer,
-    pub registers: Both,
-}
-
-pub struct PowerOn {
-    pub check: Check,
     pub registers: Both,
 }
 
