@@ -1,7 +1,7 @@
 -- The code's state, which has no RAM: with a RAM it stands for a group of `sheet`. What a byte that is no data, and what a run of data, make of it.
 use Prim.Native.Nat.{ℕ, _+_, _<_, _^_}
 use mathlib.Core.Path.{_≡_}
-use mathlib.Core.Bool.{Bool, true, _&&_}
+use mathlib.Core.Bool.{Bool, true, false, cond, _&&_}
 use mathlib.Core.List.{List}
 use Rattle.sheet.specs.declared.Registers.{Registers}
 use Rattle.sheet.specs.declared.Counts.{Counts}
@@ -24,10 +24,14 @@ listenerOf e g = record { expect = e; registers = g .registers; counts = g .coun
 
 -- ---- a byte that is no data
 
+abbrev pub isControl : Expect → Bool
+isControl Control = true
+isControl (One k) = false
+isControl (All k) = false
+
+-- a control byte changes no register; what follows one is a command
 abbrev pub obeyedBy : Part → Expect → ℕ → Registers → Registers
-obeyedBy K Control x r = r
-obeyedBy K (One k) x r = obeyed r (K .command x)
-obeyedBy K (All k) x r = obeyed r (K .command x)
+obeyedBy K e x r = cond (isControl e) r (obeyed r (K .command x))
 
 abbrev pub stepped : Part → Listener → ℕ → Listener
 stepped K l x = record { expect = next (l .expect) x; registers = obeyedBy K (l .expect) x (l .registers); counts = oneAcknowledged (l .counts); last = l .last }

@@ -11,7 +11,7 @@ ghost use Rattle.sheet.specs.Parts.{partOf};
 ghost use Rattle.sheet.specs.Data.{acknowledger};
 ghost use Rattle.sheet.specs.Long.{oneAcknowledged, begun};
 ghost use Rattle.sheet.specs.Runs.{countedRun, lastRun};
-ghost use Rattle.listener.specs.Listeners.{listenerOf, obeyedBy, dataEnd, stepped, ran, endedBy, Countable, Placed, Runs};
+ghost use Rattle.listener.specs.Listeners.{listenerOf, isControl, obeyedBy, dataEnd, stepped, ran, endedBy, Countable, Placed, Runs};
 
 // The protocol position, with the registers, the counts, and who acknowledged the last data byte.
 pub struct Listener {
@@ -64,14 +64,25 @@ fn acknowledged(mut counts: Counts) -> Counts
     counts
 }
 
-// The registers after a byte that is no data: a command is obeyed.
+// Whether the next byte is a control byte.
+fn is_control(expect: Expect) -> bool
+    ensures { λ r. ⌜ r ≡ isControl expect ⌝ }
+{
+    match expect {
+        Expect::Control => true,
+        Expect::One(_) => false,
+        Expect::All(_) => false,
+    }
+}
+
+// The registers after a byte that is no data: a command is obeyed, from one place, so that the call is inlined.
 fn obeyed_by(part: u8, expect: Expect, byte: u8, registers: Registers) -> Registers
     ensures { λ r. ⌜ r ≡ obeyedBy (partOf part) expect byte registers ⌝ }
 {
-    match expect {
-        Expect::Control => registers,
-        Expect::One(_) => command::obey(part, registers, byte),
-        Expect::All(_) => command::obey(part, registers, byte),
+    if is_control(expect) {
+        registers
+    } else {
+        command::obey(part, registers, byte)
     }
 }
 

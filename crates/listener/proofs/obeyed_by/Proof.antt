@@ -1,28 +1,15 @@
--- `listener::obeyed_by` meets its contract: both kinds of byte after a control byte are commands.
+-- `listener::obeyed_by` meets its contract: what is no control byte is a command.
 -- Assumes nothing.
-use mathlib.Core.Path.{refl}
+use mathlib.Core.Path.{refl, sym, _∙_}
 use borrow.Author.Needs.{needs}
 use Rattle.listener.proofs.obeyed_by.Statement.{statement}
 use Rattle.listener.proofs.obeyed_by.Tie as tie
 
 returns : tie.Need-returns
-returns c = rw (c .enum-told .given .1) refl
+returns c = rw (sym (c .before .is-control .ensures) ∙ c .if1 .taken) refl
 
 returns-2 : tie.Need-returns-2
-returns-2 c = rw (c .before .enum-told2 .given .1) (c .obey .ensures)
-
-returns-3 : tie.Need-returns-3
-returns-3 c = rw (c .before .enum-told3 .given .1) (c .obey2 .ensures)
+returns-2 c = rw (sym (c .before .before .is-control .ensures) ∙ c .before .if1 .left) (c .obey .ensures)
 
 pub obeyed-by-spec : {M : Type 1} → statement M
-obeyed-by-spec =
-    tie.close
-    (tie.spec
-    (λ c. search needs)
-    (λ c. search needs)
-    (λ c κs. search needs)
-    (λ c. search needs)
-    (λ c κs. search needs)
-    returns
-    returns-2
-    returns-3)
+obeyed-by-spec = tie.close (tie.spec (λ c κs. search needs) (λ c κs. search needs) returns returns-2)
