@@ -33,7 +33,7 @@ fn draw_some(columns: &[u8], first: usize, height: usize, out: &mut [u8]) -> u8
     ones
 }
 
-// Writes these rows of each column and counts their ones, 32 columns after the other.
+// Writes these rows of each column and counts their ones, 32 columns after the other and then those that are left.
 fn draw(columns: &[u8], first: usize, height: usize, out: &mut [u8]) -> usize
     requires { ⌜ Drawable (now columns) first height (now out) ⌝ }
     ensures { λ r. ⌜ record { lit = r; out = now (out .exit) } ≡ drawn first height (now (columns .entry)) ⌝ }
@@ -41,13 +41,14 @@ fn draw(columns: &[u8], first: usize, height: usize, out: &mut [u8]) -> usize
     let n = columns.len();
     let mut lit = 0;
     let mut start = 0;
-    while start < n {
-        let end = arithmetic::least(start + 32, n);
+    while 32 <= n - start {
+        let end = start + 32;
         let ones = draw_some(&columns[start..end], first, height, &mut out[start..end]);
         lit += ones as usize;
         start = end;
     }
-    lit
+    let ones = draw_some(&columns[start..n], first, height, &mut out[start..n]);
+    lit + ones as usize
 }
 
 // Writes these rows of at most 32 packed columns, two a byte, and counts their ones.
@@ -70,7 +71,7 @@ fn draw_pairs(ram: &[u8], first: usize, height: usize, out: &mut [u8]) -> u8
     ones
 }
 
-// Writes these rows of each packed column and counts their ones, 32 columns after the other.
+// Writes these rows of each packed column and counts their ones, in the same way.
 fn draw_packed(ram: &[u8], first: usize, height: usize, out: &mut [u8]) -> usize
     requires { ⌜ Drawable (unpacked (now ram)) first height (now out) ⌝ }
     ensures { λ r. ⌜ record { lit = r; out = now (out .exit) } ≡ drawn first height (unpacked (now (ram .entry))) ⌝ }
@@ -78,8 +79,8 @@ fn draw_packed(ram: &[u8], first: usize, height: usize, out: &mut [u8]) -> usize
     let n = ram.len();
     let mut lit: usize = 0;
     let mut start = 0;
-    while start < n {
-        let end = arithmetic::least(start + 16, n);
+    while 16 <= n - start {
+        let end = start + 16;
         let ones = draw_pairs(
             &ram[start..end],
             first,
@@ -89,7 +90,8 @@ fn draw_packed(ram: &[u8], first: usize, height: usize, out: &mut [u8]) -> usize
         lit += ones as usize;
         start = end;
     }
-    lit
+    let ones = draw_pairs(&ram[start..n], first, height, &mut out[2 * start..2 * n]);
+    lit + ones as usize
 }
 
 // Of columns that are a byte each, or packed.

@@ -1,11 +1,11 @@
--- `picture::draw_packed` meets its contract: after each turn all columns before a place are written and counted.
+-- `picture::draw_packed` meets its contract: as `draw`, over the columns that the bytes hold.
 -- Assumes nothing.
-use mathlib.Core.Path.{sym, ap, _∙_}
+use mathlib.Core.Path.{_≡_, sym, ap, _∙_}
 use mathlib.Core.List.{List}
-use Prim.Native.Nat.{ℕ, _-_, _*_, _≤_, _<_}
-use native.Mathlib.Nat.{le-of-lt}
+use Prim.Native.Nat.{ℕ, _+_, _-_, _*_, _≤_}
 use native.Mathlib.Omega.{arith}
 use lib.ListN.{length, length-take, length-drop}
+use denote.Ref.{now}
 use Rattle.packed_sheet.specs.Packed.{unpacked}
 use Rattle.laws.proofs.Packed.{length-unpacked, unpacked-part}
 use Rattle.picture.specs.Drawn.{drawn}
@@ -15,44 +15,72 @@ use Rattle.picture.proofs.draw_packed.Statement.{statement}
 use Rattle.picture.proofs.draw_packed.Tie as tie
 
 abbrev Inv-loop : tie.InvT-loop
-Inv-loop ram first height out₀ n lit₀ start₀ out lit start = Drawing first height (unpacked ram) out lit (2 * start)
+Inv-loop ram first height out₀ n lit₀ start₀ out lit start = Drawing first height (unpacked ram) out lit (2 * start) × (start ≤ length ram)
 
 abbrev μ-loop : tie.MeasureT-loop
 μ-loop ram first height out₀ n lit₀ start₀ out lit start = length ram - start
 
--- a turn ends after its place and no later than the bytes
-further : (c : tie.After-least Inv-loop μ-loop) → c .before .before .loop .start < c .least .result
-further c = omega (arith, c .least .ensures, c .before .loop-test .taken)
+-- two columns a byte, at most 1280
+sized : (c : tie.At-loop Inv-loop μ-loop) → let s = c .before .before .before in (length (unpacked (now (s .args .ram))) ≡ 2 * length (now (s .args .ram))) × (length (now (s .args .ram)) ≤ 640)
+sized c = let s = c .before .before .before in (length-unpacked (now (s .args .ram)), omega (arith, length-unpacked (now (s .args .ram)), s .pre .most))
 
-within : (c : tie.After-least Inv-loop μ-loop) → let s = c .before .before .before .before .before in (c .least .result ≤ length (s .args .ram .now)) × (2 * c .least .result ≤ length (unpacked (s .args .ram .now)))
-within c = let s = c .before .before .before .before .before in (omega (arith, c .least .ensures), omega (arith, c .least .ensures, length-unpacked (s .args .ram .now)))
-
--- which are at most 640
-bounded : (c : tie.After-least Inv-loop μ-loop) → c .least .result ≤ 640
-bounded c = omega (arith, within c .1, c .before .before .before .before .before .pre .most)
+-- 16 bytes more are there
+within : (c : tie.In-loop Inv-loop μ-loop) → c .before .loop .start + 16 ≤ length (now (c .before .before .before .before .args .ram))
+within c = omega (arith, c .loop-test .taken, c .before .loop .inv .1)
 
 draw-pairs-requires : tie.Need-draw-pairs-requires Inv-loop μ-loop
-draw-pairs-requires c κs = let e = c .before .before in
-    let p = e .before .before in
-    let s = p .before .before .before in
+draw-pairs-requires c κs = let p = c .before .before .before in
+    let pre = p .before .before .before .pre in
     record {
-      size = simp (length-take, length-drop, length-unpacked) (omega (arith, p .loop .inv .mapped .size, length-unpacked (s .args .ram .now), within e .0, further e));
-      below = s .pre .below;
-      rows = s .pre .rows;
-      most = simp (length-take, length-drop, length-unpacked) (omega (arith, e .least .ensures));
+      size = simp (length-take, length-drop, length-unpacked) (omega (arith, p .loop .inv .0 .mapped .size, sized p .0, within (c .before .before)));
+      below = pre .below;
+      rows = pre .rows;
+      most = simp (length-take, length-drop, length-unpacked) (omega arith);
     }
 
 loop-again : tie.Need-loop-again Inv-loop μ-loop
-loop-again c = let e = c .before .before .before .before .before in
-    let p = e .before .before in
-    let a = p .before .before .before .args in
-    part-turn (p .loop .inv) (omega (arith, further e)) (within e .1)
-    (c .before .before .draw-pairs .ensures ∙ ap (λ (l : List ℕ). drawn (a .first) (a .height) l) (unpacked-part (p .loop .start) (e .least .result) (a .ram .now)))
+loop-again c = let l = c .before .before .before .before .before in
+    let p = l .before in
+    let a = p .before .before .before .args in (
+      part-turn (p .loop .inv .0) (omega arith) (omega (arith, within l, sized p .0))
+          (c .before .before .draw-pairs .ensures ∙ ap (λ (l : List ℕ). drawn (a .first) (a .height) l) (unpacked-part (p .loop .start) (p .loop .start + 16) (now (a .ram)))),
+      within l,
+    )
 
 add-lit : tie.Need-add-lit Inv-loop μ-loop
-add-lit c = let p = c .before .before .before .before .before .before .before in
+add-lit c = let l = c .before .before .before .before .before in
+    omega (arith, few (l .before .loop .inv .0) (l .before .before .before .before .pre .rows), within l, sized (l .before) .1)
+
+draw-pairs-requires-2 : tie.Need-draw-pairs-requires-2 Inv-loop μ-loop
+draw-pairs-requires-2 c κs = let l = c .before .before in
+    let p = l .before in
+    let pre = p .before .before .before .pre in
+    record {
+      size = simp (length-take, length-drop, length-unpacked) (omega (arith, p .loop .inv .0 .mapped .size, p .loop .inv .1, sized p .0));
+      below = pre .below;
+      rows = pre .rows;
+      most = simp (length-take, length-drop, length-unpacked) (omega (arith, l .loop-test .left));
+    }
+
+-- the bytes that are left, too
+same-length : tie.Need-same-length Inv-loop μ-loop
+same-length c = let d = c .before .before in
+    let p = d .before .before .before .before in
     let s = p .before .before .before in
-    omega (arith, few (p .loop .inv) (s .pre .rows), c .before .before .before .before .before .before .loop-test .taken, s .pre .most, length-unpacked (s .args .ram .now))
+    let a = s .args in
+    let drawn-rest = d .draw-pairs2 .ensures ∙ ap (λ (l : List ℕ). drawn (a .first) (a .height) l) (unpacked-part (p .loop .start) (length (now (a .ram))) (now (a .ram))) in
+    part-turn (p .loop .inv .0) (omega (arith, p .loop .inv .1)) (omega (arith, sized p .0)) drawn-rest .mapped .size ∙ sym (s .pre .size)
+
+returns : tie.Need-returns Inv-loop μ-loop
+returns c = let d = c .before .before in
+    let p = d .before .before .before .before in
+    let a = p .before .before .before .args in
+    let drawn-rest = d .draw-pairs2 .ensures ∙ ap (λ (l : List ℕ). drawn (a .first) (a .height) l) (unpacked-part (p .loop .start) (length (now (a .ram))) (now (a .ram))) in
+    done (part-turn (p .loop .inv .0) (omega (arith, p .loop .inv .1)) (omega (arith, sized p .0)) drawn-rest) (omega (arith, sized p .0))
+
+add-result : tie.Need-add-result Inv-loop μ-loop
+add-result c = let p = c .before .before .before .before .before .before in
+    omega (arith, few (p .loop .inv .0) (p .before .before .before .pre .rows), p .loop .inv .1, sized p .1)
 
 pub draw-packed-spec : {M : Type 1} → statement M
 draw-packed-spec =
@@ -60,21 +88,32 @@ draw-packed-spec =
     (tie.spec
     Inv-loop
     μ-loop
-    (λ c. begun (c .before .before .pre .size))
-    (λ c. let s = c .before .before .before .before in omega (arith, c .loop-test .taken, s .pre .most, length-unpacked (s .args .ram .now)))
-    (λ c κs. search needs)
-    (λ c. le-of-lt (further c))
-    (λ c. le-of-lt (further c))
-    (λ c. within c .0)
-    (λ c. omega (arith, further (c .before), bounded (c .before)))
-    (λ c. omega (arith, bounded (c .before)))
-    (λ c. omega (arith, further (c .before)))
-    (λ c. omega (arith, further (c .before)))
-    (λ c. omega (arith, within (c .before) .1, c .before .before .before .loop .inv .mapped .size))
+    (λ c. (begun (c .before .before .pre .size), omega arith))
+    (λ c. c .loop .inv .1)
+    (λ c. omega (arith, within c, sized (c .before) .1))
+    (λ c. omega arith)
+    (λ c. omega arith)
+    (λ c. within c)
+    (λ c. omega (arith, within (c .before), sized (c .before .before) .1))
+    (λ c. omega (arith, within (c .before), sized (c .before .before) .1))
+    (λ c. omega arith)
+    (λ c. omega arith)
+    (λ c. omega (arith, within (c .before), sized (c .before .before) .0, c .before .before .loop .inv .0 .mapped .size))
     draw-pairs-requires
     (λ c. search needs)
     add-lit
-    (λ c. let e = c .before .before .before .before .before in omega (arith, further e, within e .0))
+    (λ c. omega (arith, within (c .before .before .before .before .before)))
     loop-again
-    (λ c. c .before .loop .inv .mapped .size ∙ sym (c .before .before .before .before .pre .size))
-    (λ c. let s = c .before .before .before .before in done (c .before .loop .inv) (omega (arith, length-unpacked (s .args .ram .now), c .loop-test .left))))
+    (λ c. c .before .loop .inv .1)
+    (λ c. c .before .loop .inv .1)
+    (λ c. omega arith)
+    (λ c. omega (arith, c .before .before .loop .inv .1, sized (c .before .before) .1))
+    (λ c. omega (arith, sized (c .before .before) .1))
+    (λ c. omega (arith, c .before .before .loop .inv .1))
+    (λ c. omega (arith, c .before .before .loop .inv .1))
+    (λ c. omega (arith, sized (c .before .before) .0, c .before .before .loop .inv .0 .mapped .size))
+    draw-pairs-requires-2
+    (λ c. search needs)
+    add-result
+    same-length
+    returns)
