@@ -79,8 +79,7 @@ fn static_run(ram: &mut [u8], v: usize, bank: u8, bytes: &[u8])
         let at = v + 8 * i;
         let high = (bytes[i] / 16) as usize;
         let low = (bytes[i] % 16) as usize;
-        words::put_four(ram, at, rows, table[high]);
-        words::put_four(ram, at + 4, rows, table[low]);
+        words::put_eight(ram, at, rows, table[high], table[low]);
         i += 1;
     }
 }
@@ -98,43 +97,43 @@ fn two_run(ram: &mut [u8], v: usize, bank: u8, bytes: &[u8])
     }
 }
 
-// The three columns of a byte in 1:3 as a word: what its first four bits give, and what its last four.
+// The three columns of a byte in 1:3 as a word: what its first four bits give of column 0 and of column 1, and what its last four give of column 1 and of column 2.
 const FIRST_BITS: [u32; 16] = [
-    0x000000,
-    0x000100,
-    0x000004,
-    0x000104,
-    0x000002,
-    0x000102,
-    0x000006,
-    0x000106,
-    0x000001,
-    0x000101,
-    0x000005,
-    0x000105,
-    0x000003,
-    0x000103,
-    0x000007,
-    0x000107,
+    0,
+    0x0100,
+    4,
+    4 + 0x0100,
+    2,
+    2 + 0x0100,
+    6,
+    6 + 0x0100,
+    1,
+    1 + 0x0100,
+    5,
+    5 + 0x0100,
+    3,
+    3 + 0x0100,
+    7,
+    7 + 0x0100,
 ];
 
 const LAST_BITS: [u32; 16] = [
-    0x000000,
+    0,
     0x020000,
     0x010000,
     0x030000,
-    0x000400,
-    0x020400,
-    0x010400,
-    0x030400,
-    0x000200,
-    0x020200,
-    0x010200,
-    0x030200,
-    0x000600,
-    0x020600,
-    0x010600,
-    0x030600,
+    0x0400,
+    0x0400 + 0x020000,
+    0x0400 + 0x010000,
+    0x0400 + 0x030000,
+    0x0200,
+    0x0200 + 0x020000,
+    0x0200 + 0x010000,
+    0x0200 + 0x030000,
+    0x0600,
+    0x0600 + 0x020000,
+    0x0600 + 0x010000,
+    0x0600 + 0x030000,
 ];
 
 // A byte's three columns as a word.

@@ -16,7 +16,7 @@ use Rattle.sheet.specs.Data.{changed, putBits}
 use Rattle.laws.proofs.Rows.{changed-other}
 use Rattle.laws.proofs.Runs.{changed-alike}
 use Rattle.laws.proofs.Nibbles.{Nibbles, bits-nibbles}
-use Rattle.words.specs.Fields.{withRows, field, columnOf, joined, mixed, merged, threeColumns, threeRows, Spread}
+use Rattle.words.specs.Fields.{withRows, field, columnOf, joined, laid, mixed, merged, threeColumns, threeRows, Spread}
 use Rattle.words.proofs.Fields.{field-lt, column}
 
 -- ---- column by column
@@ -48,11 +48,6 @@ column-joined (suc n) q w (suc j) h =
 
 -- ---- the columns of a word stored
 
--- one after the other
-unfoldable pub laid : ℕ → ℕ → ℕ → List ℕ → List ℕ
-laid zero w v ram = ram
-laid (suc n) w v ram = set (laid n w v ram) (v + n) (columnOf w n)
-
 merged-after : (n r t v : ℕ) (ram : List ℕ) (c : ℕ) → v + n ≤ c → getD (merged n r t v ram) c 0 ≡ getD ram c 0
 unfolding merged
 merged-after zero r t v ram c h = refl
@@ -75,6 +70,64 @@ word-merged n r t v ram w =
     laid-merged n (mixed r t (joined n (λ j. getD ram (v + j) 0))) r t v ram
     (λ j h. column-mixed r t (joined n (λ i. getD ram (v + i) 0)) j
     ∙ ap (mixed (columnOf r j) (columnOf t j)) (column-joined n (λ i. getD ram (v + i) 0) (λ i. w (v + i)) j h))
+
+-- a column by another name, at the same place
+at-place : (r s t u p q : ℕ) {l k : List ℕ} → r ≡ s → t ≡ u → p ≡ q → l ≡ k → changed (mixed r t) p l ≡ changed (mixed s u) q k
+at-place r s t u p q er et ep el = rw (er, et, ep, el)
+
+-- of two words as one, the columns of each
+low-column : (x y j : ℕ) → x < 4294967296 → j < 4 → columnOf (x + 4294967296 * y) j ≡ columnOf x j
+unfolding columnOf
+low-column x y zero lx h = omega arith
+low-column x y (suc zero) lx h = omega arith
+low-column x y (suc (suc zero)) lx h = omega arith
+low-column x y (suc (suc (suc zero))) lx h = omega arith
+low-column x y (suc (suc (suc (suc j)))) lx h = absurd (omega arith)
+
+high-column : (x y j : ℕ) → x < 4294967296 → columnOf (x + 4294967296 * y) (4 + j) ≡ columnOf y j
+unfolding columnOf
+high-column x y j lx =
+    let n : ℕ = x + 4294967296 * y in
+    let e : n / 4294967296 ≡ y = omega arith in
+    ap (λ (k : ℕ). k % 256) (ap (λ (k : ℕ). n / 2 ^ k) {x = 8 * (4 + j)} {y = 32 + 8 * j} (omega arith) ∙ sym (shr-shr n 32 (8 * j)) ∙ ap (λ (k : ℕ). k / 2 ^ (8 * j)) e)
+
+-- a word stored as its two halves
+low-half : (w j : ℕ) → j < 4 → columnOf (w % 4294967296) j ≡ columnOf w j
+low-half w j h =
+    let whole : w % 4294967296 + 4294967296 * (w / 4294967296) ≡ w = omega arith in
+    sym (low-column (w % 4294967296) (w / 4294967296) j (omega arith) h) ∙ ap (λ (n : ℕ). columnOf n j) whole
+
+high-half : (w j : ℕ) → j < 4 → columnOf (w / 4294967296 % 4294967296) j ≡ columnOf w (4 + j)
+high-half w j h =
+    let whole : w % 4294967296 + 4294967296 * (w / 4294967296) ≡ w = omega arith in
+    low-half (w / 4294967296) j h ∙ sym (high-column (w % 4294967296) (w / 4294967296) j (omega arith)) ∙ ap (λ (n : ℕ). columnOf n (4 + j)) whole
+
+at-set : {l k : List ℕ} (p q a b : ℕ) → p ≡ q → a ≡ b → l ≡ k → set l p a ≡ set k q b
+at-set p q a b ep ea el = rw (ep, ea, el) refl
+
+pub laid-eight : (w v : ℕ) (ram : List ℕ) → laid 4 (w / 4294967296 % 4294967296) (v + 4) (laid 4 (w % 4294967296) v ram) ≡ laid 8 w v ram
+unfolding laid
+laid-eight w v ram =
+    at-set (v + 4 + 3) (v + 7) _ _ (omega arith) (high-half w 3 (omega arith))
+    (at-set (v + 4 + 2) (v + 6) _ _ (omega arith) (high-half w 2 (omega arith))
+    (at-set (v + 4 + 1) (v + 5) _ _ (omega arith) (high-half w 1 (omega arith))
+    (at-set (v + 4 + 0) (v + 4) _ _ (omega arith) (high-half w 0 (omega arith))
+    (at-set (v + 3) (v + 3) _ _ refl (low-half w 3 (omega arith)) (at-set (v + 2) (v + 2) _ _ refl (low-half w 2 (omega arith)) (at-set (v + 1) (v + 1) _ _ refl (low-half w 1 (omega arith)) (at-set {l = ram} (v + 0) (v + 0) _ _ refl (low-half w 0 (omega arith)) refl)))))))
+
+-- eight columns are four and four
+pub eight : (v r a b : ℕ) (ram : List ℕ) → r < 4294967296 → a < 4294967296 → merged 8 (r + 4294967296 * r) (a + 4294967296 * b) v ram ≡ merged 4 r b (v + 4) (merged 4 r a v ram)
+unfolding merged
+eight v r a b ram lr la = high 3 (high 2 (high 1 (high 0 (low 3 (omega arith) (low 2 (omega arith) (low 1 (omega arith) (low 0 (omega arith) refl)))))))
+  where
+    low : (j : ℕ) → j < 4 → {l k : List ℕ} → l ≡ k → changed (mixed (columnOf (r + 4294967296 * r) j) (columnOf (a + 4294967296 * b) j)) (v + j) l ≡ changed (mixed (columnOf r j) (columnOf a j)) (v + j) k
+    low j h el = at-place _ _ _ _ _ _ (low-column r r j lr h) (low-column a b j la h) refl el
+
+    high : (j : ℕ) {l k : List ℕ} → l ≡ k → changed (mixed (columnOf (r + 4294967296 * r) (4 + j)) (columnOf (a + 4294967296 * b) (4 + j))) (v + (4 + j)) l ≡ changed (mixed (columnOf r j) (columnOf b j)) (v + 4 + j) k
+    high j el = at-place _ _ _ _ _ _ (high-column r r j lr) (high-column a b j la) (omega arith) el
+
+pub joined-eight : (q : ℕ → ℕ) → joined 4 q + 4294967296 * joined 4 (λ j. q (4 + j)) ≡ joined 8 q
+unfolding joined
+joined-eight q = omega arith
 
 -- ---- the rows of a bank
 
@@ -127,9 +180,8 @@ first-four m r bank x v t ram after there puts pm few pb w told e =
 
 -- ---- 1:3, a byte and four of them
 
--- a column's rows by another name, at the same place
 at-column : (r t u p q : ℕ) {l k : List ℕ} → t ≡ u → p ≡ q → l ≡ k → changed (mixed r t) p l ≡ changed (mixed r u) q k
-at-column r t u p q et ep el = rw (et, ep, el)
+at-column r t u p q et ep el = at-place r r t u p q refl et ep el
 
 -- the first h rows become f, in a column of four rows
 abbrev firstRowsPut : ℕ → Bool

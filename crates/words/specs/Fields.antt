@@ -4,6 +4,7 @@ use Prim.Native.Nat.{ℕ, zero, suc, _+_, _*_, _/_, _%_, _^_, _<_}
 use mathlib.Core.Path.{_≡_}
 use mathlib.Core.List.{List}
 use lib.Bits.{bitAnd, bitOr, bitXor}
+use lib.ListN.{set}
 use Rattle.sheet.specs.Data.{bitOf, changed}
 
 -- rows b to b + h - 1 of a column made the binary digits of f, the other rows kept
@@ -23,6 +24,11 @@ columnOf w j = w / 2 ^ (8 * j) % 256
 unfoldable pub joined : ℕ → (ℕ → ℕ) → ℕ
 joined zero q = 0
 joined (suc n) q = joined n (λ j. q (suc j)) * 256 + q 0
+
+-- its first n columns stored, one after the other
+unfoldable pub laid : ℕ → ℕ → ℕ → List ℕ → List ℕ
+laid zero w v ram = ram
+laid (suc n) w v ram = set (laid n w v ram) (v + n) (columnOf w n)
 
 -- a column with the rows in r made those of t, the other rows kept
 unfoldable pub mixed : ℕ → ℕ → ℕ → ℕ

@@ -5,7 +5,7 @@ ghost use lib.ListN.{length, getD};
 ghost use Rattle.sheet.specs.declared.Check.the-variants.{Passed};
 ghost use Rattle.sheet.specs.Checks.{overIn};
 ghost use Rattle.sheet.specs.Data.{changed, putBits};
-ghost use Rattle.words.specs.Fields.{field, joined, merged, threeRows, Spread};
+ghost use Rattle.words.specs.Fields.{field, joined, laid, merged, threeRows, Spread};
 
 // ---- column by column
 
@@ -67,18 +67,46 @@ pub fn four_columns(ram: &[u8], at: usize) -> u32
     low + 65536 * high
 }
 
-// Four columns at once: the rows in `rows` become those of t. The four stores become one.
+// A word stored as four columns, the lowest first. The four stores become one.
+fn store_four(ram: &mut [u8], at: usize, w: u32)
+    requires { ⌜ at + 4 ≤ length (now ram) ⌝ }
+    ensures { λ _. ⌜ now (ram .exit) ≡ laid 4 w at (now (ram .entry)) ⌝ }
+{
+    ram[at] = (w % 256) as u8;
+    ram[at + 1] = (w / 256 % 256) as u8;
+    ram[at + 2] = (w / 65536 % 256) as u8;
+    ram[at + 3] = (w / 16777216 % 256) as u8;
+}
+
+// Four columns at once: the rows in `rows` become those of t.
 pub fn put_four(ram: &mut [u8], at: usize, rows: u32, t: u32)
     requires { ⌜ at + 4 ≤ length (now ram) ⌝ }
     ensures { λ _. ⌜ now (ram .exit) ≡ merged 4 rows t at (now (ram .entry)) ⌝ }
 {
     let old = four_columns(ram, at);
     let kept = (old | rows) ^ rows;
-    let w = kept | (t & rows);
-    ram[at] = (w % 256) as u8;
-    ram[at + 1] = (w / 256 % 256) as u8;
-    ram[at + 2] = (w / 65536 % 256) as u8;
-    ram[at + 3] = (w / 16777216 % 256) as u8;
+    store_four(ram, at, kept | (t & rows));
+}
+
+// Two words as one.
+fn double(low: u32, high: u32) -> u64
+    ensures { λ r. ⌜ r ≡ low + 4294967296 * high ⌝ }
+{
+    low as u64 + 4294967296 * (high as u64)
+}
+
+// Eight columns at once, of which a is the word of the first four and b that of the others. The two words become one.
+pub fn put_eight(ram: &mut [u8], at: usize, rows: u32, a: u32, b: u32)
+    requires { ⌜ at + 8 ≤ length (now ram) ⌝ }
+    ensures { λ _. ⌜ now (ram .exit) ≡ merged 4 rows b (at + 4) (merged 4 rows a at (now (ram .entry))) ⌝ }
+{
+    let old = double(four_columns(ram, at), four_columns(ram, at + 4));
+    let both = double(rows, rows);
+    let t = double(a, b);
+    let kept = (old | both) ^ both;
+    let w = kept | (t & both);
+    store_four(ram, at, (w % 4294967296) as u32);
+    store_four(ram, at + 4, (w / 4294967296 % 4294967296) as u32);
 }
 
 // 1:3: the words of four bytes, three columns each, as three words of four.

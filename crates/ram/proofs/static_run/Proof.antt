@@ -1,6 +1,6 @@
 -- `ram::static_run` meets its contract: after i turns the first i bytes are written, each as its two nibbles.
 -- Assumes nothing.
-use mathlib.Core.Path.{_≡_, ap, _∙_}
+use mathlib.Core.Path.{_≡_, refl, ap, _∙_}
 use mathlib.Core.List.{List, [], _∷_}
 use Prim.Native.Nat.{ℕ, _+_, _-_, _*_, _/_, _%_, _<_}
 use native.Mathlib.Omega.{arith}
@@ -27,9 +27,6 @@ low-spread : (x : ℕ) → x < 256 → Spread 1 x 4 (getD table (x % 16) 0)
 unfolding table field columnOf
 low-spread x h = tested 1 x 4 (getD table (x % 16) 0) (all-at 256 (λ n. isSpread 1 n 4 (getD table (n % 16) 0)) tt x h)
 
-in-bank : (bank n : ℕ) → n ≡ bank → (t at : ℕ) (ram : List ℕ) → merged 4 (16843009 * (1 + 3 * n)) t at ram ≡ merged 4 (16843009 * (1 + 3 * bank)) t at ram
-in-bank bank n e t at ram = ap (λ (k : ℕ). merged 4 (16843009 * (1 + 3 * k)) t at ram) e
-
 abbrev Inv-loop : tie.InvT-loop
 Inv-loop ram₀ v bank bytes tbl rows i₀ ram i = Running 1 (2 * bank) v bytes ram₀ ram i
 
@@ -42,29 +39,28 @@ cast-high c = omega (arith, c .shared-slice-known2 .given (c .before .before .lo
 cast-low : tie.Need-cast-low Inv-loop μ-loop
 cast-low c = omega (arith, c .shared-slice-known3 .given (c .before .before .before .loop .i))
 
-mul-put-four : tie.Need-mul-put-four Inv-loop μ-loop
-mul-put-four c = omega (arith, c .before .shared-slice-known3 .given (c .before .before .before .before .loop .i))
-
-array-read-put-four : tie.Need-array-read-put-four Inv-loop μ-loop
-array-read-put-four c = omega (arith, c .before .shared-slice-known3 .given (c .before .before .before .before .loop .i))
+-- the byte is one, so that its halves are below 16
+known-byte : (c : tie.After-put-eight-arg Inv-loop μ-loop) → let p = c .before .before .before .before in getD (now (p .before .before .before .before .args .bytes)) (p .loop .i) 0 < 256
+known-byte c = c .before .shared-slice-known3 .given (c .before .before .before .before .loop .i) .fits
 
 loop-again : tie.Need-loop-again Inv-loop μ-loop
 unfolding table withRows columnOf mixed
-loop-again c = let p = c .before .before .before .before .before .before .before .before .before .before .before in
+loop-again c = let put = c .before .before in
+    let l = put .before .before .before .before in
+    let p = l .before in
     let s = p .before .before .before .before in
     let a = s .args in
     let i = p .loop .i in
     let x = getD (now (a .bytes)) i 0 in
-    let put1 = c .before .before .before .before .before .before .put-four in
-    let put2 = c .before .before .put-four2 in
     let at = a .v + 8 * i in
-    let small-x : x < 256 = c .before .before .before .before .before .before .before .before .shared-slice-known3 .given i .fits in
+    let small-x : x < 256 = known-byte (put .before) in
     let w = small (omega arith) (omega arith) (s .pre .2) (p .loop .inv) in
-    let e1 = first-four 1 16843009 (a .bank) x at (getD table (x / 16) 0) (p .loop .ram) (put1 .last .0) tt tt (omega arith) (omega arith) (s .pre .0) w
-    (high-spread x small-x) (put1 .ensures ∙ in-bank (a .bank) (p .before .wide .result) (p .before .wide .ensures .0) (getD table (x / 16) 0) at (p .loop .ram)) in
-    turn (c .before .before .before .before .before .before .before .before .before .before .loop-test .taken)
-    (four-columns 1 16843009 (a .bank) x at 4 (getD table (x % 16) 0) (p .loop .ram) (put1 .last .0) tt tt (omega arith) (omega arith) (s .pre .0) w
-    (low-spread x small-x) e1 (put2 .last .0) (put2 .ensures ∙ in-bank (a .bank) (p .before .wide .result) (p .before .wide .ensures .0) (getD table (x % 16) 0) (at + 4) (put1 .last .0)))
+    let first = first-four 1 16843009 (a .bank) x at (getD table (x / 16) 0) (p .loop .ram) _ tt tt (omega arith) (omega arith) (s .pre .0) w (high-spread x small-x) refl in
+    let in-bank = ap
+    (λ (k : ℕ). merged 4 (16843009 * (1 + 3 * k)) (getD table (x % 16) 0) (at + 4) (merged 4 (16843009 * (1 + 3 * k)) (getD table (x / 16) 0) at (p .loop .ram)))
+    (p .before .wide .ensures .0) in
+    turn (l .loop-test .taken)
+    (four-columns 1 16843009 (a .bank) x at 4 (getD table (x % 16) 0) (p .loop .ram) _ tt tt (omega arith) (omega arith) (s .pre .0) w (low-spread x small-x) first (put .put-eight .last .0) (put .put-eight .ensures ∙ in-bank))
     (p .loop .inv)
 
 pub static-run-spec : {M : Type 1} → statement M
@@ -84,12 +80,10 @@ static-run-spec =
     cast-high
     (λ c. search needs)
     cast-low
-    mul-put-four
-    array-read-put-four
-    (λ c κs. search needs)
-    (λ c. search needs)
-    (λ c. search needs)
-    (λ c. search needs)
+    (λ c. omega (arith, known-byte c))
+    (λ c. omega (arith, known-byte c))
+    (λ c. omega (arith, known-byte c))
+    (λ c. omega (arith, known-byte c))
     (λ c κs. search needs)
     (λ c. search needs)
     (λ c. search needs)

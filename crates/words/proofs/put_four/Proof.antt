@@ -1,55 +1,23 @@
--- `words::put_four` meets its contract: the word of four columns, mixed, and stored column by column.
+-- `words::put_four` meets its contract: the word of four columns, mixed and stored.
 -- Assumes nothing.
-use mathlib.Core.Path.{_≡_, ap, _∙_}
-use mathlib.Core.List.{List}
-use Prim.Native.Nat.{ℕ, _+_, _/_, _%_}
-use native.Mathlib.Nat.{add-zero, div-one}
-use native.Mathlib.Omega.{arith}
-use lib.ListN.{set, length-set}
+use mathlib.Core.Path.{ap, _∙_}
+use Prim.Native.Nat.{ℕ}
 use denote.Ref.{now}
-use Rattle.words.specs.Fields.{columnOf, mixed}
-use Rattle.words.proofs.Words.{laid, word-merged}
+use Rattle.words.specs.Fields.{laid, mixed}
+use Rattle.words.proofs.Words.{word-merged}
 use borrow.Author.Needs.{needs}
 use Rattle.words.proofs.put_four.Statement.{statement}
 use Rattle.words.proofs.put_four.Tie as tie
 
-as-laid : (w at : ℕ) (ram : List ℕ)
-    → set (set (set (set ram at (w % 256)) (at + 1) (w / 256 % 256)) (at + 2) (w / 65536 % 256)) (at + 3) (w / 16777216 % 256) ≡ laid 4 w at ram
-unfolding laid columnOf
-as-laid w at ram = rw (add-zero at, div-one w)
-
-slice-write-ram-2 : tie.Need-slice-write-ram-2
-slice-write-ram-2 c = simp length-set (omega arith)
-
-slice-write-ram-3 : tie.Need-slice-write-ram-3
-slice-write-ram-3 c = simp length-set (omega arith)
-
-slice-write-ram-4 : tie.Need-slice-write-ram-4
-slice-write-ram-4 c = simp length-set (omega arith)
-
 returns : tie.Need-returns
 unfolding mixed
-returns c = let a = c .before .before .before .args in
+returns c = let put = c .before .before in
+    let old = put .before .before in
+    let a = old .before .before .before .args in
     let ram = now (a .ram) in
-    as-laid (mixed (a .rows) (a .t) (c .four-columns .result)) (a .at) ram
-    ∙ ap (λ (w : ℕ). laid 4 (mixed (a .rows) (a .t) w) (a .at) ram) (c .four-columns .ensures)
-    ∙ word-merged 4 (a .rows) (a .t) (a .at) ram (λ i. c .before .before .slice-known .given i .fits)
+    put .store-four .ensures
+    ∙ ap (λ (w : ℕ). laid 4 (mixed (a .rows) (a .t) w) (a .at) ram) (old .four-columns .ensures)
+    ∙ word-merged 4 (a .rows) (a .t) (a .at) ram (λ i. old .before .before .slice-known .given i .fits)
 
 pub put-four-spec : {M : Type 1} → statement M
-put-four-spec =
-    tie.close
-    (tie.spec
-    (λ c κs. search needs)
-    (λ c. search needs)
-    (λ c. search needs)
-    (λ c. search needs)
-    (λ c. search needs)
-    slice-write-ram-2
-    (λ c. search needs)
-    (λ c. search needs)
-    slice-write-ram-3
-    (λ c. search needs)
-    (λ c. search needs)
-    slice-write-ram-4
-    (λ c. search needs)
-    returns)
+put-four-spec = tie.close (tie.spec (λ c κs. search needs) (λ c κs. search needs) (λ c. search needs) returns)

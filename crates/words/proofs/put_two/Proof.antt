@@ -7,8 +7,8 @@ use native.Mathlib.Nat.{add-zero, div-one}
 use native.Mathlib.Omega.{arith}
 use lib.ListN.{set, getD, length-set}
 use denote.Ref.{now}
-use Rattle.words.specs.Fields.{columnOf, joined, mixed}
-use Rattle.words.proofs.Words.{laid, word-merged}
+use Rattle.words.specs.Fields.{columnOf, joined, laid, mixed}
+use Rattle.words.proofs.Words.{word-merged}
 use borrow.Author.Needs.{needs}
 use Rattle.words.proofs.put_two.Statement.{statement}
 use Rattle.words.proofs.put_two.Tie as tie
