@@ -21,9 +21,9 @@ pub fn side_by_side(
     chips: Chips,
     registers: Both,
     ram: &mut [u8],
-    bench: Bench,
     bytes: &[u8],
     bits: u8,
+    bench: Bench,
 ) -> Sides
     requires { ⌜ Alike part chips registers (now ram) bench ⌝ }
     ensures { λ r. ⌜ record { result = r .long; ram = now (ram .exit) } ≡ transferPart part chips registers (now (ram .entry)) (sent (now (bytes .entry)) bits) ⌝ }
@@ -31,6 +31,6 @@ pub fn side_by_side(
     ensures { λ r. ⌜ Agreed part chips (now (ram .exit)) r ⌝ }
 {
     let plain = plain::transfer_bench(part, bench, bytes, bits);
-    let long = long::transfer(part, chips, registers, ram, false, bytes, bits);
+    let long = long::transfer(part, chips, false, registers, ram, bytes, bits);
     Sides { long, plain }
 }

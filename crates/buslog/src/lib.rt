@@ -1,4 +1,5 @@
 // Bus logs: a log's bytes in, the program's text out.
+use lent_long::Bus;
 use records::Cursor;
 use records::Record;
 use sheet::Both;
@@ -54,8 +55,12 @@ fn put_transfers(
     while let Record::Body { start, size, count } = cursor.read(log) {
         let end = start + size;
         let from = start + seen;
-        let part = sheet::PCF8532;
-        let answer = lent_long::send(part, chips, registers, ram, false, &log[from..end], 8);
+        let bus = Bus {
+            part: sheet::PCF8532,
+            chips,
+            packed: false,
+        };
+        let answer = lent_long::send(bus, registers, ram, &log[from..end], 8);
         at = lines::put_record(out, at, seen, index, count, answer);
         index += 1;
         cursor = Cursor { at: end, seen };

@@ -1,12 +1,23 @@
 // The model for C and Rust: numbers and lent buffers only. A part is its number, 0 the PCF8532 and 1 the PCA85133. Registers are 24 bytes, group 0's twelve and then group 1's, in the order E B M P A I O AB BF and the marks of pointer high, pointer low and device-select;
 // a chip is 174 bytes (`wire`); an answer is six numbers: answer, place, acknowledged, stored, discarded, and who acknowledged the last data byte, or what the call counts. A buffer of another size is answered 255 and nothing is written.
 use buslog::Replayed;
+use lent_long::Bus;
 use sheet::Chips;
 ghost use mathlib.Core.Path.{_≡_};
 ghost use Rattle.sheet.specs.Protocol.{sent};
 ghost use Rattle.buslog.specs.Replays.{replayCall};
 ghost use Rattle.lent_long.specs.LongCalls.{powerOnC, transferC, pictureC};
 ghost use Rattle.cabi.specs.Calls.{chipsOf, packedPowerOnC, packedTransferC, packedPictureC, chipPowerOnC, chipPictureC, plainC, writeRowsC, writeThreeC, hexWriteC, hexReadC, priceWriteC, priceReadC, rescueC, replayNumber};
+
+fn bus_of(part: u8, zero: u8, one: u8, packed: bool) -> Bus
+    ensures { λ r. ⌜ r ≡ record { part = part; chips = chipsOf zero one; packed = packed } ⌝ }
+{
+    Bus {
+        part,
+        chips: Chips { zero, one },
+        packed,
+    }
+}
 
 // ---- the long account, over the chips of group zero and of group one; packed, two columns a byte, the RAM has half as many bytes and 5 can't occur
 
@@ -21,8 +32,8 @@ pub extern "C" fn humtrellis_power_on(
 ) -> u8
     ensures { λ r. ⌜ powerOnC part (chipsOf zero one) (now (ram .entry)) (now (registers .entry)) (now (answer .entry)) ≡ record { number = r; registers = now (registers .exit); buffer = now (ram .entry); answer = now (answer .exit) } ⌝ }
 {
-    let bus = Chips { zero, one };
-    lent_long::power_on(part, bus, ram, false, registers, answer)
+    let bus = bus_of(part, zero, one, false);
+    lent_long::power_on(bus, ram, registers, answer)
 }
 
 #[no_mangle]
@@ -34,10 +45,10 @@ pub extern "C" fn humtrellis_packed_power_on(
     registers: &mut [u8],
     answer: &mut [usize],
 ) -> u8
-    ensures { λ r. ⌜ packedPowerOnC part (chipsOf zero one) (now (ram .entry)) (now (registers .entry)) (now (answer .entry)) ≡ record { number = r; registers = now (registers .exit); buffer = now (ram .entry); answer = now (answer .exit) } ⌝ }
+    ensures { λ r. ⌜ record { number = r; registers = now (registers .exit); buffer = now (ram .entry); answer = now (answer .exit) } ≡ packedPowerOnC part (chipsOf zero one) (now (ram .entry)) (now (registers .entry)) (now (answer .entry)) ⌝ }
 {
-    let bus = Chips { zero, one };
-    lent_long::power_on(part, bus, ram, true, registers, answer)
+    let bus = bus_of(part, zero, one, true);
+    lent_long::power_on(bus, ram, registers, answer)
 }
 
 #[no_mangle]
@@ -53,8 +64,8 @@ pub extern "C" fn humtrellis_transfer(
 ) -> u8
     ensures { λ r. ⌜ transferC part (chipsOf zero one) (now (registers .entry)) (now (ram .entry)) (sent (now (bytes .entry)) bits) (now (answer .entry)) ≡ record { number = r; registers = now (registers .exit); buffer = now (ram .exit); answer = now (answer .exit) } ⌝ }
 {
-    let bus = Chips { zero, one };
-    lent_long::transfer(part, bus, registers, ram, false, bytes, bits, answer)
+    let bus = bus_of(part, zero, one, false);
+    lent_long::transfer(bus, registers, ram, bytes, bits, answer)
 }
 
 #[no_mangle]
@@ -68,10 +79,10 @@ pub extern "C" fn humtrellis_packed_transfer(
     bits: u8,
     answer: &mut [usize],
 ) -> u8
-    ensures { λ r. ⌜ packedTransferC part (chipsOf zero one) (now (registers .entry)) (now (ram .entry)) (sent (now (bytes .entry)) bits) (now (answer .entry)) ≡ record { number = r; registers = now (registers .exit); buffer = now (ram .exit); answer = now (answer .exit) } ⌝ }
+    ensures { λ r. ⌜ record { number = r; registers = now (registers .exit); buffer = now (ram .exit); answer = now (answer .exit) } ≡ packedTransferC part (chipsOf zero one) (now (registers .entry)) (now (ram .entry)) (sent (now (bytes .entry)) bits) (now (answer .entry)) ⌝ }
 {
-    let bus = Chips { zero, one };
-    lent_long::transfer(part, bus, registers, ram, true, bytes, bits, answer)
+    let bus = bus_of(part, zero, one, true);
+    lent_long::transfer(bus, registers, ram, bytes, bits, answer)
 }
 
 #[no_mangle]
@@ -88,8 +99,8 @@ pub extern "C" fn humtrellis_picture(
 ) -> u8
     ensures { λ r. ⌜ pictureC part (chipsOf zero one) (now (registers .entry)) (now (ram .entry)) group phase (now (out .entry)) (now (answer .entry)) ≡ record { number = r; buffer = now (out .exit); answer = now (answer .exit) } ⌝ }
 {
-    let bus = Chips { zero, one };
-    lent_long::picture(part, bus, registers, ram, false, group, phase, out, answer)
+    let bus = bus_of(part, zero, one, false);
+    lent_long::picture(bus, group, phase, registers, ram, out, answer)
 }
 
 #[no_mangle]
@@ -104,10 +115,10 @@ pub extern "C" fn humtrellis_packed_picture(
     out: &mut [u8],
     answer: &mut [usize],
 ) -> u8
-    ensures { λ r. ⌜ packedPictureC part (chipsOf zero one) (now (registers .entry)) (now (ram .entry)) group phase (now (out .entry)) (now (answer .entry)) ≡ record { number = r; buffer = now (out .exit); answer = now (answer .exit) } ⌝ }
+    ensures { λ r. ⌜ record { number = r; buffer = now (out .exit); answer = now (answer .exit) } ≡ packedPictureC part (chipsOf zero one) (now (registers .entry)) (now (ram .entry)) group phase (now (out .entry)) (now (answer .entry)) ⌝ }
 {
-    let bus = Chips { zero, one };
-    lent_long::picture(part, bus, registers, ram, true, group, phase, out, answer)
+    let bus = bus_of(part, zero, one, true);
+    lent_long::picture(bus, group, phase, registers, ram, out, answer)
 }
 
 // ---- chips, one by one
@@ -246,7 +257,7 @@ pub extern "C" fn humtrellis_hex_read(
     ram: &mut [u8],
     answer: &mut [usize],
 ) -> u8
-    ensures { λ r. ⌜ hexReadC part chips (now (file .entry)) (now (ram .entry)) (now (answer .entry)) ≡ record { number = r; buffer = now (ram .exit); answer = now (answer .exit) } ⌝ }
+    ensures { λ r. ⌜ record { number = r; buffer = now (ram .exit); answer = now (answer .exit) } ≡ hexReadC part chips (now (file .entry)) (now (ram .entry)) (now (answer .entry)) ⌝ }
 {
     if answer.len() == 6 {
         let written = image::read(part, chips, file, ram);
@@ -282,7 +293,7 @@ pub extern "C" fn humtrellis_price_read(
     out: &mut [u8],
     answer: &mut [usize],
 ) -> u8
-    ensures { λ r. ⌜ priceReadC mode (now (segments .entry)) (now (out .entry)) (now (answer .entry)) ≡ record { number = r; buffer = now (out .exit); answer = now (answer .exit) } ⌝ }
+    ensures { λ r. ⌜ record { number = r; buffer = now (out .exit); answer = now (answer .exit) } ≡ priceReadC mode (now (segments .entry)) (now (out .entry)) (now (answer .entry)) ⌝ }
 {
     if answer.len() == 6 {
         let written = price::read(mode, segments, out);

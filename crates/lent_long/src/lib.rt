@@ -15,19 +15,19 @@ ghost use Rattle.refused.specs.Fitting.{fitting};
 ghost use Rattle.wire.specs.Bytes.{bothOf};
 ghost use Rattle.lent_long.specs.LongCalls.{Sendable, lentAfter, sentTo, sentC, powerOnC, transferC, pictureC};
 
+// A bus as a call is told of it: the part, the chips of each group, and whether their columns are packed.
+pub struct Bus {
+    pub part: u8,
+    pub chips: Chips,
+    pub packed: bool,
+}
+
 // Power-on, taken or refused by 16, 3, 4, 5.
-pub fn power_on(
-    part: u8,
-    bus: Chips,
-    ram: &[u8],
-    packed: bool,
-    registers: &mut [u8],
-    answer: &mut [usize],
-) -> u8
-    ensures { λ r. ⌜ powerOnC part bus (columnsIn packed (now (ram .entry))) (now (registers .entry)) (now (answer .entry)) ≡ record { number = r; registers = now (registers .exit); buffer = columnsIn packed (now (ram .entry)); answer = now (answer .exit) } ⌝ }
+pub fn power_on(bus: Bus, ram: &[u8], registers: &mut [u8], answer: &mut [usize]) -> u8
+    ensures { λ r. ⌜ powerOnC (bus .part) (bus .chips) (columnsIn (bus .packed) (now (ram .entry))) (now (registers .entry)) (now (answer .entry)) ≡ record { number = r; registers = now (registers .exit); buffer = columnsIn (bus .packed) (now (ram .entry)); answer = now (answer .exit) } ⌝ }
 {
     if (registers.len() == 24) & (answer.len() == 6) {
-        let done = long::power_on(part, bus, ram, packed);
+        let done = long::power_on(bus.part, bus.chips, ram, bus.packed);
         let after = done.registers;
         let check = done.check;
         wire::put_both(after, registers);
@@ -50,24 +50,24 @@ fn fits(part: u8, registers: &[u8]) -> bool
 
 // To the group that hears it: 7, 17 and 18. Only its registers are read, and written if it is taken.
 fn send_to(
-    part: u8,
-    bus: Chips,
+    bus: Bus,
     group: u8,
     registers: &mut [u8],
     ram: &mut [u8],
-    packed: bool,
     bytes: &[u8],
     bits: u8,
 ) -> Answer
-    requires { ⌜ Sendable (partOf part) bus (now registers) (columnsIn packed (now ram)) × (group < 2) × (length (now bytes) < 4097) ⌝ }
-    ensures { λ r. ⌜ record { answer = r; registers = now (registers .exit); ram = columnsIn packed (now (ram .exit)) } ≡ sentTo (partOf part) bus group (now (registers .entry)) (columnsIn packed (now (ram .entry))) (sent (now (bytes .entry)) bits) ⌝ }
+    requires { ⌜ Sendable (partOf (bus .part)) (bus .chips) (now registers) (columnsIn (bus .packed) (now ram)) × (group < 2) × (length (now bytes) < 4097) ⌝ }
+    ensures { λ r. ⌜ record { answer = r; registers = now (registers .exit); ram = columnsIn (bus .packed) (now (ram .exit)) } ≡ sentTo (partOf (bus .part)) (bus .chips) group (now (registers .entry)) (columnsIn (bus .packed) (now (ram .entry))) (sent (now (bytes .entry)) bits) ⌝ }
 {
+    let part = bus.part;
+    let packed = bus.packed;
     let at = 12 * (group as usize);
     let before = wire::registers_of(&registers[at..at + 12]);
     match protocol::first_fault(part, before.unknown, bytes, bits) {
         Check::Refused(refusal) => Answer::Refused(refusal),
         Check::Passed => {
-            let heard = long::hear_in(part, bus, group, before, ram, packed, bytes, bits);
+            let heard = long::hear_in(part, bus.chips, group, before, ram, packed, bytes, bits);
             let after = heard.registers;
             let counts = heard.counts;
             let last = heard.last;
@@ -78,22 +78,14 @@ fn send_to(
 }
 
 // A transfer, of whose last byte so many bits came, taken or refused by 1, 2, 19, then 7, 17 and 18.
-pub fn send(
-    part: u8,
-    bus: Chips,
-    registers: &mut [u8],
-    ram: &mut [u8],
-    packed: bool,
-    bytes: &[u8],
-    bits: u8,
-) -> Answer
-    requires { ⌜ Sendable (partOf part) bus (now registers) (columnsIn packed (now ram)) ⌝ }
-    ensures { λ r. ⌜ record { answer = r; registers = now (registers .exit); ram = columnsIn packed (now (ram .exit)) } ≡ sentC (partOf part) bus (now (registers .entry)) (columnsIn packed (now (ram .entry))) (sent (now (bytes .entry)) bits) ⌝ }
+pub fn send(bus: Bus, registers: &mut [u8], ram: &mut [u8], bytes: &[u8], bits: u8) -> Answer
+    requires { ⌜ Sendable (partOf (bus .part)) (bus .chips) (now registers) (columnsIn (bus .packed) (now ram)) ⌝ }
+    ensures { λ r. ⌜ record { answer = r; registers = now (registers .exit); ram = columnsIn (bus .packed) (now (ram .exit)) } ≡ sentC (partOf (bus .part)) (bus .chips) (now (registers .entry)) (columnsIn (bus .packed) (now (ram .entry))) (sent (now (bytes .entry)) bits) ⌝ }
 {
     match checks::check_sent(bytes.len(), bits) {
         Check::Refused(refusal) => Answer::Refused(refusal),
-        Check::Passed => match groups::heard_by(bus, checks::address_byte(bytes, bits)) {
-            Addressed::To(group) => send_to(part, bus, group, registers, ram, packed, bytes, bits),
+        Check::Passed => match groups::heard_by(bus.chips, checks::address_byte(bytes, bits)) {
+            Addressed::To(group) => send_to(bus, group, registers, ram, bytes, bits),
             Addressed::Nobody => long::unheard(),
         },
     }
@@ -102,65 +94,56 @@ pub fn send(
 // ---- the calls
 
 // Registers of the right size: a transfer, taken or refused.
-fn answered(
-    part: u8,
-    bus: Chips,
-    registers: &mut [u8],
-    ram: &mut [u8],
-    packed: bool,
-    bytes: &[u8],
-    bits: u8,
-) -> Answer
+fn answered(bus: Bus, registers: &mut [u8], ram: &mut [u8], bytes: &[u8], bits: u8) -> Answer
     requires { ⌜ length (now registers) ≡ 24 ⌝ }
-    ensures { λ r. ⌜ record { answer = r; registers = now (registers .exit); ram = columnsIn packed (now (ram .exit)) } ≡ lentAfter (transferPart part bus (bothOf (now (registers .entry))) (columnsIn packed (now (ram .entry))) (sent (now (bytes .entry)) bits)) ⌝ }
+    ensures { λ r. ⌜ record { answer = r; registers = now (registers .exit); ram = columnsIn (bus .packed) (now (ram .exit)) } ≡ lentAfter (transferPart (bus .part) (bus .chips) (bothOf (now (registers .entry))) (columnsIn (bus .packed) (now (ram .entry))) (sent (now (bytes .entry)) bits)) ⌝ }
 {
-    match refused::check_state(part, bus, fits(part, registers), ram, packed) {
+    let fit = fits(bus.part, registers);
+    match refused::check_state(bus.part, bus.chips, fit, ram, bus.packed) {
         Check::Refused(refusal) => Answer::Refused(refusal),
-        Check::Passed => send(part, bus, registers, ram, packed, bytes, bits),
+        Check::Passed => send(bus, registers, ram, bytes, bits),
     }
 }
 
 // And a picture.
 fn pictured(
-    part: u8,
-    bus: Chips,
-    registers: &[u8],
-    ram: &[u8],
-    packed: bool,
+    bus: Bus,
     group: u8,
     phase: u8,
+    registers: &[u8],
+    ram: &[u8],
     out: &mut [u8],
 ) -> Pictured
     requires { ⌜ length (now registers) ≡ 24 ⌝ }
-    ensures { λ r. ⌜ record { result = r; out = now (out .exit) } ≡ picturePart part bus (bothOf (now (registers .entry))) (columnsIn packed (now (ram .entry))) group phase (now (out .entry)) ⌝ }
+    ensures { λ r. ⌜ record { result = r; out = now (out .exit) } ≡ picturePart (bus .part) (bus .chips) (bothOf (now (registers .entry))) (columnsIn (bus .packed) (now (ram .entry))) group phase (now (out .entry)) ⌝ }
 {
+    let part = bus.part;
+    let packed = bus.packed;
     let fit = fits(part, registers);
-    match refused::check_picture(part, bus, fit, ram, packed, group, phase, out.len()) {
+    match refused::check_picture(part, bus.chips, fit, group, phase, ram, packed, out.len()) {
         Check::Refused(refusal) => Pictured::Refused(refusal),
         Check::Passed => {
             let at = 12 * (group as usize);
             let shown = wire::registers_of(&registers[at..at + 12]);
-            Pictured::Lit(long::show_in(part, bus, group, shown, ram, packed, phase, out))
+            Pictured::Lit(long::show_in(part, bus.chips, group, shown, ram, packed, phase, out))
         }
     }
 }
 
 // A transfer, of whose last byte so many bits came, taken or refused by 16, 3, 6, 4, 5, 1, 2, 19, then 7, 17 and 18.
 pub fn transfer(
-    part: u8,
-    bus: Chips,
+    bus: Bus,
     registers: &mut [u8],
     ram: &mut [u8],
-    packed: bool,
     bytes: &[u8],
     bits: u8,
     answer: &mut [usize],
 ) -> u8
-    ensures { λ r. ⌜ transferC part bus (now (registers .entry)) (columnsIn packed (now (ram .entry))) (sent (now (bytes .entry)) bits) (now (answer .entry)) ≡ record { number = r; registers = now (registers .exit); buffer = columnsIn packed (now (ram .exit)); answer = now (answer .exit) } ⌝ }
+    ensures { λ r. ⌜ transferC (bus .part) (bus .chips) (now (registers .entry)) (columnsIn (bus .packed) (now (ram .entry))) (sent (now (bytes .entry)) bits) (now (answer .entry)) ≡ record { number = r; registers = now (registers .exit); buffer = columnsIn (bus .packed) (now (ram .exit)); answer = now (answer .exit) } ⌝ }
 {
     if (registers.len() == 24) & (answer.len() == 6) {
-        let said = answered(part, bus, registers, ram, packed, bytes, bits);
-        wire::put_numbers(answers::numbers(part, said), answer)
+        let said = answered(bus, registers, ram, bytes, bits);
+        wire::put_numbers(answers::numbers(bus.part, said), answer)
     } else {
         255
     }
@@ -168,20 +151,18 @@ pub fn transfer(
 
 // The picture of a group at a blink phase, or a refusal by 16, 3, 6, 4, 5, 8, 9.
 pub fn picture(
-    part: u8,
-    bus: Chips,
-    registers: &[u8],
-    ram: &[u8],
-    packed: bool,
+    bus: Bus,
     group: u8,
     phase: u8,
+    registers: &[u8],
+    ram: &[u8],
     out: &mut [u8],
     answer: &mut [usize],
 ) -> u8
-    ensures { λ r. ⌜ pictureC part bus (now (registers .entry)) (columnsIn packed (now (ram .entry))) group phase (now (out .entry)) (now (answer .entry)) ≡ record { number = r; buffer = now (out .exit); answer = now (answer .exit) } ⌝ }
+    ensures { λ r. ⌜ pictureC (bus .part) (bus .chips) (now (registers .entry)) (columnsIn (bus .packed) (now (ram .entry))) group phase (now (out .entry)) (now (answer .entry)) ≡ record { number = r; buffer = now (out .exit); answer = now (answer .exit) } ⌝ }
 {
     if (registers.len() == 24) & (answer.len() == 6) {
-        let shown = pictured(part, bus, registers, ram, packed, group, phase, out);
+        let shown = pictured(bus, group, phase, registers, ram, out);
         wire::put_numbers(answers::picture_numbers(shown), answer)
     } else {
         255

@@ -99,9 +99,9 @@ pub fn unheard() -> Answer
 pub fn transfer(
     part: u8,
     chips: Chips,
+    packed: bool,
     registers: Both,
     ram: &mut [u8],
-    packed: bool,
     bytes: &[u8],
     bits: u8,
 ) -> Transferred
@@ -167,7 +167,7 @@ pub fn picture(
     ensures { λ r. ⌜ pictureNumbers r ≡ pictureNumbers (picturePart part chips registers (columnsIn packed (now (ram .entry))) group phase (now (out .entry)) .result) ⌝ }
 {
     let fit = refused::registers_fit(part, registers);
-    match refused::check_picture(part, chips, fit, ram, packed, group, phase, out.len()) {
+    match refused::check_picture(part, chips, fit, group, phase, ram, packed, out.len()) {
         Check::Refused(refusal) => Pictured::Refused(refusal),
         Check::Passed => {
             let shown = groups::registers_of(group, registers);

@@ -25,9 +25,9 @@ fn carry_out(log: &[u8], chips: Chips, initial: Both, ram: &mut [u8])
         let done = long::transfer(
             sheet::PCF8532,
             chips,
+            false,
             registers,
             ram,
-            false,
             &log[from..end],
             8,
         );

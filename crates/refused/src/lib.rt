@@ -134,10 +134,10 @@ pub fn check_picture(
     part: u8,
     chips: Chips,
     fit: bool,
-    ram: &[u8],
-    packed: bool,
     group: u8,
     phase: u8,
+    ram: &[u8],
+    packed: bool,
     size: usize,
 ) -> Check
     ensures { λ r. ⌜ r ≡ orElse (checkPart part) (pictureBy (partOf part) chips fit (columnsIn packed (now (ram .entry))) group phase size) ⌝ }

@@ -67,7 +67,7 @@ transfer read = let log = read .before .before .before .before .before .before .
 sent-is : (c : tie.After-send Inv-loop μ-loop) → let read = c .before .before .before .before .before in
     let p = read .before .before .before in
     let a = p .before .before .before .before .before .before .args in
-    _≡_ {A = LentAfter} (record { answer = c .send .result; registers = c .send .last .1 .1 .0; ram = c .send .last .1 .1 .1 .0 }) (sentC pcf8532 (a .chips) (p .loop .registers) (p .loop .ram) (transfer read))
+    _≡_ {A = LentAfter} (record { answer = c .send .result; registers = c .send .last .1 .0; ram = c .send .last .1 .1 .0 }) (sentC pcf8532 (a .chips) (p .loop .registers) (p .loop .ram) (transfer read))
 unfolding partOf
 sent-is c = let read = c .before .before .before .before .before in
     let p = read .before .before .before in
@@ -84,7 +84,7 @@ send-requires c κs = c .before .before .before .before .before .before .before 
 told : (c : tie.After-send Inv-loop μ-loop) → let read = c .before .before .before .before .before in
     let p = read .before .before .before in
     let a = p .before .before .before .before .before .before .args in
-    _≡_ {A = After} (record { result = record { answer = c .send .result; registers = bothOf (c .send .last .1 .1 .0) }; ram = c .send .last .1 .1 .1 .0 }) (transferCall pcf8532 (a .chips) (bothOf (p .loop .registers)) (p .loop .ram) (transfer read))
+    _≡_ {A = After} (record { result = record { answer = c .send .result; registers = bothOf (c .send .last .1 .0) }; ram = c .send .last .1 .1 .0 }) (transferCall pcf8532 (a .chips) (bothOf (p .loop .registers)) (p .loop .ram) (transfer read))
 told c = sending.told (transfer (c .before .before .before .before .before)) (c .before .before .before .before .before .before .before .before .loop .inv .2) (sent-is c)
 
 put-record-requires : tie.Need-put-record-requires Inv-loop μ-loop
@@ -104,7 +104,7 @@ loop-again : tie.Need-loop-again Inv-loop μ-loop
 loop-again c = let t = c .before .before .before .before .before .before .before .before in
     let read = t .before .before .before .before .before in
     let p = read .before .before .before in
-    (next-record (p .loop .inv .0) (next read) (told t) (t .send .kept .1 .1 .1 .0) (rw (p .before .seen-bytes .ensures) at (c .before .before .put-record .ensures)), p .before .seen-bytes .ensures, sending.again (transfer read) (p .loop .inv .2) (sent-is t))
+    (next-record (p .loop .inv .0) (next read) (told t) (t .send .kept .1 .1 .0) (rw (p .before .seen-bytes .ensures) at (c .before .before .put-record .ensures)), p .before .seen-bytes .ensures, sending.again (transfer read) (p .loop .inv .2) (sent-is t))
 
 returns : tie.Need-returns Inv-loop μ-loop
 unfolding stateAfterAll transferLines

@@ -1,5 +1,6 @@
 -- `cabi::humtrellis_packed_power_on` meets its contract.
 -- Assumes nothing.
+use mathlib.Core.Path.{sym}
 use denote.Ref.{now}
 use Rattle.cabi.specs.Calls.{chipsOf}
 use Rattle.cabi.proofs.Repacked.{power-on-packs}
@@ -9,8 +10,9 @@ use Rattle.cabi.proofs.humtrellis_packed_power_on.Tie as tie
 
 returns : tie.Need-returns
 returns c = let p = c .before .before .before .before in
-    let a = p .before .before .before .before .before .before .args in
-    power-on-packs (a .part) (chipsOf (a .zero) (a .one)) (now (a .registers)) (now (a .ram)) (now (a .answer)) (p .power-on .ensures)
+    let b = p .before .before .before in
+    let a = b .before .before .before .before .args in
+    sym (power-on-packs (a .part) (chipsOf (a .zero) (a .one)) (now (a .registers)) (now (a .ram)) (now (a .answer)) (rw (b .bus-of .ensures) at (p .power-on .ensures)))
 
 pub humtrellis-packed-power-on-spec : {M : Type 1} → statement M
-humtrellis-packed-power-on-spec = tie.close (tie.spec (λ c κs. search needs) (λ c. search needs) (λ c. search needs) returns)
+humtrellis-packed-power-on-spec = tie.close (tie.spec (λ c κs. search needs) (λ c κs. search needs) (λ c. search needs) (λ c. search needs) returns)

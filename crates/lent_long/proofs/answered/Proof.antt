@@ -21,22 +21,22 @@ use Rattle.lent_long.proofs.answered.Tie as tie
 
 -- what the bus is checked for, and what is left to check
 abbrev state : (s : tie.Start) → Check
-state s = let a = s .args in checkState (partOf (a .part)) (a .bus) (bothOf (now (a .registers))) (columnsIn (a .packed) (now (a .ram)))
+state s = let a = s .args in checkState (partOf (a .bus .part)) (a .bus .chips) (bothOf (now (a .registers))) (columnsIn (a .bus .packed) (now (a .ram)))
 
 abbrev rest : (s : tie.Start) → Check
-rest s = let a = s .args in let t = sent (now (a .bytes)) (a .bits) in orElse (checkSent t) (checkBytes (partOf (a .part)) (bothOf (now (a .registers))) (heardBy (a .bus) (addressByte t)) t)
+rest s = let a = s .args in let t = sent (now (a .bytes)) (a .bits) in orElse (checkSent t) (checkBytes (partOf (a .bus .part)) (bothOf (now (a .registers))) (heardBy (a .bus .chips) (addressByte t)) t)
 
-asked : (k : tie.After-check-state) → let s = k .before .before .before .before .before .before .before in k .check-state .result ≡ orElse (checkPart (s .args .part)) (state s)
+asked : (k : tie.After-check-state) → let s = k .before .before .before .before .before .before .before in k .check-state .result ≡ orElse (checkPart (s .args .bus .part)) (state s)
 asked k = let s = k .before .before .before .before .before .before .before in
     let a = s .args in
     let fit = k .before .before .fits2 in
-    k .check-state .ensures ∙ ap (orElse (checkPart (a .part))) (state-by (partOf (a .part)) (a .bus) (bothOf (now (a .registers))) (fit .result) (fit .ensures) (columnsIn (a .packed) (now (a .ram))))
+    k .check-state .ensures ∙ ap (orElse (checkPart (a .bus .part))) (state-by (partOf (a .bus .part)) (a .bus .chips) (bothOf (now (a .registers))) (fit .result) (fit .ensures) (columnsIn (a .bus .packed) (now (a .ram))))
 
 send-requires : tie.Need-send-requires
 send-requires c κs = let t = c .before .before in
     let k = t .before .before in
     let s = k .before .before .before .before .before .before .before in
-    record { size = s .pre; state = both-pass (checkPart (s .args .part)) (state s) (sym (asked k) ∙ t .enum-told .given .1) .1 }
+    record { size = s .pre; state = both-pass (checkPart (s .args .bus .part)) (state s) (sym (asked k) ∙ t .enum-told .given .1) .1 }
 
 returns : tie.Need-returns
 unfolding checkTransfer
@@ -44,11 +44,11 @@ returns c = let k = c .before .before .before in
     let s = k .before .before .before .before .before .before .before in
     let a = s .args in
     let r = bothOf (now (a .registers)) in
-    let ram = columnsIn (a .packed) (now (a .ram)) in
+    let ram = columnsIn (a .bus .packed) (now (a .ram)) in
     let t = sent (now (a .bytes)) (a .bits) in
-    nothing-written (now (a .registers)) ram _ _ (taken (partOf (a .part)) (a .bus) r ram t (heardBy (a .bus) (addressByte t))) (s .pre) (λ i. k .before .before .before .before .before .before .slice-known .given i .fits)
-    (sym (then-refused (checkPart (a .part)) (state s) (rest s) _ (sym (asked k) ∙ c .before .refusal .given .1)))
-    ∙ ap lentAfter (sym (by-check (a .part) (a .bus) r ram t _ refl))
+    nothing-written (now (a .registers)) ram _ _ (taken (partOf (a .bus .part)) (a .bus .chips) r ram t (heardBy (a .bus .chips) (addressByte t))) (s .pre) (λ i. k .before .before .before .before .before .before .slice-known .given i .fits)
+    (sym (then-refused (checkPart (a .bus .part)) (state s) (rest s) _ (sym (asked k) ∙ c .before .refusal .given .1)))
+    ∙ ap lentAfter (sym (by-check (a .bus .part) (a .bus .chips) r ram t _ refl))
 
 returns-2 : tie.Need-returns-2
 unfolding checkTransfer
@@ -58,10 +58,10 @@ returns-2 c = let done = c .before .before .before .before in
     let s = k .before .before .before .before .before .before .before in
     let a = s .args in
     let r = bothOf (now (a .registers)) in
-    let ram = columnsIn (a .packed) (now (a .ram)) in
+    let ram = columnsIn (a .bus .packed) (now (a .ram)) in
     let t = sent (now (a .bytes)) (a .bits) in
     done .send .ensures
-    ∙ ap lentAfter (sym (by-check (a .part) (a .bus) r ram t (rest s) (sym (then-passed (checkPart (a .part)) (state s) (rest s) (rest s) (sym (asked k) ∙ p .enum-told .given .1) refl))))
+    ∙ ap lentAfter (sym (by-check (a .bus .part) (a .bus .chips) r ram t (rest s) (sym (then-passed (checkPart (a .bus .part)) (state s) (rest s) (rest s) (sym (asked k) ∙ p .enum-told .given .1) refl))))
 
 pub answered-spec : {M : Type 1} → statement M
 answered-spec =

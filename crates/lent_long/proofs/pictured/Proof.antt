@@ -28,26 +28,26 @@ use Rattle.lent_long.proofs.pictured.Tie as tie
 
 -- the columns of the RAM
 abbrev columns : tie.Start → List ℕ
-columns s = columnsIn (s .args .packed) (now (s .args .ram))
+columns s = columnsIn (s .args .bus .packed) (now (s .args .ram))
 
 asked : (k : tie.After-check-picture) → let s = k .before .before .before .before .before in
     let a = s .args in
-    k .check-picture .result ≡ orElse (checkPart (a .part)) (checkPicture (partOf (a .part)) (a .bus) (bothOf (now (a .registers))) (columns s) (a .group) (a .phase) (length (now (a .out))))
+    k .check-picture .result ≡ orElse (checkPart (a .bus .part)) (checkPicture (partOf (a .bus .part)) (a .bus .chips) (bothOf (now (a .registers))) (columns s) (a .group) (a .phase) (length (now (a .out))))
 asked k = let s = k .before .before .before .before .before in
     let a = s .args in
     let fit = k .before .fits2 in
-    k .check-picture .ensures ∙ ap (orElse (checkPart (a .part))) (picture-by (partOf (a .part)) (a .bus) (bothOf (now (a .registers))) (fit .result) (fit .ensures) (columns s) (a .group) (a .phase) (length (now (a .out))))
+    k .check-picture .ensures ∙ ap (orElse (checkPart (a .bus .part))) (picture-by (partOf (a .bus .part)) (a .bus .chips) (bothOf (now (a .registers))) (fit .result) (fit .ensures) (columns s) (a .group) (a .phase) (length (now (a .out))))
 
 passes : (t : tie.After-enum-told) → let s = t .before .before .before .before .before .before .before in
     let a = s .args in
-    orElse (checkPart (a .part)) (checkPicture (partOf (a .part)) (a .bus) (bothOf (now (a .registers))) (columns s) (a .group) (a .phase) (length (now (a .out)))) ≡ Passed
+    orElse (checkPart (a .bus .part)) (checkPicture (partOf (a .bus .part)) (a .bus .chips) (bothOf (now (a .registers))) (columns s) (a .group) (a .phase) (length (now (a .out)))) ≡ Passed
 passes t = sym (asked (t .before .before)) ∙ t .enum-told .given .1
 
 -- the group is 0 or 1
 part-registers-of-end : tie.Need-part-registers-of-end
 part-registers-of-end t = let s = t .before .before .before .before .before .before .before in
     let a = s .args in
-    omega (arith, s .pre, shown-small (partOf (a .part)) (a .bus) (bothOf (now (a .registers))) (columns s) (a .group) (a .phase) (length (now (a .out))) (both-pass (checkPart (a .part)) _ (passes t) .1))
+    omega (arith, s .pre, shown-small (partOf (a .bus .part)) (a .bus .chips) (bothOf (now (a .registers))) (columns s) (a .group) (a .phase) (length (now (a .out))) (both-pass (checkPart (a .bus .part)) _ (passes t) .1))
 
 -- and the registers that are read are its own
 own : (b : tie.After-registers-of) → let a = b .before .before .before .before .before .before .before .before .before .args in b .registers-of .result ≡ registersOf (a .group) (bothOf (now (a .registers)))
@@ -56,21 +56,21 @@ own b = let t = b .before .before in
     let a = s .args in
     b .registers-of .ensures
     ∙ ap (λ (n : ℕ). registersIn (take n (drop (12 * a .group) (now (a .registers))))) (add-sub-cancel-left (12 * a .group) 12)
-    ∙ own-bytes (a .group) (shown-small (partOf (a .part)) (a .bus) (bothOf (now (a .registers))) (columns s) (a .group) (a .phase) (length (now (a .out))) (both-pass (checkPart (a .part)) _ (passes t) .1)) (now (a .registers)) (s .pre)
+    ∙ own-bytes (a .group) (shown-small (partOf (a .bus .part)) (a .bus .chips) (bothOf (now (a .registers))) (columns s) (a .group) (a .phase) (length (now (a .out))) (both-pass (checkPart (a .bus .part)) _ (passes t) .1)) (now (a .registers)) (s .pre)
 
 show-in-requires : tie.Need-show-in-requires
 show-in-requires c κs = let b = c .before in
     let t = b .before .before in
     let s = t .before .before .before .before .before .before .before in
     let a = s .args in
-    let p = picture-passed (partOf (a .part)) (a .bus) (bothOf (now (a .registers))) (columns s) (a .group) (a .phase) (length (now (a .out))) (both-pass (checkPart (a .part)) _ (passes t) .1) in
+    let p = picture-passed (partOf (a .bus .part)) (a .bus .chips) (bothOf (now (a .registers))) (columns s) (a .group) (a .phase) (length (now (a .out))) (both-pass (checkPart (a .bus .part)) _ (passes t) .1) in
     (record { both = bothOf (now (a .registers)); same = sym (own b); state = p .0 }, p .1)
 
 returns : tie.Need-returns
 returns c = let k = c .before .before .before in
     let s = k .before .before .before .before .before in
     let a = s .args in
-    sym (shown-by-check (a .part) (a .bus) (bothOf (now (a .registers))) (columns s) (a .group) (a .phase) (now (a .out)) _ (sym (asked k) ∙ c .before .refusal .given .1))
+    sym (shown-by-check (a .bus .part) (a .bus .chips) (bothOf (now (a .registers))) (columns s) (a .group) (a .phase) (now (a .out)) _ (sym (asked k) ∙ c .before .refusal .given .1))
 
 returns-2 : tie.Need-returns-2
 returns-2 c = let put = c .before .before .show-in .ensures in
@@ -78,10 +78,10 @@ returns-2 c = let put = c .before .before .show-in .ensures in
     let t = b .before .before in
     let s = t .before .before .before .before .before .before .before in
     let a = s .args in
-    let same = ap (λ (r : Registers). pictureOf r (a .phase) (columnsOf (partOf (a .part)) (a .bus) (a .group) (columns s))) (own b) in
+    let same = ap (λ (r : Registers). pictureOf r (a .phase) (columnsOf (partOf (a .bus .part)) (a .bus .chips) (a .group) (columns s))) (own b) in
     let lit = put .1 ∙ ap litIn same in
     (λ j. record { result = Pictured.Lit (lit j); out = (put .0 ∙ same) j })
-    ∙ sym (shown-by-check (a .part) (a .bus) (bothOf (now (a .registers))) (columns s) (a .group) (a .phase) (now (a .out)) _ (passes t))
+    ∙ sym (shown-by-check (a .bus .part) (a .bus .chips) (bothOf (now (a .registers))) (columns s) (a .group) (a .phase) (now (a .out)) _ (passes t))
 
 pub pictured-spec : {M : Type 1} → statement M
 pictured-spec =

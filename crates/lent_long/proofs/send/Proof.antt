@@ -20,8 +20,8 @@ use Rattle.lent_long.proofs.send.Statement.{statement}
 use Rattle.lent_long.proofs.send.Tie as tie
 
 -- who hears
-hearer : (h : tie.After-heard-by) → let a = h .before .before .before .before .before .before .before .before .args in h .heard-by .result ≡ heardBy (a .bus) (addressByte (sent (now (a .bytes)) (a .bits)))
-hearer h = let a = h .before .before .before .before .before .before .before .before .args in h .heard-by .ensures ∙ ap (heardBy (a .bus)) (h .before .address-byte .ensures)
+hearer : (h : tie.After-heard-by) → let a = h .before .before .before .before .before .before .before .before .args in h .heard-by .result ≡ heardBy (a .bus .chips) (addressByte (sent (now (a .bytes)) (a .bits)))
+hearer h = let a = h .before .before .before .before .before .before .before .before .args in h .heard-by .ensures ∙ ap (heardBy (a .bus .chips)) (h .before .address-byte .ensures)
 
 -- past the match 1, 2 and 19 have passed
 passes : (p : tie.After-enum-told) → let a = p .before .before .before .before .before .before .args in checkSent (sent (now (a .bytes)) (a .bits)) ≡ Check.Passed
@@ -31,14 +31,14 @@ passes p = sym (p .before .before .check-sent .ensures) ∙ p .enum-told .given 
 -- what is answered then, by who hears
 by-hearer : (h : tie.After-heard-by) (to : Addressed) → h .heard-by .result ≡ to → let a = h .before .before .before .before .before .before .before .before .args in
     let r = bothOf (now (a .registers)) in
-    let ram = columnsIn (a .packed) (now (a .ram)) in
+    let ram = columnsIn (a .bus .packed) (now (a .ram)) in
     let t = sent (now (a .bytes)) (a .bits) in
-    lentAfter (answered (checkBytes (partOf (a .part)) r to t) r ram (taken (partOf (a .part)) (a .bus) r ram t to)) ≡ sentC (partOf (a .part)) (a .bus) (now (a .registers)) ram t
+    lentAfter (answered (checkBytes (partOf (a .bus .part)) r to t) r ram (taken (partOf (a .bus .part)) (a .bus .chips) r ram t to)) ≡ sentC (partOf (a .bus .part)) (a .bus .chips) (now (a .registers)) ram t
 by-hearer h to told = let a = h .before .before .before .before .before .before .before .before .args in
     let r = bothOf (now (a .registers)) in
-    let ram = columnsIn (a .packed) (now (a .ram)) in
+    let ram = columnsIn (a .bus .packed) (now (a .ram)) in
     let t = sent (now (a .bytes)) (a .bits) in
-    ap₂ (λ (k : Check) (to : Addressed). lentAfter (answered (orElse k (checkBytes (partOf (a .part)) r to t)) r ram (taken (partOf (a .part)) (a .bus) r ram t to)))
+    ap₂ (λ (k : Check) (to : Addressed). lentAfter (answered (orElse k (checkBytes (partOf (a .bus .part)) r to t)) r ram (taken (partOf (a .bus .part)) (a .bus .chips) r ram t to)))
     (sym (passes (h .before .before))) (sym told ∙ hearer h)
 
 send-to-requires : tie.Need-send-to-requires
@@ -46,7 +46,7 @@ send-to-requires c κs = let h = c .before .before .before .before .before in
     let p = h .before .before in
     let s = p .before .before .before .before .before .before in
     let a = s .args in
-    (s .pre, hearer-small (a .bus) _ _ (sym (hearer h) ∙ c .before .before .before .group .given .1), sent-passed (sent (now (a .bytes)) (a .bits)) (passes p) .1)
+    (s .pre, hearer-small (a .bus .chips) _ _ (sym (hearer h) ∙ c .before .before .before .group .given .1), sent-passed (sent (now (a .bytes)) (a .bits)) (passes p) .1)
 
 returns : tie.Need-returns
 unfolding checkSent
@@ -54,11 +54,11 @@ returns c = let k = c .before .before .before in
     let s = k .before .before .before .before in
     let a = s .args in
     let r = bothOf (now (a .registers)) in
-    let ram = columnsIn (a .packed) (now (a .ram)) in
+    let ram = columnsIn (a .bus .packed) (now (a .ram)) in
     let t = sent (now (a .bytes)) (a .bits) in
-    let to = heardBy (a .bus) (addressByte t) in
-    nothing-written (now (a .registers)) ram _ _ (taken (partOf (a .part)) (a .bus) r ram t to) (s .pre .size) (λ i. k .before .before .before .slice-known .given i .fits)
-    (ap (λ (k : Check). orElse k (checkBytes (partOf (a .part)) r to t)) (sym (k .check-sent .ensures) ∙ c .before .refusal .given .1))
+    let to = heardBy (a .bus .chips) (addressByte t) in
+    nothing-written (now (a .registers)) ram _ _ (taken (partOf (a .bus .part)) (a .bus .chips) r ram t to) (s .pre .size) (λ i. k .before .before .before .slice-known .given i .fits)
+    (ap (λ (k : Check). orElse k (checkBytes (partOf (a .bus .part)) r to t)) (sym (k .check-sent .ensures) ∙ c .before .refusal .given .1))
 
 returns-2 : tie.Need-returns-2
 returns-2 c = let g = c .before .before .before .before in
@@ -69,8 +69,8 @@ returns-3 : tie.Need-returns-3
 returns-3 c = let h = c .before .before .before in
     let s = h .before .before .before .before .before .before .before .before in
     let a = s .args in
-    let same : _≡_ {A = LentAfter} (record { answer = c .unheard .result; registers = now (a .registers); ram = columnsIn (a .packed) (now (a .ram)) }) (lentAfter (taken (partOf (a .part)) (a .bus) (bothOf (now (a .registers))) (columnsIn (a .packed) (now (a .ram))) (sent (now (a .bytes)) (a .bits)) Nobody)) =
-    λ j. record { answer = c .unheard .ensures j; registers = sym (both-back (now (a .registers)) (s .pre .size) (λ i. h .before .before .before .before .before .before .before .slice-known .given i .fits)) j; ram = columnsIn (a .packed) (now (a .ram)) } in
+    let same : _≡_ {A = LentAfter} (record { answer = c .unheard .result; registers = now (a .registers); ram = columnsIn (a .bus .packed) (now (a .ram)) }) (lentAfter (taken (partOf (a .bus .part)) (a .bus .chips) (bothOf (now (a .registers))) (columnsIn (a .bus .packed) (now (a .ram))) (sent (now (a .bytes)) (a .bits)) Nobody)) =
+    λ j. record { answer = c .unheard .ensures j; registers = sym (both-back (now (a .registers)) (s .pre .size) (λ i. h .before .before .before .before .before .before .before .slice-known .given i .fits)) j; ram = columnsIn (a .bus .packed) (now (a .ram)) } in
     same ∙ by-hearer h _ (c .before .enum-told2 .given .1)
 
 pub send-spec : {M : Type 1} → statement M

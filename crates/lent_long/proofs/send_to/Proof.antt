@@ -36,9 +36,9 @@ own b = let s = b .before .before .before .before .before .before in
 
 -- what the first fault is
 fault : (f : tie.After-first-fault) → let a = f .before .before .before .before .before .before .before .args in
-    f .first-fault .result ≡ faultOfSent (partOf (a .part)) (registersOf (a .group) (bothOf (now (a .registers))) .unknown) (sent (now (a .bytes)) (a .bits))
+    f .first-fault .result ≡ faultOfSent (partOf (a .bus .part)) (registersOf (a .group) (bothOf (now (a .registers))) .unknown) (sent (now (a .bytes)) (a .bits))
 fault f = let a = f .before .before .before .before .before .before .before .args in
-    f .first-fault .ensures ∙ ap (λ (r : Registers). faultOfSent (partOf (a .part)) (r .unknown) (sent (now (a .bytes)) (a .bits))) (own (f .before))
+    f .first-fault .ensures ∙ ap (λ (r : Registers). faultOfSent (partOf (a .bus .part)) (r .unknown) (sent (now (a .bytes)) (a .bits))) (own (f .before))
 
 hear-in-requires : tie.Need-hear-in-requires
 hear-in-requires c κs = let b = c .before .before .before .before in
@@ -53,7 +53,7 @@ returns : tie.Need-returns
 returns c = let f = c .before .before .before in
     let s = f .before .before .before .before .before .before .before in
     let a = s .args in
-    nothing-written (now (a .registers)) (columnsIn (a .packed) (now (a .ram))) _ _ (taken (partOf (a .part)) (a .bus) (bothOf (now (a .registers))) (columnsIn (a .packed) (now (a .ram))) (sent (now (a .bytes)) (a .bits)) (To (a .group)))
+    nothing-written (now (a .registers)) (columnsIn (a .bus .packed) (now (a .ram))) _ _ (taken (partOf (a .bus .part)) (a .bus .chips) (bothOf (now (a .registers))) (columnsIn (a .bus .packed) (now (a .ram))) (sent (now (a .bytes)) (a .bits)) (To (a .group)))
     (s .pre .0 .size) (λ i. f .before .before .before .before .before .before .slice-known .given i .fits) (sym (fault f) ∙ c .before .refusal .given .1)
 
 returns-2 : tie.Need-returns-2
@@ -63,14 +63,14 @@ returns-2 c = let put = c .before .before in
     let s = f .before .before .before .before .before .before .before in
     let a = s .args in
     let l = now (a .registers) in
-    let ram = columnsIn (a .packed) (now (a .ram)) in
+    let ram = columnsIn (a .bus .packed) (now (a .ram)) in
     let t = sent (now (a .bytes)) (a .bits) in
-    let told = h .hear-in .ensures ∙ ap (λ (r : Registers). heardInRam (partOf (a .part)) (a .bus) (a .group) r ram t) (own (f .before)) in
+    let told = h .hear-in .ensures ∙ ap (λ (r : Registers). heardInRam (partOf (a .bus .part)) (a .bus .chips) (a .group) r ram t) (own (f .before)) in
     let back = ap (λ (n : ℕ). take (12 * a .group) l ++ (put .put-registers .last .1 .0 ++ drop n (drop (12 * a .group) l))) (add-sub-cancel-left (12 * a .group) 12)
     ∙ ap (λ (r : List ℕ). take (12 * a .group) l ++ (r ++ drop 12 (drop (12 * a .group) l))) (put .put-registers .ensures ∙ ap bytesOf (λ j. told j .registers))
     ∙ replaced-bytes (a .group) (s .pre .1) l _ (s .pre .0 .size) (λ i. f .before .before .before .before .before .before .slice-known .given i .fits) in
     (λ j. record { answer = Answer.Taken (told j .counts) (told j .last); registers = back j; ram = told j .ram })
-    ∙ ap (λ (k : Check). lentAfter (answered k (bothOf l) ram (taken (partOf (a .part)) (a .bus) (bothOf l) ram t (To (a .group))))) (sym (h .before .before .enum-told .given .1) ∙ fault f)
+    ∙ ap (λ (k : Check). lentAfter (answered k (bothOf l) ram (taken (partOf (a .bus .part)) (a .bus .chips) (bothOf l) ram t (To (a .group))))) (sym (h .before .before .enum-told .given .1) ∙ fault f)
 
 pub send-to-spec : {M : Type 1} → statement M
 send-to-spec =

@@ -46,7 +46,7 @@ told : (c : tie.After-transfer Inv-loop μ-loop) → let read = c .before .befor
     let a = p .before .before .before .before .args in
     let log = a .log .now in
     let start = read .start .given .0 .0 in
-    _≡_ {A = After} (record { result = c .transfer .result; ram = c .transfer .last .1 .1 .1 .0 })
+    _≡_ {A = After} (record { result = c .transfer .result; ram = c .transfer .last .1 .1 .1 .1 .0 })
     (transferCall pcf8532 (a .chips) (p .loop .registers) (p .loop .ram) (whole (take (start + read .start .given .0 .1 .0 - (start + seenBytes log)) (drop (start + seenBytes log) log))))
 told c = let read = c .before .before .before .before in
     let p = read .before .before .before in
@@ -72,7 +72,7 @@ loop-again : tie.Need-loop-again Inv-loop μ-loop
 loop-again c = let t = c .before .before .before in
     let read = t .before .before .before .before in
     let p = read .before .before .before in
-    (next-record (p .loop .inv .0) (next read) (told t) (t .transfer .kept .1 .1 .1 .0), p .before .seen-bytes .ensures)
+    (next-record (p .loop .inv .0) (next read) (told t) (t .transfer .kept .1 .1 .1 .1 .0), p .before .seen-bytes .ensures)
 
 returns : tie.Need-returns Inv-loop μ-loop
 unfolding stateAfterAll
