@@ -2,6 +2,8 @@
 use sheet::Command;
 use sheet::Settings;
 ghost use mathlib.Core.Path.{_≡_};
+ghost use mathlib.Core.Bool.{cond};
+ghost use lib.Dec.{eqb};
 ghost use Rattle.sheet.specs.Parts.{partOf, pcf8532, pca85133, modeSet, blinkSelect, bankSelect};
 ghost use Rattle.sheet.specs.Commands.{defined};
 
@@ -89,32 +91,24 @@ pub fn decode(part: u8, byte: u8) -> Command
 
 // ---- whether a byte is a command, by the ends of its ranges and without a branch, so that many bytes are told at once
 
-fn defined_pcf8532(byte: u8) -> bool
-    ensures { λ r. ⌜ r ≡ defined ((pcf8532 .command) byte) ⌝ }
+// The part's of two numbers.
+fn of_part(part: u8, pca85133: u8, pcf8532: u8) -> u8
+    ensures { λ r. ⌜ r ≡ cond (eqb part 1) pca85133 pcf8532 ⌝ }
 {
-    (byte <= 0x09)
-        | ((0x40 <= byte) & (byte <= 0x4F))
-        | ((0xC0 <= byte) & (byte <= 0xCF))
-        | ((0xE0 <= byte) & (byte <= 0xE3))
-        | ((0xE8 <= byte) & (byte <= 0xFB))
+    if part == sheet::PCA85133 {
+        pca85133
+    } else {
+        pcf8532
+    }
 }
 
-fn defined_pca85133(byte: u8) -> bool
-    ensures { λ r. ⌜ r ≡ defined ((pca85133 .command) byte) ⌝ }
-{
-    (byte <= 0x4F)
-        | ((0xC0 <= byte) & (byte <= 0xCF))
-        | ((0xE0 <= byte) & (byte <= 0xE7))
-        | ((0xF0 <= byte) & (byte <= 0xFB))
-}
-
-// Of the part.
+// Of the part. Where 00 to 4F are the pointer, the second range is in the first.
 pub fn is_defined(part: u8, byte: u8) -> bool
     ensures { λ r. ⌜ r ≡ defined ((partOf part .command) byte) ⌝ }
 {
-    if part == sheet::PCA85133 {
-        defined_pca85133(byte)
-    } else {
-        defined_pcf8532(byte)
-    }
+    (byte <= of_part(part, 0x4F, 0x09))
+        | ((0x40 <= byte) & (byte <= 0x4F))
+        | ((0xC0 <= byte) & (byte <= 0xCF))
+        | ((0xE0 <= byte) & (byte <= of_part(part, 0xE7, 0xE3)))
+        | ((of_part(part, 0xF0, 0xE8) <= byte) & (byte <= 0xFB))
 }
