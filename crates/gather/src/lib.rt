@@ -153,15 +153,12 @@ fn word_of(columns: &[u8], m: usize, j: usize) -> u32
     }
 }
 
-// Four bytes of a number: the four stores become one.
+// Four bytes of a number, which are all of a buffer.
 pub fn put_word(out: &mut [u8], word: u32)
     requires { ⌜ length (now out) ≡ 4 ⌝ }
     ensures { λ _. ⌜ now (out .exit) ≡ columnOf word 0 ∷ columnOf word 1 ∷ columnOf word 2 ∷ columnOf word 3 ∷ [] ⌝ }
 {
-    out[0] = (word % 256) as u8;
-    out[1] = (word / 0x100 % 256) as u8;
-    out[2] = (word / 0x10000 % 256) as u8;
-    out[3] = (word / 0x1000000 % 256) as u8;
+    words::store_four(out, 0, word);
 }
 
 fn word_data(columns: &[u8], m: usize, out: &mut [u8])

@@ -68,7 +68,7 @@ pub fn four_columns(ram: &[u8], at: usize) -> u32
 }
 
 // A word stored as four columns, the lowest first. The four stores become one.
-fn store_four(ram: &mut [u8], at: usize, w: u32)
+pub fn store_four(ram: &mut [u8], at: usize, w: u32)
     requires { ⌜ at + 4 ≤ length (now ram) ⌝ }
     ensures { λ _. ⌜ now (ram .exit) ≡ laid 4 w at (now (ram .entry)) ⌝ }
 {

@@ -4,7 +4,7 @@ use mathlib.Core.Path.{_≡_, sym, ap, _∙_}
 use mathlib.Core.List.{List}
 use Prim.Native.Nat.{ℕ, _+_, _-_, _*_, _≤_}
 use native.Mathlib.Omega.{arith}
-use lib.ListN.{length, length-take, length-drop}
+use lib.ListN.{length, take, drop, length-take, length-drop}
 use denote.Ref.{now}
 use Rattle.packed_sheet.specs.Packed.{unpacked}
 use Rattle.laws.proofs.Packed.{length-unpacked, unpacked-part}
@@ -63,20 +63,22 @@ draw-pairs-requires-2 c κs = let l = c .before .before in
     }
 
 -- the bytes that are left, too
+rest-drawn : (d : tie.After-draw-pairs2 Inv-loop μ-loop) → let p = d .before .before .before .before in
+    let a = p .before .before .before .args in
+    record { lit = d .draw-pairs2 .result; out = d .draw-pairs2 .last .1 .1 .1 .0 } ≡ drawn (a .first) (a .height) (take (2 * length (now (a .ram)) - 2 * p .loop .start) (drop (2 * p .loop .start) (unpacked (now (a .ram)))))
+rest-drawn d = let p = d .before .before .before .before in
+    let a = p .before .before .before .args in
+    d .draw-pairs2 .ensures ∙ ap (λ (l : List ℕ). drawn (a .first) (a .height) l) (unpacked-part (p .loop .start) (length (now (a .ram))) (now (a .ram)))
+
 same-length : tie.Need-same-length Inv-loop μ-loop
 same-length c = let d = c .before .before in
     let p = d .before .before .before .before in
-    let s = p .before .before .before in
-    let a = s .args in
-    let drawn-rest = d .draw-pairs2 .ensures ∙ ap (λ (l : List ℕ). drawn (a .first) (a .height) l) (unpacked-part (p .loop .start) (length (now (a .ram))) (now (a .ram))) in
-    part-turn (p .loop .inv .0) (omega (arith, p .loop .inv .1)) (omega (arith, sized p .0)) drawn-rest .mapped .size ∙ sym (s .pre .size)
+    part-turn (p .loop .inv .0) (omega (arith, p .loop .inv .1)) (omega (arith, sized p .0)) (rest-drawn d) .mapped .size ∙ sym (p .before .before .before .pre .size)
 
 returns : tie.Need-returns Inv-loop μ-loop
 returns c = let d = c .before .before in
     let p = d .before .before .before .before in
-    let a = p .before .before .before .args in
-    let drawn-rest = d .draw-pairs2 .ensures ∙ ap (λ (l : List ℕ). drawn (a .first) (a .height) l) (unpacked-part (p .loop .start) (length (now (a .ram))) (now (a .ram))) in
-    done (part-turn (p .loop .inv .0) (omega (arith, p .loop .inv .1)) (omega (arith, sized p .0)) drawn-rest) (omega (arith, sized p .0))
+    done (part-turn (p .loop .inv .0) (omega (arith, p .loop .inv .1)) (omega (arith, sized p .0)) (rest-drawn d)) (omega (arith, sized p .0))
 
 add-result : tie.Need-add-result Inv-loop μ-loop
 add-result c = let p = c .before .before .before .before .before .before in
