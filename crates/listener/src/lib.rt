@@ -75,14 +75,14 @@ fn is_control(expect: Expect) -> bool
     }
 }
 
-// The registers after a byte that is no data: a command is obeyed, from one place, so that the call is inlined.
+// The registers after a byte that is no data: a command is obeyed.
 fn obeyed_by(part: u8, expect: Expect, byte: u8, registers: Registers) -> Registers
     ensures { λ r. ⌜ r ≡ obeyedBy (partOf part) expect byte registers ⌝ }
 {
     if is_control(expect) {
         registers
     } else {
-        command::obey(part, registers, byte)
+        command::obey(registers, decode::decode(part, byte))
     }
 }
 
