@@ -1,7 +1,7 @@
 -- An opening: from a command to the next; and what is left after it has the faults, the outcome and the end of the whole.
 -- Assumes nothing.
 use mathlib.Core.Path.{_≡_, refl, sym, ap, subst, _∙_}
-use mathlib.Core.Bool.{Bool, true, false, cond, _&&_}
+use mathlib.Core.Bool.{Bool, true, false, cond, _&&_, false≢true}
 use mathlib.Core.List.{List, [], _∷_}
 use Prim.Native.Nat.{ℕ, suc, _+_, _-_, _≤_, _<_}
 use native.Mathlib.Numerals.{add-one}
@@ -12,6 +12,9 @@ use lib.Seq.{drop-drop}
 use borrow.Author.Tests.{eqb-true, eq-eqb, ne-eqb}
 use Rattle.lemmas.proofs.Lists.{next}
 use Rattle.sheet.specs.declared.Registers.{Registers}
+use Rattle.sheet.specs.declared.Chips.{Chips}
+use Rattle.sheet.specs.declared.Addressed.{Addressed}
+use Rattle.sheet.specs.declared.Addressed.the-variants.{To, Nobody}
 use Rattle.sheet.specs.declared.Expect.the-variants.{Control, One, All}
 use Rattle.sheet.specs.declared.Refusal.the-variants.{UndefinedCommand}
 use Rattle.sheet.specs.declared.Check.{Check}
@@ -19,7 +22,7 @@ use Rattle.sheet.specs.declared.Check.the-variants.{Passed, Refused}
 use Rattle.sheet.specs.Parts.{Part}
 use Rattle.sheet.specs.Registers.{inRange, lostBy}
 use Rattle.sheet.specs.Commands.{defined, obeyed}
-use Rattle.sheet.specs.Protocol.{controlOf, nextAfter, Sent, cut, wholeOf, cutData, isData}
+use Rattle.sheet.specs.Protocol.{heardBy, addressByte, controlOf, nextAfter, Sent, cut, wholeOf, cutData, isData}
 use Rattle.sheet.specs.Checks.{orElse, faultIn, faultOfSent}
 use Rattle.sheet.specs.Long.{begun, heard, heardWhole}
 use Rattle.sheet.specs.Agree.{Keeps}
@@ -143,3 +146,16 @@ opens-whole K before t o h e =
           let then : nextAfter Control (drop (o .at) (wholeOf t)) ≡ nextAfter Control (drop 1 (wholeOf t)) = sym (l .then ∙ ap (nextAfter Control) rest) in
           λ j. record { registers = lostBy (cut t && isData (then j)) (left j .registers); ram = left j .ram; counts = left j .counts; last = left j .last };
     }
+
+-- a transfer that a group hears has a byte 0
+pub hearer-some : (n : Chips) (t : Sent) (g : ℕ) → heardBy n (addressByte t) ≡ To g → 0 < length (wholeOf t)
+unfolding heardBy
+hearer-some n t g e = go (wholeOf t) e
+  where
+    nobody : Addressed → Bool
+    nobody (To h) = false
+    nobody Nobody = true
+
+    go : (xs : List ℕ) → heardBy n (getD xs 0 0) ≡ To g → 0 < length xs
+    go [] e = absurd (false≢true (sym (ap nobody e)))
+    go (x ∷ xs) e = omega arith
