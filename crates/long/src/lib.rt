@@ -19,7 +19,7 @@ ghost use Rattle.sheet.specs.Parts.{partOf};
 ghost use Rattle.sheet.specs.Protocol.{chipsIn, sent, wholeOf};
 ghost use Rattle.sheet.specs.Checks.{checkState};
 ghost use Rattle.sheet.specs.Pictures.{pictureOf, litIn};
-ghost use Rattle.sheet.specs.Long.{noCounts, replaced, columnsOf, taken, powerOnPart, transferPart, picturePart};
+ghost use Rattle.sheet.specs.Long.{replaced, columnsOf, taken, powerOnPart, transferPart, picturePart};
 ghost use Rattle.listener.specs.Listeners.{groupOf};
 ghost use Rattle.long.specs.Heard.{Owned, Ready, heardInRam};
 ghost use Rattle.packed_sheet.specs.Packed.{columnsIn};
@@ -90,13 +90,13 @@ fn deliver(
     }
 }
 
-// What is said of a transfer that nobody hears.
-pub fn unheard() -> Answer
-    ensures { λ r. ⌜ r ≡ Answer.Taken noCounts Acknowledger.None ⌝ }
+// What is said of a transfer that brings no data: so many bytes are acknowledged, none where nobody hears it.
+pub fn without_data(acknowledged: usize) -> Answer
+    ensures { λ r. ⌜ r ≡ Answer.Taken (record { acknowledged = acknowledged; stored = 0; discarded = 0 }) Acknowledger.None ⌝ }
 {
     Answer::Taken {
         counts: Counts {
-            acknowledged: 0,
+            acknowledged,
             stored: 0,
             discarded: 0,
         },
@@ -134,7 +134,7 @@ pub fn transfer(
                 group,
             ),
             Addressed::Nobody => Transferred {
-                answer: unheard(),
+                answer: without_data(0),
                 registers,
             },
         },

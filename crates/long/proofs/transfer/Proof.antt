@@ -43,7 +43,7 @@ returns-2 c = numbered _ (c .before .before .deliver .ensures ∙ sym (takes (c 
 
 returns-3 : tie.Need-returns-3
 returns-3 c = let a = c .before .before .before .before .before .before .before .before .before .before .before .args in
-    numbered _ ((λ j. record { result = record { answer = c .unheard .ensures j; registers = a .registers }; ram = columnsIn (a .packed) (now (a .ram)) }) ∙ sym (takes (c .before .before .before) _ (c .before .enum-told2 .given .1)))
+    numbered _ ((λ j. record { result = record { answer = c .without-data .ensures j; registers = a .registers }; ram = columnsIn (a .packed) (now (a .ram)) }) ∙ sym (takes (c .before .before .before) _ (c .before .enum-told2 .given .1)))
 
 pub transfer-spec : {M : Type 1} → statement M
 transfer-spec =
