@@ -74,21 +74,13 @@ fn send_rest(
     ensures { λ r. ⌜ record { number = r; registers = now (registers .exit); buffer = columnsIn (bus .packed) (now (ram .exit)); answer = now (answer .exit) } ≡ numbered (partOf (bus .part)) (sentTo (partOf (bus .part)) (bus .chips) group (now (registers .entry)) (columnsIn (bus .packed) (now (ram .entry))) (sent (now (bytes .entry)) bits)) ⌝ }
 {
     let part = bus.part;
+    let chips = bus.chips;
+    let packed = bus.packed;
     let whole = checks::whole_count(bytes.len(), bits);
     match protocol::fault_from(part, bits < 8, opened.unknown, &bytes[..whole], from) {
         Check::Refused(refusal) => say(part, Answer::Refused(refusal), answer),
         Check::Passed => {
-            let heard = long::hear_in(
-                part,
-                bus.chips,
-                group,
-                opened,
-                ram,
-                bus.packed,
-                bytes,
-                bits,
-                from,
-            );
+            let heard = long::hear_in(part, chips, group, opened, ram, packed, bytes, bits, from);
             let after = heard.registers;
             let counts = heard.counts;
             let last = heard.last;
