@@ -76,7 +76,7 @@ textLeft mode bytes i = textsOf (readFrom mode i (drop i bytes) .symbols)
 pub record Reading (mode : ℕ) (bytes before : List ℕ) (place i : ℕ) (after : List ℕ) : Type 0 where
   pub front : Fronting (textLeft mode bytes 0) place (textLeft mode bytes i) after
   pub fault : readFrom mode i (drop i bytes) .fault ≡ readFrom mode 0 bytes .fault
-  pub few : (place ≤ 2 * i) × (i ≤ length bytes)
+  pub few : place ≤ 2 * i
   pub kept : length after ≡ length before
   pub stays : drop (place + 1) after ≡ drop (place + 1) before
   pub far : drop 160 after ≡ drop 160 before
@@ -145,7 +145,7 @@ module _ {mode : ℕ} {bytes before : List ℕ} {place i : ℕ} {after : List �
         front = two place (n % 256) (n / 256) (code .least) (code .most) (omega (arith, w .kept))
             (rest-is (w .front) (ap (λ (p : Spelled). textsOf (p .symbols)) next ∙ ap (λ (t : List ℕ). t ++ textLeft mode bytes (i + 1)) (code .text)));
         fault = sym (ap (λ (p : Spelled). p .fault) next) ∙ w .fault;
-        few = (omega (arith, w .few .0, code .most), omega arith);
+        few = omega (arith, w .few, code .most);
         kept = length-set (set after place (n % 256)) (place + 1) 0x2E ∙ length-set after place (n % 256) ∙ w .kept;
         stays = two-before after place (n % 256) (place + n / 256 + 1) (omega (arith, code .least)) ∙ further before after (place + 1) (place + n / 256 + 1) (omega arith) (w .stays);
         far = two-before after place (n % 256) 160 l ∙ w .far;
@@ -182,10 +182,10 @@ module _ {mode : ℕ} {bytes before : List ℕ} {place i : ℕ} {after : List �
       (omega arith)
 
   -- or there is none
-  pub read-filled : length bytes ≤ i → length bytes ≤ 80 → 160 ≤ place → Reading mode bytes before place i after → Put (readFrom mode 0 bytes) (textLeft mode bytes 0) 160 before after (Written.Bytes place)
+  pub read-filled : length bytes ≤ i → length (textLeft mode bytes 0) ≤ 160 → 160 ≤ place → Reading mode bytes before place i after → Put (readFrom mode 0 bytes) (textLeft mode bytes 0) 160 before after (Written.Bytes place)
   read-filled h m l w =
       let d = done h w in
-      let full : place ≡ 160 = omega (arith, w .few .0, w .few .1) in
+      let full : place ≡ 160 = omega (arith, long (d .1)) in
       passed (d .0) (d .1) (subst (λ (k : ℕ). drop k after ≡ drop k before) (sym full) (w .far)) (omega arith)
 
 -- ---- a text to data bytes

@@ -9,6 +9,7 @@ use denote.Ref.{now}
 use borrow.Author.Needs.{needs}
 use borrow.Author.Tests.{eq-eqb, ne-eqb}
 use Rattle.price_sheet.specs.Price.{shown}
+use Rattle.laws.proofs.Spelling.{texts-fit}
 use Rattle.glyphs.specs.Tables.{codeOf}
 use Rattle.price.proofs.Fronting.{Reading, read-turn, read-refused, read-done, read-filled}
 use Rattle.price.proofs.put_texts.Statement.{statement}
@@ -21,13 +22,13 @@ abbrev μ-loop : tie.MeasureT-loop
 μ-loop mode segments before out₀ place₀ i₀ out place i = length segments - i
 
 loop-holds : tie.Need-loop-holds Inv-loop μ-loop
-loop-holds c = record { front = record { same = refl; inside = omega arith }; fault = refl; few = (omega arith, omega arith); kept = refl; stays = refl; far = refl }
+loop-holds c = record { front = record { same = refl; inside = omega arith }; fault = refl; few = omega arith; kept = refl; stays = refl; far = refl }
 
 -- there is room for a byte and a point
 room : (c : tie.In-loop Inv-loop μ-loop) → let p = c .before in (p .loop .place + 1 < 160) × (160 ≤ length (now (p .before .before .before .before .args .out)))
 room c = let p = c .before in
     let s = p .before .before .before .before in
-    (omega (arith, p .loop .inv .few .0, c .loop-test .taken, s .pre .0 .bytes), s .pre .0 .enough)
+    (omega (arith, p .loop .inv .few, c .loop-test .taken, s .pre .0 .bytes), s .pre .0 .enough)
 
 -- the code of byte i, if its entry is its own
 code : (c : tie.Else1 Inv-loop μ-loop) → let p = c .before .before .before .before in
@@ -53,7 +54,7 @@ loop-again c = let l = c .before .before .before in
 
 -- the next place fits
 fits : (c : tie.Else1 Inv-loop μ-loop) → let p = c .before .before .before .before in p .loop .place + c .before .entry-of .result / 256 / 256 ≤ 160
-fits c = let l = c .before .before .before in omega (arith, loop-again c .few .0, l .loop-test .taken, l .before .before .before .before .before .pre .0 .bytes)
+fits c = let l = c .before .before .before in omega (arith, loop-again c .few, l .loop-test .taken, l .before .before .before .before .before .pre .0 .bytes)
 
 -- what was before is as long
 front : (c : tie.Start Inv-loop μ-loop) → length (now (c .args .before)) ≡ 160
@@ -67,7 +68,7 @@ returns-2 c = let l = c .before .before in
 returns-3 : tie.Need-returns-3 Inv-loop μ-loop
 returns-3 c = let l = c .before in
     let s = l .before .before .before .before .before in
-    read-filled (l .loop-test .left) (s .pre .0 .bytes) (omega (arith, c .if2 .left, front s)) (l .before .loop .inv)
+    read-filled (l .loop-test .left) (texts-fit (s .args .mode) (now (s .args .segments)) 160 (record { bytes = s .pre .0 .bytes; four = s .pre .0 .four; enough = omega arith })) (omega (arith, c .if2 .left, front s)) (l .before .loop .inv)
 
 pub put-texts-spec : {M : Type 1} → statement M
 put-texts-spec =
