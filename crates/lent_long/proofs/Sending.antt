@@ -7,8 +7,7 @@ use Prim.Native.Nat.{ℕ, _+_, _-_, _*_, _≤_, _<_}
 use native.Mathlib.Nat.{add-sub-cancel-left}
 use native.Mathlib.Omega.{arith}
 use lib.Dec.{T, eqb, ltb}
-use lib.ListN.{length, getD, take, drop, drop-of-length-le, take-append-drop}
-use lib.Seq.{drop-drop}
+use lib.ListN.{length, getD, take, drop, drop-of-length-le}
 use borrow.Author.Tests.{ltb-true}
 use Rattle.lemmas.proofs.Tests.{both-true}
 use Rattle.sheet.specs.declared.Both.{Both}
@@ -25,10 +24,11 @@ use Rattle.sheet.specs.declared.Check.{Check}
 use Rattle.sheet.specs.Parts.{Part}
 use Rattle.sheet.specs.Refusals.{numbers}
 use Rattle.sheet.specs.Registers.{known, lostBy, registersOf}
-use Rattle.sheet.specs.Protocol.{addressOf, heardBy, chipsIn, Sent, cut, wholeOf}
+use Rattle.sheet.specs.Protocol.{addressOf, heardBy, Sent, cut, wholeOf}
 use Rattle.sheet.specs.Checks.{unless, orElse, faultIn, checkBytes, checkState, checkPicture}
-use Rattle.sheet.specs.Long.{Group, After, answered, taken, heard, replaced, startOf, columnsOf, withColumns}
+use Rattle.sheet.specs.Long.{Group, After, answered, taken, heard, replaced, columnsOf, withColumns}
 use Rattle.laws.proofs.Fits.{both-pass, unless-passes}
+use Rattle.laws.proofs.CutLong.{put-back}
 use Rattle.opening.specs.declared.Opening.{Opening}
 use Rattle.opening.specs.Opened.{openedAt}
 use Rattle.opening.proofs.Openings.{Opens}
@@ -36,13 +36,6 @@ use Rattle.long.specs.Heard.{heardInRam}
 use Rattle.wire.specs.Bytes.{bothOf, bothBytes, bytesOf}
 use Rattle.wire.proofs.Given.{Bytes, both-back, replaced-bytes}
 use Rattle.lent_long.specs.LongCalls.{LentAfter, lentAfter, Called, numbered}
-
--- a group's columns put back where they were
-put-back : (K : Part) (n : Chips) (g : ℕ) (ram : List ℕ) → withColumns K n g (columnsOf K n g ram) ram ≡ ram
-put-back K n g ram =
-    ap (λ (l : List ℕ). take (startOf K n g) ram ++ (columnsOf K n g ram ++ l)) (sym (drop-drop (K .columns * chipsIn g n) (startOf K n g) ram))
-    ∙ ap (λ (l : List ℕ). take (startOf K n g) ram ++ l) (take-append-drop (K .columns * chipsIn g n) (drop (startOf K n g) ram))
-    ∙ take-append-drop (startOf K n g) ram
 
 pub nothing-written : (l ram : List ℕ) (k : Check) (x : Refusal) (a : After) → length l ≡ 24 → Bytes l → k ≡ Check.Refused x
     → _≡_ {A = LentAfter} (record { answer = Answer.Refused x; registers = l; ram = ram }) (lentAfter (answered k (bothOf l) ram a))
