@@ -147,10 +147,12 @@ pub fn send(
     requires { ⌜ Sendable (partOf (bus .part)) (bus .chips) (now registers) (columnsIn (bus .packed) (now ram)) × (length (now answer) ≡ 6) ⌝ }
     ensures { λ r. ⌜ record { number = r; registers = now (registers .exit); buffer = columnsIn (bus .packed) (now (ram .exit)); answer = now (answer .exit) } ≡ numbered (partOf (bus .part)) (sentC (partOf (bus .part)) (bus .chips) (now (registers .entry)) (columnsIn (bus .packed) (now (ram .entry))) (sent (now (bytes .entry)) bits)) ⌝ }
 {
-    match checks::check_sent(bytes.len(), bits) {
+    // read once, so that pointer and length are handed on and not where they lie
+    let all = &bytes[..];
+    match checks::check_sent(all.len(), bits) {
         Check::Refused(refusal) => say(bus.part, Answer::Refused(refusal), answer),
-        Check::Passed => match groups::heard_by(bus.chips, checks::address_byte(bytes, bits)) {
-            Addressed::To(group) => send_to(bus, group, registers, ram, bytes, bits, answer),
+        Check::Passed => match groups::heard_by(bus.chips, checks::address_byte(all, bits)) {
+            Addressed::To(group) => send_to(bus, group, registers, ram, all, bits, answer),
             Addressed::Nobody => say(bus.part, long::without_data(0), answer),
         },
     }
@@ -214,7 +216,7 @@ pub fn transfer(
     ensures { λ r. ⌜ transferC (bus .part) (bus .chips) (now (registers .entry)) (columnsIn (bus .packed) (now (ram .entry))) (sent (now (bytes .entry)) bits) (now (answer .entry)) ≡ record { number = r; registers = now (registers .exit); buffer = columnsIn (bus .packed) (now (ram .exit)); answer = now (answer .exit) } ⌝ }
 {
     if (registers.len() == 24) & (answer.len() == 6) {
-        answered(bus, registers, ram, bytes, bits, answer)
+        answered(bus, registers, ram, &bytes[..], bits, answer)
     } else {
         255
     }
