@@ -15,7 +15,7 @@ use Rattle.writer_sheet.specs.Three.{pairOf}
 use Rattle.words.specs.Fields.{field, joined}
 use Rattle.gather.specs.Gathered.{pairAt, turnedThree}
 use Rattle.gather.proofs.Lows.{low-whole, low-none, turned, turned-six, lowBits}
-use Rattle.gather.proofs.Bytewise.{joined-alike, and-joined, or-joined, scaled, summed, exchanged, exchange}
+use Rattle.words.proofs.Bytewise.{joined-alike, and-joined, or-joined, scaled, summed, exchanged, exchange}
 
 exchanged-small : (m e x : ℕ) → m < 256 → bitAnd x m * 2 ^ e < 256 → exchanged m e x < 256
 exchanged-small m e x small high = or-lt 8 (bitAnd x m * 2 ^ e) (bitAnd (x / 2 ^ e) m) high (omega (arith, small, and-le-r (x / 2 ^ e) m))

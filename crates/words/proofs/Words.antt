@@ -35,7 +35,7 @@ column-mixed r t w j =
     (column-op bitXor xor-shr xor-mod (bitOr w r) r j ∙ ap (λ (n : ℕ). bitXor n (columnOf r j)) (column-op bitOr or-shr or-mod w r j))
     (column-op bitAnd and-shr and-mod t r j)
 
-column-joined : (n : ℕ) (q : ℕ → ℕ) → ((j : ℕ) → q j < 256) → (j : ℕ) → j < n → columnOf (joined n q) j ≡ q j
+pub column-joined : (n : ℕ) (q : ℕ → ℕ) → ((j : ℕ) → q j < 256) → (j : ℕ) → j < n → columnOf (joined n q) j ≡ q j
 unfolding columnOf joined
 column-joined zero q w j h = absurd (not-suc-le-zero h)
 column-joined (suc n) q w zero h = rw (div-one (joined n (λ j. q (suc j)) * 256 + q 0)) (digits-mod (joined n (λ j. q (suc j))) (w 0))
@@ -74,6 +74,11 @@ word-merged n r t v ram w =
 -- a column by another name, at the same place
 at-place : (r s t u p q : ℕ) {l k : List ℕ} → r ≡ s → t ≡ u → p ≡ q → l ≡ k → changed (mixed r t) p l ≡ changed (mixed s u) q k
 at-place r s t u p q er et ep el = rw (er, et, ep, el)
+
+-- eight columns are four and four
+pub joined-eight : (q : ℕ → ℕ) → joined 4 q + 4294967296 * joined 4 (λ j. q (4 + j)) ≡ joined 8 q
+unfolding joined
+joined-eight q = omega arith
 
 -- ---- the rows of a bank
 

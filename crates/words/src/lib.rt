@@ -88,6 +88,21 @@ pub fn put_four(ram: &mut [u8], at: usize, rows: u32, t: u32)
     store_four(ram, at, kept | (t & rows));
 }
 
+// Two words as one.
+fn double(low: u32, high: u32) -> u64
+    ensures { λ r. ⌜ r ≡ low + 4294967296 * high ⌝ }
+{
+    low as u64 + 4294967296 * (high as u64)
+}
+
+// Eight columns as a word.
+pub fn eight_columns(ram: &[u8], at: usize) -> u64
+    requires { ⌜ at + 8 ≤ length (now ram) ⌝ }
+    ensures { λ r. ⌜ r ≡ joined 8 (λ j. getD (now (ram .entry)) (at + j) 0) ⌝ }
+{
+    double(four_columns(ram, at), four_columns(ram, at + 4))
+}
+
 // 1:3: the words of four bytes, three columns each, as three words of four.
 pub fn put_twelve(ram: &mut [u8], at: usize, a: u32, b: u32, c: u32, d: u32)
     requires { ⌜ (at + 12 ≤ length (now ram)) × (a < 16777216) × (b < 16777216) × (c < 16777216) × (d < 16777216) ⌝ }

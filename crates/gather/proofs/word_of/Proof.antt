@@ -9,7 +9,7 @@ use Rattle.sheet.specs.Data.{widthOf}
 use Rattle.writer_sheet.specs.Writer.{bitsFrom}
 use Rattle.laws.proofs.Runs.{as-wide}
 use Rattle.words.specs.Fields.{joined}
-use Rattle.gather.proofs.Bytewise.{joined-alike}
+use Rattle.words.proofs.Bytewise.{joined-alike}
 use borrow.Author.Needs.{needs}
 use Rattle.gather.proofs.word_of.Statement.{statement}
 use Rattle.gather.proofs.word_of.Tie as tie

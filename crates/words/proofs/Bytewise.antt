@@ -2,13 +2,11 @@
 -- Assumes nothing.
 use mathlib.Core.Path.{_≡_, refl, sym, ap, ap₂, _∙_}
 use Prim.Native.Nat.{ℕ, zero, suc, _+_, _*_, _/_, _%_, _^_, _<_}
-use native.Mathlib.Nat.{add-zero, zero-mul, mod-lt, add-mul, mul-right-comm, mul-div-cancel, div-add-mod', mul-le-mul-right, mod-eq-of-lt}
+use native.Mathlib.Nat.{add-zero, zero-mul, mod-lt, add-mul, mul-right-comm, mul-div-cancel, div-add-mod', mul-le-mul-right}
 use native.Mathlib.Omega.{arith}
-use lib.Arith.{digits-div, digits-mod}
 use lib.Bits.{bitAnd, bitOr, and-zero-l, and-zero-r, or-zero-l, and-block, or-block, and-shr, and-le-r}
 use lib.Pow.{pow-pos}
-use Rattle.words.specs.Fields.{joined, columnOf}
-use Rattle.gather.specs.Gathered.{side}
+use Rattle.words.specs.Fields.{joined}
 
 pub joined-alike : (n : ℕ) (p q : ℕ → ℕ) → ((j : ℕ) → p j ≡ q j) → joined n p ≡ joined n q
 unfolding joined
@@ -41,29 +39,6 @@ unfolding joined
 summed zero p q = refl
 summed (suc n) p q = let e = summed n (λ j. p (suc j)) (λ j. q (suc j)) in omega (arith, e)
 
--- the columns of a word
-pub columns-side : (a b c d : ℕ) → a < 256 → b < 256 → c < 256 → d < 256 → let w = side a b c d in (columnOf w 0 ≡ a) × (columnOf w 1 ≡ b) × (columnOf w 2 ≡ c) × (columnOf w 3 ≡ d)
-unfolding columnOf
-columns-side a b c d la lb lc ld =
-    let w = side a b c d in
-    let top = (0 * 256 + d) * 256 + c in
-    let a₁ : w / 256 ≡ top * 256 + b = digits-div (top * 256 + b) la in
-    let a₂ : w / 65536 ≡ top = omega (arith, a₁, digits-div top lb) in
-    let a₃ : w / 16777216 ≡ d = omega (arith, a₂, digits-div d lc) in
-    let e₀ : w / 1 % 256 ≡ a = omega (arith, la) in
-    (e₀, ap (λ (n : ℕ). n % 256) a₁ ∙ digits-mod top lb, ap (λ (n : ℕ). n % 256) a₂ ∙ digits-mod (0 * 256 + d) lc, ap (λ (n : ℕ). n % 256) a₃ ∙ mod-eq-of-lt ld)
-
-pub columns-of : (f : ℕ → ℕ) → ((i : ℕ) → f i < 256) → let w = joined 4 f in (columnOf w 0 ≡ f 0) × (columnOf w 1 ≡ f 1) × (columnOf w 2 ≡ f 2) × (columnOf w 3 ≡ f 3)
-unfolding joined
-columns-of f h = columns-side (f 0) (f 1) (f 2) (f 3) (h 0) (h 1) (h 2) (h 3)
-
-pub column-at : (f : ℕ → ℕ) → ((i : ℕ) → f i < 256) → (i : ℕ) → i < 4 → columnOf (joined 4 f) i ≡ f i
-column-at f h zero l = columns-of f h .0
-column-at f h (suc zero) l = columns-of f h .1
-column-at f h (suc (suc zero)) l = columns-of f h .2
-column-at f h (suc (suc (suc zero))) l = columns-of f h .3
-column-at f h (suc (suc (suc (suc i)))) l = absurd (omega (arith, l))
-
 -- a mask that is moved up
 moved : (w m e : ℕ) → bitAnd w (m * 2 ^ e) ≡ bitAnd (w / 2 ^ e) m * 2 ^ e
 moved w m e =
@@ -71,27 +46,27 @@ moved w m e =
     ∙ and-block e (w / 2 ^ e) m (w % 2 ^ e) 0 (mod-lt w (pow-pos e)) (pow-pos e)
     ∙ ap (λ (n : ℕ). bitAnd (w / 2 ^ e) m * 2 ^ e + n) (and-zero-r (w % 2 ^ e)) ∙ add-zero (bitAnd (w / 2 ^ e) m * 2 ^ e)
 
--- the lowest column, and those above it, shifted down under a mask
-down : (m e w k a : ℕ) → m * 2 ^ e < 256 → a < 256 → bitAnd ((w * 256 + a) / 2 ^ e) (k * 256 + m) ≡ bitAnd (w / 2 ^ e) k * 256 + bitAnd (a / 2 ^ e) m
-down m e w k a high h =
-    let all = w * 256 + a in
-    let mask : (k * 2 ^ e) * 256 + m * 2 ^ e ≡ (k * 256 + m) * 2 ^ e = sym (add-mul (k * 256) m (2 ^ e) ∙ ap (λ (n : ℕ). n + m * 2 ^ e) (mul-right-comm k 256 (2 ^ e))) in
+-- the lowest column, of b bits, and those above it, shifted down under a mask
+pub down : (b m e w k a : ℕ) → m * 2 ^ e < 2 ^ b → a < 2 ^ b → bitAnd ((w * 2 ^ b + a) / 2 ^ e) (k * 2 ^ b + m) ≡ bitAnd (w / 2 ^ e) k * 2 ^ b + bitAnd (a / 2 ^ e) m
+down b m e w k a high h =
+    let all = w * 2 ^ b + a in
+    let mask : (k * 2 ^ e) * 2 ^ b + m * 2 ^ e ≡ (k * 2 ^ b + m) * 2 ^ e = sym (add-mul (k * 2 ^ b) m (2 ^ e) ∙ ap (λ (n : ℕ). n + m * 2 ^ e) (mul-right-comm k (2 ^ b) (2 ^ e))) in
     let B = bitAnd (w / 2 ^ e) k in
     let A = bitAnd (a / 2 ^ e) m in
-    ap (bitAnd (all / 2 ^ e)) (sym (mul-div-cancel (k * 256 + m) (pow-pos e)))
-    ∙ sym (and-shr all ((k * 256 + m) * 2 ^ e) e)
+    ap (bitAnd (all / 2 ^ e)) (sym (mul-div-cancel (k * 2 ^ b + m) (pow-pos e)))
+    ∙ sym (and-shr all ((k * 2 ^ b + m) * 2 ^ e) e)
     ∙ ap (λ (n : ℕ). bitAnd all n / 2 ^ e) (sym mask)
-    ∙ ap (λ (n : ℕ). n / 2 ^ e) (and-block 8 w (k * 2 ^ e) a (m * 2 ^ e) h high)
-    ∙ ap₂ (λ (x y : ℕ). (x * 256 + y) / 2 ^ e) (moved w k e) (moved a m e)
-    ∙ ap (λ (n : ℕ). (n + A * 2 ^ e) / 2 ^ e) (mul-right-comm B (2 ^ e) 256)
-    ∙ ap (λ (n : ℕ). n / 2 ^ e) (sym (add-mul (B * 256) A (2 ^ e)))
-    ∙ mul-div-cancel (B * 256 + A) (pow-pos e)
+    ∙ ap (λ (n : ℕ). n / 2 ^ e) (and-block b w (k * 2 ^ e) a (m * 2 ^ e) h high)
+    ∙ ap₂ (λ (x y : ℕ). (x * 2 ^ b + y) / 2 ^ e) (moved w k e) (moved a m e)
+    ∙ ap (λ (n : ℕ). (n + A * 2 ^ e) / 2 ^ e) (mul-right-comm B (2 ^ e) (2 ^ b))
+    ∙ ap (λ (n : ℕ). n / 2 ^ e) (sym (add-mul (B * 2 ^ b) A (2 ^ e)))
+    ∙ mul-div-cancel (B * 2 ^ b + A) (pow-pos e)
 
 pub shifted : (n m e : ℕ) (q : ℕ → ℕ) → m * 2 ^ e < 256 → ((j : ℕ) → q j < 256) → bitAnd (joined n q / 2 ^ e) (joined n (λ j. m)) ≡ joined n (λ j. bitAnd (q j / 2 ^ e) m)
 unfolding joined
 shifted zero m e q high h = and-zero-r (0 / 2 ^ e)
 shifted (suc n) m e q high h =
-    down m e (joined n (λ j. q (suc j))) (joined n (λ j. m)) (q 0) high (h 0)
+    down 8 m e (joined n (λ j. q (suc j))) (joined n (λ j. m)) (q 0) high (h 0)
     ∙ ap (λ (k : ℕ). k * 256 + bitAnd (q 0 / 2 ^ e) m) (shifted n m e (λ j. q (suc j)) high (λ j. h (suc j)))
 
 -- the rows in m of a column change places with those 2 ^ e times as high
