@@ -9,11 +9,12 @@ ghost use mathlib.Core.Path.{_≡_};
 ghost use lib.ListN.{length, getD};
 ghost use Rattle.sheet.specs.Parts.{partOf};
 ghost use Rattle.sheet.specs.Refusals.{numbers};
+ghost use Rattle.sheet.specs.Registers.{inRange};
 ghost use Rattle.sheet.specs.Protocol.{sent};
 ghost use Rattle.sheet.specs.Long.{transferPart, picturePart};
 ghost use Rattle.packed_sheet.specs.Packed.{columnsIn};
 ghost use Rattle.refused.specs.Fitting.{fitting};
-ghost use Rattle.wire.specs.Bytes.{bothOf};
+ghost use Rattle.wire.specs.Bytes.{registersIn, bothOf};
 ghost use Rattle.lent_long.specs.LongCalls.{Sendable, Hearable, Left, lentAfter, numbered, sentTo, sentC, powerOnC, transferC, pictureC};
 
 // A bus as a call is told of it: the part, the chips of each group, and whether their columns are packed.
@@ -40,13 +41,23 @@ pub fn power_on(bus: Bus, ram: &[u8], registers: &mut [u8], answer: &mut [usize]
 
 // ---- a transfer to a bus that is in range, so that only the transfer is left to check
 
-// Whether every register of both groups is in range.
+// Whether every register of a group is in range. The bytes are looked at as words, whose masks have the bits that must be 0.
+fn in_range(part: u8, registers: &[u8]) -> bool
+    requires { ⌜ length (now registers) ≡ 12 ⌝ }
+    ensures { λ r. ⌜ r ≡ inRange (partOf part) (registersIn (now (registers .entry))) ⌝ }
+{
+    (words::eight_columns(registers, 0) & 0xFEFEFE0000FCFEFE == 0)
+        & (words::four_columns(registers, 8) & 0xFEFEFEFC == 0)
+        & ((registers[3] as usize) < arithmetic::columns(part))
+        & (registers[4] as usize <= arithmetic::limit(part))
+}
+
+// And of both groups.
 fn fits(part: u8, registers: &[u8]) -> bool
     requires { ⌜ length (now registers) ≡ 24 ⌝ }
     ensures { λ r. ⌜ r ≡ fitting (partOf part) (bothOf (now (registers .entry))) ⌝ }
 {
-    registers::in_range(part, wire::registers_of(&registers[..12]))
-        & registers::in_range(part, wire::registers_of(&registers[12..]))
+    in_range(part, &registers[..12]) & in_range(part, &registers[12..])
 }
 
 // What is said of a transfer, in the numbers of the lent answer; the first is returned too.
@@ -199,7 +210,9 @@ fn pictured(
         Check::Passed => {
             let at = 12 * (group as usize);
             let shown = wire::registers_of(&registers[at..at + 12]);
-            Pictured::Lit(long::show_in(part, bus.chips, group, shown, ram, packed, phase, out))
+            let start = groups::start_in(part, bus.chips, group, packed);
+            let end = groups::end_in(part, bus.chips, group, packed);
+            Pictured::Lit(picture::show(&ram[start..end], packed, shown, phase, out))
         }
     }
 }
