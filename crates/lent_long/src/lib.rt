@@ -217,14 +217,14 @@ fn pictured(
     }
 }
 
-// A transfer, of whose last byte so many bits came, taken or refused by 16, 3, 6, 4, 5, 1, 2, 19, then 7, 17 and 18.
+// A transfer, of whose last byte so many bits came, taken or refused by 16, 3, 6, 4, 5, 1, 2, 19, then 7, 17 and 18. What is looked at first stands first, and comes in the processor's registers.
 pub fn transfer(
     bus: Bus,
+    answer: &mut [usize],
     registers: &mut [u8],
     ram: &mut [u8],
-    bytes: &[u8],
     bits: u8,
-    answer: &mut [usize],
+    bytes: &[u8],
 ) -> u8
     ensures { λ r. ⌜ transferC (bus .part) (bus .chips) (now (registers .entry)) (columnsIn (bus .packed) (now (ram .entry))) (sent (now (bytes .entry)) bits) (now (answer .entry)) ≡ record { number = r; registers = now (registers .exit); buffer = columnsIn (bus .packed) (now (ram .exit)); answer = now (answer .exit) } ⌝ }
 {
