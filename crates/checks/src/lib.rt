@@ -3,7 +3,7 @@ use sheet::Check;
 use sheet::Chips;
 use sheet::Refusal;
 ghost use mathlib.Core.Path.{_≡_};
-ghost use Prim.Native.Nat.{_+_, _≤_, max};
+ghost use Prim.Native.Nat.{_+_, _%_, _≤_, max};
 ghost use lib.ListN.{length, getD, drop};
 ghost use mathlib.Core.Bool.{true};
 ghost use Rattle.laws.proofs.Nibbles.{Nibbles};
@@ -109,6 +109,7 @@ pub fn search_over(columns: &[u8]) -> usize
 // Whether the columns are whole words of eight and none is over 15. The rows of all words are brought together, and no branch leaves the loop.
 fn words_low(columns: &[u8]) -> bool
     ensures { λ r. ⌜ (r ≡ true → Nibbles (now (columns .entry))) ⌝ }
+    ensures { λ r. ⌜ (length (now (columns .entry)) % 8 ≡ 0 → Nibbles (now (columns .entry)) → r ≡ true) ⌝ }
 {
     let n = columns.len();
     let mut rows: u64 = 0;

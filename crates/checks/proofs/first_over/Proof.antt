@@ -32,7 +32,7 @@ found i (q ∷ qs) = by-column (ltb 15 q) (found (suc i) qs)
         ap₂ (λ (past : Bool) (k : ℕ). unless past (RamByte k)) (leb·suc-suc (length qs) (firstOver qs)) next ∙ later
 
 returns : tie.Need-returns
-returns c = let l = now (c .before .before .before .args .columns) in sym (check-nibbles 0 l (c .before .words-low .ensures (c .if1 .taken)))
+returns c = let l = now (c .before .before .before .args .columns) in sym (check-nibbles 0 l (c .before .words-low .ensures .0 (c .if1 .taken)))
 
 returns-2 : tie.Need-returns-2
 returns-2 c = let l = now (c .before .before .before .before .before .args .columns) in

@@ -1,22 +1,23 @@
 -- `checks::words_low` meets its contract: where the rows brought together have none over row 3, no column before i is over 15.
 -- Assumes nothing.
-use mathlib.Core.Path.{_≡_, sym, ap, subst, _∙_}
+use mathlib.Core.Path.{_≡_, sym, ap, ap₂, subst, _∙_}
+use mathlib.Core.Bool.{_&&_}
 use mathlib.Core.List.{List}
 use mathlib.Core.Logic.{⊎-elim}
-use Prim.Native.Nat.{ℕ, _+_, _-_, _^_, _≤_, _<_}
+use Prim.Native.Nat.{ℕ, _+_, _-_, _%_, _^_, _≤_, _<_}
 use native.Mathlib.Omega.{arith}
-use lib.Bits.{bitAnd, bitOr, or-lt}
+use lib.Bits.{bitAnd, bitOr, and-zero-l, or-lt}
 use lib.ListN.{length, getD, List·getD-eq-default}
-use borrow.Author.Tests.{eqb-true}
+use borrow.Author.Tests.{eqb-true, eq-eqb}
 use Rattle.lemmas.proofs.Order.{lt-or-le}
 use Rattle.lemmas.proofs.Tests.{both-true}
 use Rattle.words.specs.Fields.{joined}
-use Rattle.checks.proofs.Low.{over, neither, word-fits, word-low}
+use Rattle.checks.proofs.Low.{over, neither, together, word-fits, word-low, low-word}
 use Rattle.checks.proofs.words_low.Statement.{statement}
 use Rattle.checks.proofs.words_low.Tie as tie
 
 abbrev Inv-loop : tie.InvT-loop
-Inv-loop columns n rows₀ i₀ rows i = (bitAnd rows over ≡ 0 → (j : ℕ) → j < i → getD columns j 0 < 16) × (rows < 2 ^ 64) × (i ≤ length columns)
+Inv-loop columns n rows₀ i₀ rows i = (bitAnd rows over ≡ 0 → (j : ℕ) → j < i → getD columns j 0 < 16) × (rows < 2 ^ 64) × (i ≤ length columns) × (((j : ℕ) → j < i → getD columns j 0 < 16) → bitAnd rows over ≡ 0) × (i % 8 ≡ 0)
 
 abbrev μ-loop : tie.MeasureT-loop
 μ-loop columns n rows₀ i₀ rows i = length columns - i
@@ -34,6 +35,10 @@ module _ (columns : List ℕ) (bytes : (k : ℕ) → getD columns k 0 < 256) (ro
       (λ (l : i ≤ j). let same : i + (j - i) ≡ j = omega arith in subst (λ (k : ℕ). getD columns k 0 < 16) same (next (j - i) (omega arith)))
       (lt-or-le j i)
 
+  turned : (((j : ℕ) → j < i → getD columns j 0 < 16) → bitAnd rows over ≡ 0) → ((j : ℕ) → j < i + 8 → getD columns j 0 < 16) → bitAnd (bitOr rows w) over ≡ 0
+  turned none low = together 64 rows w over fits small (none (λ j h. low j (omega (arith, h))))
+      (ap (λ (n : ℕ). bitAnd n over) told ∙ low-word (λ k. getD columns (i + k) 0) (λ k. bytes (i + k)) (λ k h. low (i + k) (omega (arith, h))))
+
 loop-again : tie.Need-loop-again Inv-loop μ-loop
 loop-again c = let l = c .before in
     let p = l .before in
@@ -46,14 +51,18 @@ loop-again c = let l = c .before in
       turn columns bytes rows (p .loop .i) w fits told (p .loop .inv .0),
       or-lt 64 rows w fits (small columns bytes rows (p .loop .i) w fits told),
       omega (arith, l .loop-test .taken, p .loop .inv .2),
+      turned columns bytes rows (p .loop .i) w fits told (p .loop .inv .3),
+      omega (arith, p .loop .inv .4),
     )
 
 returns : tie.Need-returns Inv-loop μ-loop
-returns c t = let p = c .before in
-    let columns = p .before .before .args .columns .now in
-    let both = both-true _ _ t in
-    let all = eqb-true (p .loop .i) (length columns) (both .0) in
-    λ j. ⊎-elim (λ (l : j < length columns). p .loop .inv .0 (eqb-true _ 0 (both .1)) j (omega (arith, l, all))) (λ (l : length columns ≤ j). rw (List·getD-eq-default columns 0 l) (omega arith)) (lt-or-le j (length columns))
+returns c = let p = c .before in
+    let columns = p .before .before .args .columns .now in (
+      λ t. let both = both-true _ _ t in
+          let all = eqb-true (p .loop .i) (length columns) (both .0) in
+          λ j. ⊎-elim (λ (l : j < length columns). p .loop .inv .0 (eqb-true _ 0 (both .1)) j (omega (arith, l, all))) (λ (l : length columns ≤ j). rw (List·getD-eq-default columns 0 l) (omega arith)) (lt-or-le j (length columns)),
+      λ eight low. ap₂ _&&_ (eq-eqb (p .loop .i) (length columns) (omega (arith, c .loop-test .left, p .loop .inv .2, p .loop .inv .4, eight))) (eq-eqb _ 0 (p .loop .inv .3 (λ j h. low j))),
+    )
 
 pub words-low-spec : {M : Type 1} → statement M
 words-low-spec =
@@ -61,7 +70,7 @@ words-low-spec =
     (tie.spec
     Inv-loop
     μ-loop
-    (λ c. (λ e j h. absurd (omega (arith, h)), omega arith, omega arith))
+    (λ c. (λ e j h. absurd (omega (arith, h)), omega arith, omega arith, λ low. and-zero-l over, omega arith))
     (λ c. c .loop .inv .2)
     (λ c κs. omega (arith, c .loop-test .taken, c .before .loop .inv .2))
     (λ c. omega (arith, c .before .loop-test .taken, c .before .before .loop .inv .2))
