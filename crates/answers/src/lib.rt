@@ -9,7 +9,6 @@ use sheet::Rescued;
 use sheet::Written;
 ghost use mathlib.Core.Path.{_≡_};
 ghost use Rattle.sheet.specs.Parts.{partOf};
-ghost use Rattle.log_sheet.specs.Logs.{modelled};
 ghost use Rattle.sheet.specs.Refusals.{numberOf, placeOf, lastNumber, refusalNumbers, numbers, plainNumbers, pictureNumbers, rescuedNumbers, checkNumbers, writtenNumbers};
 
 // The paper's number of a refusal.
@@ -79,16 +78,6 @@ pub fn place_of(refusal: Refusal) -> usize
         Refusal::UnknownPart => 0,
         Refusal::BitCount => 0,
         Refusal::NoEnd => 0,
-    }
-}
-
-// The acknowledged bytes of a transfer; none, if it is refused.
-pub fn modelled(answer: Answer) -> usize
-    ensures { λ r. ⌜ r ≡ modelled answer ⌝ }
-{
-    match answer {
-        Answer::Taken { counts, last: _ } => counts.acknowledged,
-        Answer::Refused(_) => 0,
     }
 }
 

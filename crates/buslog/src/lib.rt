@@ -60,7 +60,8 @@ fn put_transfers(
             chips,
             packed: false,
         };
-        let answer = lent_long::send(bus, registers, ram, &log[from..end], 8);
+        let mut answer = [0; 6];
+        lent_long::send(bus, registers, ram, &log[from..end], 8, &mut answer);
         at = lines::put_record(out, at, seen, index, count, answer);
         index += 1;
         cursor = Cursor { at: end, seen };

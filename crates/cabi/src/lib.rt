@@ -65,7 +65,7 @@ pub extern "C" fn humtrellis_transfer(
     ensures { λ r. ⌜ transferC part (chipsOf zero one) (now (registers .entry)) (now (ram .entry)) (sent (now (bytes .entry)) bits) (now (answer .entry)) ≡ record { number = r; registers = now (registers .exit); buffer = now (ram .exit); answer = now (answer .exit) } ⌝ }
 {
     let bus = bus_of(part, zero, one, false);
-    lent_long::transfer(bus, registers, ram, bytes, bits, answer)
+    lent_long::transfer(bus, answer, registers, ram, bits, bytes)
 }
 
 #[no_mangle]
@@ -82,7 +82,7 @@ pub extern "C" fn humtrellis_packed_transfer(
     ensures { λ r. ⌜ record { number = r; registers = now (registers .exit); buffer = now (ram .exit); answer = now (answer .exit) } ≡ packedTransferC part (chipsOf zero one) (now (registers .entry)) (now (ram .entry)) (sent (now (bytes .entry)) bits) (now (answer .entry)) ⌝ }
 {
     let bus = bus_of(part, zero, one, true);
-    lent_long::transfer(bus, registers, ram, bytes, bits, answer)
+    lent_long::transfer(bus, answer, registers, ram, bits, bytes)
 }
 
 #[no_mangle]

@@ -3,8 +3,10 @@ use sheet::Check;
 use sheet::Chips;
 use sheet::Refusal;
 ghost use mathlib.Core.Path.{_≡_};
-ghost use Prim.Native.Nat.{_+_, _≤_, max};
+ghost use Prim.Native.Nat.{_+_, _%_, _≤_, max};
 ghost use lib.ListN.{length, getD, drop};
+ghost use mathlib.Core.Bool.{true};
+ghost use Rattle.laws.proofs.Nibbles.{Nibbles};
 ghost use Rattle.checks.specs.Highest.{highestOf, firstOver};
 ghost use Rattle.sheet.specs.Parts.{partOf};
 ghost use Rattle.sheet.specs.Protocol.{sent, wholeCount, addressByte};
@@ -104,14 +106,30 @@ pub fn search_over(columns: &[u8]) -> usize
     i
 }
 
+// Whether the columns are whole words of eight and none is over 15. The rows of all words are brought together, and no branch leaves the loop.
+fn words_low(columns: &[u8]) -> bool
+    ensures { λ r. ⌜ (r ≡ true → Nibbles (now (columns .entry))) ⌝ }
+    ensures { λ r. ⌜ (length (now (columns .entry)) % 8 ≡ 0 → Nibbles (now (columns .entry)) → r ≡ true) ⌝ }
+{
+    let n = columns.len();
+    let mut rows: u64 = 0;
+    let mut i = 0;
+    while 8 <= n - i {
+        rows = rows | words::eight_columns(columns, i);
+        i += 8;
+    }
+    (i == n) & (rows & 0xF0F0F0F0F0F0F0F0 == 0)
+}
+
 // The first column over 15, if there is one; most RAMs have none.
 pub fn first_over(columns: &[u8]) -> Check
     ensures { λ r. ⌜ r ≡ overIn 0 (now (columns .entry)) ⌝ }
 {
-    if highest(columns) <= 15 {
+    if words_low(columns) {
         Check::Passed
     } else {
-        Check::Refused(Refusal::RamByte(search_over(columns)))
+        let at = search_over(columns);
+        unless(columns.len() <= at, Refusal::RamByte(at))
     }
 }
 

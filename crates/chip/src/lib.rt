@@ -25,7 +25,7 @@ ghost use Rattle.sheet.specs.Plain.{withRegisters, chipByteOf, chipByte, acknow
 fn obey(part: u8, chip: Chip, byte: u8) -> Registers
     ensures { λ r. ⌜ r ≡ obeyed (chip .registers) ((partOf part .command) byte) ⌝ }
 {
-    command::obey(part, chip.registers, byte)
+    command::obey(chip.registers, decode::decode(part, byte))
 }
 
 // The chip after a command byte.

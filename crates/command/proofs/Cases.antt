@@ -1,6 +1,6 @@
 -- What the cases of a command tell.
 -- Assumes nothing.
-use mathlib.Core.Path.{_≡_, refl, ap, subst}
+use mathlib.Core.Path.{_≡_, refl}
 use mathlib.Core.Bool.{true}
 use Prim.Native.Nat.{ℕ, _<_}
 use native.Mathlib.Omega.{arith}
@@ -15,30 +15,18 @@ use Rattle.sheet.specs.Registers.{known}
 use Rattle.sheet.specs.Commands.{restored}
 use Rattle.laws.proofs.Ranges.{by-range}
 use Rattle.laws.proofs.Named.{of-both}
-
--- the nibble of a pointer low
-abbrev lowOf : Command → ℕ
-lowOf (PointerHigh n) = 0
-lowOf (PointerLow n) = n
-lowOf (Pointer p) = 0
-lowOf (ModeSet s) = 0
-lowOf (DeviceSelect n) = 0
-lowOf FrequencyCtrl = 0
-lowOf (BlinkSelect ab bf) = 0
-lowOf (BankSelect i o) = 0
-lowOf Undefined = 0
+use Rattle.command.specs.Nibbles.{lowOf}
 
 -- a pointer low carries a nibble
-pub low-nibble : (part x n : ℕ) → (partOf part .command) x ≡ PointerLow n → n < 16
-low-nibble part x n e =
-    subst (λ (k : ℕ). k < 16) (ap lowOf e)
-    (of-both (λ K. lowOf ((K .command) x) < 16) part
+pub low-nibble : (part x : ℕ) → lowOf ((partOf part .command) x) < 16
+low-nibble part x =
+    of-both (λ K. lowOf ((K .command) x) < 16) part
     (by-range (λ c. lowOf c < 16) x pcf8532Ranges
     ((λ l m. omega arith), ((λ l m. omega arith), ((λ l m. omega arith), ((λ l m. omega arith), ((λ l m. omega arith), ((λ l m. omega arith), ((λ l m. omega arith), tt)))))))
     (omega arith))
     (by-range (λ c. lowOf c < 16) x pca85133Ranges
     ((λ l m. omega arith), ((λ l m. omega arith), ((λ l m. omega arith), ((λ l m. omega arith), ((λ l m. omega arith), tt)))))
-    (omega arith)))
+    (omega arith))
 
 -- marks that are all known are left by every command
 pub known-stays : (c : Command) (u : Marks) → known u ≡ true → u ≡ restored c u

@@ -1,10 +1,12 @@
-// What a command byte does to a group's registers.
+// What a command does to a group's registers.
 use sheet::Command;
 use sheet::Marks;
 use sheet::Registers;
 ghost use mathlib.Core.Path.{_≡_};
+ghost use Prim.Native.Nat.{_<_};
 ghost use Rattle.sheet.specs.Parts.{partOf};
 ghost use Rattle.sheet.specs.Commands.{restored, obeyed};
+ghost use Rattle.command.specs.Nibbles.{lowOf};
 
 // The marks after a command byte, which restores its own.
 fn restore_own(part: u8, mut marks: Marks, byte: u8) -> Marks
@@ -47,12 +49,13 @@ pub fn restore(part: u8, marks: Marks, byte: u8) -> Marks
     }
 }
 
-// The registers after a command byte: what it sets, and the marks that it restores, in the same arm, so that the call stays small enough to be inlined.
-pub fn obey(part: u8, mut registers: Registers, byte: u8) -> Registers
-    ensures { λ r. ⌜ r ≡ obeyed registers ((partOf part .command) byte) ⌝ }
+// The registers after a command: what it sets, and the marks that it restores.
+pub fn obey(mut registers: Registers, command: Command) -> Registers
+    requires { ⌜ lowOf command < 16 ⌝ }
+    ensures { λ r. ⌜ r ≡ obeyed registers command ⌝ }
 {
     let mut unknown = registers.unknown;
-    match decode::decode(part, byte) {
+    match command {
         Command::PointerHigh(n) => {
             registers.p = 16 * (n as usize) + registers.p % 16;
             unknown.high = 0;

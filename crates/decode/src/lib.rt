@@ -3,6 +3,7 @@ use sheet::Command;
 use sheet::Settings;
 ghost use mathlib.Core.Path.{_≡_};
 ghost use mathlib.Core.Bool.{cond};
+ghost use Prim.Native.Nat.{_≤_};
 ghost use lib.Dec.{eqb};
 ghost use Rattle.sheet.specs.Parts.{partOf, pcf8532, pca85133, modeSet, blinkSelect, bankSelect};
 ghost use Rattle.sheet.specs.Commands.{defined};
@@ -62,31 +63,31 @@ pub fn decode_pcf8532(byte: u8) -> Command
     }
 }
 
-// The PCA85133's (sheet 002, table 11).
-pub fn decode_pca85133(byte: u8) -> Command
+// The PCA85133's from E0 to EF (sheet 002, table 11): device-select, 1 1 1 0 0 A2 A1 A0, and no frequency-ctrl.
+fn device_pca85133(byte: u8) -> Command
+    requires { ⌜ (224 ≤ byte) × (byte ≤ 239) ⌝ }
     ensures { λ r. ⌜ r ≡ (pca85133 .command) byte ⌝ }
 {
-    match byte {
-        // load-data-pointer: 0 P6 P5 P4 P3 P2 P1 P0, to 79
-        0x00..=0x4F => Command::Pointer(byte),
-        0xC0..=0xCF => mode_set(byte),
-        // device-select: 1 1 1 0 0 A2 A1 A0
-        0xE0..=0xE7 => Command::DeviceSelect(byte % 8),
-        0xF0..=0xF7 => blink_select(byte),
-        0xF8..=0xFB => bank_select(byte),
-        _ => Command::Undefined,
+    if byte <= 0xE7 {
+        Command::DeviceSelect(byte % 8)
+    } else {
+        Command::Undefined
     }
 }
 
-// The part's.
+// The part's. The PCA85133 has its own pointer and devices, and all other bytes as the PCF8532; so told, both parts are one function small enough to be inlined.
 pub fn decode(part: u8, byte: u8) -> Command
     ensures { λ r. ⌜ r ≡ (partOf part .command) byte ⌝ }
 {
-    if part == sheet::PCA85133 {
-        decode_pca85133(byte)
-    } else {
-        decode_pcf8532(byte)
+    let other = part == sheet::PCA85133;
+    // load-data-pointer: 0 P6 P5 P4 P3 P2 P1 P0, to 79
+    if other & (byte <= 0x4F) {
+        return Command::Pointer(byte);
     }
+    if other & (0xE0 <= byte) & (byte <= 0xEF) {
+        return device_pca85133(byte);
+    }
+    decode_pcf8532(byte)
 }
 
 // ---- whether a byte is a command, by the ends of its ranges and without a branch, so that many bytes are told at once

@@ -1,29 +1,26 @@
--- 1:3 and 1:4: the rows of each column the other way round, four bytes as one word.
+-- 1:3 and 1:4: the rows of each column the other way round, in 1:3 of four bytes as one word.
 -- Assumes nothing.
-use mathlib.Core.Path.{_≡_, ap, ap₂, _∙_}
+use mathlib.Core.Path.{_≡_, refl, ap, ap₂, _∙_}
 use mathlib.Core.Bool.{Bool}
-use mathlib.Core.List.{List}
-use Prim.Native.Nat.{ℕ, _+_, _*_, _/_, _%_, _^_, _<_}
+use mathlib.Core.List.{List, [], _∷_, _++_, map, map-append}
+use Prim.Native.Nat.{ℕ, zero, suc, _+_, _*_, _/_, _%_, _^_, _<_}
 use native.Mathlib.Nat.{add-zero, mod-lt}
 use native.Mathlib.Omega.{arith}
 use lib.Bits.{bitAnd, bitOr, and-mask, and-le-r, or-lt}
 use lib.Dec.{eqb, eqb→eq}
 use lib.ListN.{getD}
 use Rattle.lemmas.proofs.Tests.{all, all-at}
-use Rattle.writer_sheet.specs.Writer.{bitsFrom}
+use Rattle.writer_sheet.specs.Writer.{bitsFrom, dataFrom}
 use Rattle.writer_sheet.specs.Three.{pairOf}
 use Rattle.words.specs.Fields.{field, joined}
-use Rattle.gather.specs.Gathered.{pairAt, turnedThree}
+use Rattle.gather.specs.Gathered.{pairAt, pairsAt, turnedThree, turnedFour}
 use Rattle.gather.proofs.Lows.{low-whole, low-none, turned, turned-six, lowBits}
-use Rattle.gather.proofs.Bytewise.{joined-alike, and-joined, or-joined, scaled, summed, exchanged, exchange}
+use Rattle.words.proofs.Bytewise.{joined-alike, and-joined, or-joined, scaled, summed, exchanged, exchange}
 
 exchanged-small : (m e x : ℕ) → m < 256 → bitAnd x m * 2 ^ e < 256 → exchanged m e x < 256
 exchanged-small m e x small high = or-lt 8 (bitAnd x m * 2 ^ e) (bitAnd (x / 2 ^ e) m) high (omega (arith, small, and-le-r (x / 2 ^ e) m))
 
 -- ---- 1:4
-
-abbrev turnedFour : ℕ → ℕ
-turnedFour x = exchanged 0x55 1 (exchanged 0x33 2 x)
 
 abbrev fourRight : ℕ → ℕ → Bool
 fourRight a b = eqb (turnedFour (a * 16 + b)) (field (a + b * 16) 0 8)
@@ -42,16 +39,10 @@ four-byte v columns = four-right (getD columns v 0 % 16) (getD columns (v + 1) 0
 pub pair-small : (columns : List ℕ) (c : ℕ) → pairAt columns c < 256
 pair-small columns c = omega arith
 
-abbrev pub reversedFour : ℕ → ℕ
-reversedFour w = let s = bitOr (bitAnd w 0x33333333 * 4) (bitAnd (w / 4) 0x33333333) in bitOr (bitAnd s 0x55555555 * 2) (bitAnd (s / 2) 0x55555555)
-
-pub four-words : (v : ℕ) (columns : List ℕ) → reversedFour (joined 4 (λ i. pairAt columns (v + 2 * i))) ≡ joined 4 (λ i. bitsFrom 8 4 0 (v + 2 * i) columns)
-unfolding joined
-four-words v columns =
-    let q : ℕ → ℕ = λ i. pairAt columns (v + 2 * i) in
-    ap (λ (s : ℕ). bitOr (bitAnd s 0x55555555 * 2) (bitAnd (s / 2) 0x55555555)) (exchange 4 0x33 2 q (omega arith) (omega arith) (λ i. pair-small columns (v + 2 * i)))
-    ∙ exchange 4 0x55 1 (λ i. exchanged 0x33 2 (q i)) (omega arith) (omega arith) (λ i. exchanged-small 0x33 2 (q i) (omega arith) (omega (arith, and-le-r (q i) 0x33)))
-    ∙ joined-alike 4 _ (λ i. bitsFrom 8 4 0 (v + 2 * i) columns) (λ i. four-byte (v + 2 * i) columns)
+pub four-turned : (n : ℕ) (columns : List ℕ) → map turnedFour (pairsAt n columns) ≡ dataFrom n 4 0 columns
+unfolding pairsAt dataFrom
+four-turned zero columns = refl
+four-turned (suc n) columns = map-append turnedFour (pairsAt n columns) (pairAt columns (2 * n) ∷ []) ∙ ap₂ (λ (l : List ℕ) (x : ℕ). l ++ (x ∷ [])) (four-turned n columns) (four-byte (2 * n) columns)
 
 -- ---- 1:3
 

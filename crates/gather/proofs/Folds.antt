@@ -16,7 +16,7 @@ use Rattle.writer_sheet.specs.Writer.{bitFrom, bitsFrom}
 use Rattle.laws.proofs.Wanted.{bit-lt}
 use Rattle.words.specs.Fields.{joined}
 use Rattle.gather.specs.Gathered.{side}
-use Rattle.gather.proofs.Bytewise.{joined-alike, and-joined, scaled, shifted}
+use Rattle.words.proofs.Bytewise.{joined-alike, and-joined, scaled, shifted}
 
 -- row e of each column
 pub row-word : (e : ℕ) (q : ℕ → ℕ) → e < 4 → ((j : ℕ) → q j < 256) → bitAnd (joined 4 q / 2 ^ e) 0x01010101 ≡ joined 4 (λ j. rowOf (q j) e)

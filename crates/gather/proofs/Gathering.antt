@@ -11,7 +11,7 @@ use Rattle.sheet.specs.Data.{widthOf}
 use Rattle.writer_sheet.specs.Writer.{bitsFrom, dataFrom}
 use Rattle.laws.proofs.Wanted.{bits-lt}
 use Rattle.words.specs.Fields.{joined, columnOf}
-use Rattle.gather.proofs.Bytewise.{columns-of}
+use Rattle.gather.proofs.Sides.{columns-of}
 
 pub record Gathering (m b : ℕ) (columns before out : List ℕ) (j : ℕ) : Type 0 where
   pub size : length out ≡ length before

@@ -1,5 +1,5 @@
 pub mod Lows
-pub mod Bytewise
+pub mod Sides
 pub mod Folds
 pub mod Exchanged
 pub mod Gathering

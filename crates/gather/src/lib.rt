@@ -1,15 +1,15 @@
 // Wanted rows into data bytes, each mode with its own literal arithmetic: `words` and `ram` backwards.
-// Columns are taken four at a time as a word. In 1:3 and 1:4 so are the data bytes, and the compiler takes several words at a time.
+// Columns are taken four at a time as a word, and in 1:3 so are the data bytes; in 1:4 two columns are a byte. The compiler takes several at a time.
 ghost use mathlib.Core.Path.{_≡_};
 ghost use Prim.Native.Nat.{_+_, _*_, _≤_, _<_, _^_};
-ghost use mathlib.Core.List.{[], _∷_};
+ghost use mathlib.Core.List.{[], _∷_, map};
 ghost use lib.ListN.{length};
 ghost use Rattle.sheet.specs.Registers.{bankRow};
 ghost use Rattle.sheet.specs.Data.{widthOf};
 ghost use Rattle.writer_sheet.specs.Writer.{bitsFrom, dataFrom, bytesFor};
 ghost use Rattle.writer_sheet.specs.Three.{pairOf};
 ghost use Rattle.words.specs.Fields.{joined, columnOf};
-ghost use Rattle.gather.specs.Gathered.{side, pairAt, turnedThree, ByBytes, ByWords, Gathered};
+ghost use Rattle.gather.specs.Gathered.{side, pairAt, pairsAt, turnedThree, turnedFour, ByBytes, ByWords, Gathered};
 
 // ---- static and 1:2: byte by byte
 
@@ -60,7 +60,7 @@ fn byte_data(columns: &[u8], m: usize, bank: u8, out: &mut [u8])
     }
 }
 
-// ---- 1:3 and 1:4: four bytes as a word
+// ---- 1:3: four bytes as a word
 
 // Two columns of four rows side by side, and the next two: the first in the upper half.
 fn two_pairs(columns: &[u8], at: usize) -> u32
@@ -79,16 +79,6 @@ fn four_pairs(columns: &[u8], at: usize) -> u32
     ensures { λ r. ⌜ r ≡ joined 4 (λ i. pairAt (now (columns .entry)) (at + 2 * i)) ⌝ }
 {
     two_pairs(columns, at) + 65536 * two_pairs(columns, at + 4)
-}
-
-// 1:4: the rows of each column the other way round, in two steps.
-fn four_bytes(columns: &[u8], at: usize) -> u32
-    requires { ⌜ at + 8 ≤ length (now columns) ⌝ }
-    ensures { λ r. ⌜ r ≡ joined 4 (λ i. bitsFrom 8 4 0 (at + 2 * i) (now (columns .entry))) ⌝ }
-{
-    let pairs = four_pairs(columns, at);
-    let swapped = (pairs & 0x33333333) * 4 | pairs / 4 & 0x33333333;
-    (swapped & 0x55555555) * 2 | swapped / 2 & 0x55555555
 }
 
 // 1:3: in each byte rows 0 and 2 of the column from bit 5 on, and of the one from bit 2 on, change places.
@@ -141,18 +131,6 @@ fn three_bytes(columns: &[u8], at: usize) -> u32
     turned_three(both) | ((third & 0x01010101) * 2 | third / 2 & 0x01010101)
 }
 
-// Either, from byte j on.
-fn word_of(columns: &[u8], m: usize, j: usize) -> u32
-    requires { ⌜ (2 < m) × (m < 5) × (widthOf m * (j + 4) ≤ length (now columns)) ⌝ }
-    ensures { λ r. ⌜ r ≡ joined 4 (λ i. bitsFrom 8 m 0 (widthOf m * (j + i)) (now (columns .entry))) ⌝ }
-{
-    if m == 3 {
-        three_bytes(columns, 3 * j)
-    } else {
-        four_bytes(columns, 2 * j)
-    }
-}
-
 // Four bytes of a number, which are all of a buffer.
 pub fn put_word(out: &mut [u8], word: u32)
     requires { ⌜ length (now out) ≡ 4 ⌝ }
@@ -161,13 +139,13 @@ pub fn put_word(out: &mut [u8], word: u32)
     words::store_four(out, 0, word);
 }
 
-fn word_data(columns: &[u8], m: usize, out: &mut [u8])
-    requires { ⌜ ByWords (now columns) m (now out) ⌝ }
-    ensures { λ _. ⌜ now (out .exit) ≡ dataFrom (length (now (out .entry))) m 0 (now (columns .entry)) ⌝ }
+fn word_data(columns: &[u8], out: &mut [u8])
+    requires { ⌜ ByWords (now columns) (now out) ⌝ }
+    ensures { λ _. ⌜ now (out .exit) ≡ dataFrom (length (now (out .entry))) 3 0 (now (columns .entry)) ⌝ }
 {
     let mut j: usize = 0;
     while j < out.len() {
-        let word = word_of(columns, m, j);
+        let word = three_bytes(columns, 3 * j);
         put_word(&mut out[j..j + 4], word);
         j += 4;
     }
@@ -199,11 +177,59 @@ fn three_data(columns: &[u8], out: &mut [u8])
     ensures { λ _. ⌜ now (out .exit) ≡ dataFrom (length (now (out .entry))) 3 0 (now (columns .entry)) ⌝ }
 {
     let mut j = columns.len() / 12 * 4;
-    word_data(columns, 3, &mut out[..j]);
+    word_data(columns, &mut out[..j]);
     while j < out.len() {
         out[j] = three_byte(columns, 3 * j);
         j += 1;
     }
+}
+
+// ---- 1:4: a walk that brings two columns together and one that turns their rows, many bytes at a time each
+
+// Two columns of four rows side by side, the first in the upper half.
+fn pair_of(columns: &[u8], at: usize) -> u8
+    requires { ⌜ at + 2 ≤ length (now columns) ⌝ }
+    ensures { λ r. ⌜ r ≡ pairAt (now (columns .entry)) at ⌝ }
+{
+    let rows = (columns[at] as u16 + 256 * (columns[at + 1] as u16)) & 0x0F0F;
+    ((rows * 16 + rows / 256) % 256) as u8
+}
+
+fn put_pairs(columns: &[u8], out: &mut [u8])
+    requires { ⌜ 2 * length (now out) ≤ length (now columns) ⌝ }
+    ensures { λ _. ⌜ now (out .exit) ≡ pairsAt (length (now (out .entry))) (now (columns .entry)) ⌝ }
+{
+    let mut j: usize = 0;
+    while j < out.len() {
+        out[j] = pair_of(columns, 2 * j);
+        j += 1;
+    }
+}
+
+// The rows of each column the other way round, in two steps.
+fn turned_four(pair: u8) -> u8
+    ensures { λ r. ⌜ r ≡ turnedFour pair ⌝ }
+{
+    let swapped = (pair & 0x33) * 4 | pair / 4 & 0x33;
+    (swapped & 0x55) * 2 | swapped / 2 & 0x55
+}
+
+fn turn_pairs(out: &mut [u8])
+    ensures { λ _. ⌜ now (out .exit) ≡ map turnedFour (now (out .entry)) ⌝ }
+{
+    let mut j: usize = 0;
+    while j < out.len() {
+        out[j] = turned_four(out[j]);
+        j += 1;
+    }
+}
+
+fn four_data(columns: &[u8], out: &mut [u8])
+    requires { ⌜ 2 * length (now out) ≤ length (now columns) ⌝ }
+    ensures { λ _. ⌜ now (out .exit) ≡ dataFrom (length (now (out .entry))) 4 0 (now (columns .entry)) ⌝ }
+{
+    put_pairs(columns, out);
+    turn_pairs(out);
 }
 
 // ---- all
@@ -231,6 +257,6 @@ pub fn gather(columns: &[u8], m: usize, bank: u8, out: &mut [u8])
     } else if m == 3 {
         three_data(columns, out);
     } else {
-        word_data(columns, 4, out);
+        four_data(columns, out);
     }
 }

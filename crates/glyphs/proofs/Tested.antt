@@ -1,15 +1,17 @@
--- The bytes that the tables give are those of the paper's letters: one computed test over both kinds of tables, every symbol in every mode.
+-- The bytes that the tables give are those of the paper's letters, and the entries those of the bytes: computed tests, every symbol in every mode, and every byte.
 -- Assumes nothing.
-use mathlib.Core.Path.{_≡_}
+use mathlib.Core.Path.{_≡_, sym, ap, subst, _∙_}
 use mathlib.Core.Bool.{Bool, true, _&&_}
 use Prim.Native.Nat.{ℕ, _<_}
-use lib.Dec.{T, eqb, eqb→eq}
+use mathlib.Core.List.{List}
+use lib.Dec.{T, eqb, eqb→eq, leb, leb→le}
+use lib.ListN.{getD}
 use borrow.Author.Tests.{ltb-true}
 use Rattle.lemmas.proofs.Tests.{all, all-at, and-left, and-right}
 use Rattle.price_sheet.specs.declared.Symbol.{Symbol}
 use Rattle.price_sheet.specs.declared.Symbol.the-variants.{Digit, Pointed, Space, Minus, LongMinus}
-use Rattle.price_sheet.specs.Price.{isSymbol, segmentsOf, byteOf}
-use Rattle.glyphs.specs.Tables.{orderOf, pushed, arranged, bytesIn, byteIn, byteBy}
+use Rattle.price_sheet.specs.Price.{isSymbol, segmentsOf, byteOf, shown}
+use Rattle.glyphs.specs.Tables.{orderOf, pushed, arranged, bytesIn, byteIn, byteBy, slotOf, Slot, Picked, codeIn, codeOf, Entry}
 
 abbrev same : ℕ → Symbol → Bool
 same mode s = eqb (byteBy (bytesIn (orderOf mode)) s) (byteOf mode s)
@@ -40,3 +42,22 @@ module _ (mode : ℕ) (h : mode < 4) where
 
   pub byte-is : (s : Symbol) → isSymbol s ≡ true → byteBy (bytesIn (orderOf mode)) s ≡ byteOf mode s
   byte-is s e = eqb→eq (byteBy (bytesIn (orderOf mode)) s) (byteOf mode s) (test s e)
+
+-- ---- and back
+
+-- a byte's entry among those of a mode
+abbrev told : List ℕ → ℕ → ℕ → ℕ → Bool
+told entries factor mode x = let entry = getD entries (slotOf x factor) 0 in eqb (codeIn entry x) (codeOf (shown mode x)) && leb 256 entry
+
+abbrev pub Told : List ℕ → ℕ → ℕ → Type 0
+Told entries factor mode = T (all 256 (told entries factor mode))
+
+pub entry-is : {entries : List ℕ} {factor slot entry x : ℕ} (mode : ℕ) → Slot x factor slot → Picked entries slot entry → Told entries factor mode → x < 256 → Entry mode x entry
+entry-is {entries} {factor} {x = x} mode s p t h =
+    let found = getD entries (slotOf x factor) 0 in
+    let both = all-at 256 (told entries factor mode) t x h in
+    subst (Entry mode x) (sym (p .is ∙ ap (λ (k : ℕ). getD entries k 0) (s .is)))
+    (record {
+      code = eqb→eq (codeIn found x) (codeOf (shown mode x)) (and-left (eqb (codeIn found x) (codeOf (shown mode x))) (leb 256 found) both);
+      some = leb→le 256 found (and-right (eqb (codeIn found x) (codeOf (shown mode x))) (leb 256 found) both);
+    })

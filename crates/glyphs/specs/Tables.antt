@@ -1,11 +1,11 @@
 -- The segments as the tables hold them: segment s is the bit 2 ^ s, and a number holds eight bytes, the first lowest.
 -- Assumes nothing.
-use Prim.Native.Nat.{ℕ, _+_, _-_, _*_, _/_, _%_, _^_, _<_}
+use Prim.Native.Nat.{ℕ, _+_, _*_, _/_, _%_, _^_, _≤_}
 use mathlib.Core.Bool.{cond}
 use mathlib.Core.List.{List, [], _∷_, _++_, map}
 use mathlib.Core.Path.{_≡_}
 use lib.Bits.{bitAnd, bitOr}
-use lib.Dec.{ltb}
+use lib.Dec.{eqb, ltb}
 use lib.ListN.{getD, take, drop}
 use Rattle.price_sheet.specs.declared.Symbol.{Symbol}
 use Rattle.price_sheet.specs.declared.Symbol.the-variants.{Digit, Pointed, Space, Minus, LongMinus}
@@ -56,8 +56,12 @@ bytesIn order = record { first = arranged order firstLit; second = arranged orde
 abbrev pub byteAt : ℕ → ℕ → ℕ
 byteAt word k = word / 2 ^ (8 * k) % 256
 
+-- of the first eight, or of the others
+abbrev pub numberWith : Bytes → ℕ → ℕ
+numberWith bytes k = cond (ltb k 8) (bytes .first) (bytes .second)
+
 unfoldable pub byteIn : Bytes → ℕ → ℕ
-byteIn bytes k = cond (ltb k 8) (byteAt (bytes .first) k) (byteAt (bytes .second) (k - 8))
+byteIn bytes k = byteAt (numberWith bytes k) (k % 8)
 
 unfoldable pub byteBy : Bytes → Symbol → ℕ
 byteBy bytes (Digit n) = byteIn bytes n
@@ -68,15 +72,31 @@ byteBy bytes LongMinus = byteIn bytes 11
 
 -- ---- and back
 
--- the first byte of its text, and 128 more where a point follows; 0 for none
+-- the first byte of its text, and 256 for each byte that the text has; 0 for none
 abbrev pub codeOf : Found → ℕ
-codeOf (Found.Symbol (Digit n)) = 48 + n
-codeOf (Found.Symbol (Pointed n)) = 176 + n
-codeOf (Found.Symbol Space) = 0x20
-codeOf (Found.Symbol Minus) = 0x2D
-codeOf (Found.Symbol LongMinus) = 0x2D
+codeOf (Found.Symbol (Digit n)) = 0x130 + n
+codeOf (Found.Symbol (Pointed n)) = 0x230 + n
+codeOf (Found.Symbol Space) = 0x120
+codeOf (Found.Symbol Minus) = 0x12D
+codeOf (Found.Symbol LongMinus) = 0x12D
 codeOf Found.None = 0
 
--- the code of what each byte shows
-abbrev pub Codes : ℕ → List ℕ → Type 0
-Codes mode codes = (x : ℕ) → x < 256 → getD codes x 0 ≡ codeOf (shown mode x)
+-- the top five of a product's 32 bits
+abbrev pub slotOf : ℕ → ℕ → ℕ
+slotOf byte factor = byte * factor % 0x100000000 / 0x8000000
+
+pub record Slot (byte factor slot : ℕ) : Type 0 where
+  pub is : slot ≡ slotOf byte factor
+
+-- its entry
+pub record Picked (entries : List ℕ) (slot entry : ℕ) : Type 0 where
+  pub is : entry ≡ getD entries slot 0
+
+-- an entry's code, if it is this byte's
+abbrev pub codeIn : ℕ → ℕ → ℕ
+codeIn entry byte = cond (eqb (entry % 256) byte) (entry / 256) 0
+
+-- it is the code of what the byte shows, and no entry's own is 0
+pub record Entry (mode byte entry : ℕ) : Type 0 where
+  pub code : codeIn entry byte ≡ codeOf (shown mode byte)
+  pub some : 256 ≤ entry

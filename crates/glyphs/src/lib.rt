@@ -1,12 +1,8 @@
 // What each symbol lights, and its data byte in each mode, by tables; and back (paper 02, request 1).
 use price_sheet::Symbol;
-ghost use mathlib.Core.Bool.{true};
 ghost use mathlib.Core.Path.{_≡_};
 ghost use Prim.Native.Nat.{_<_};
-ghost use lib.ListN.{length, replicate, set};
-ghost use Rattle.price_sheet.specs.declared.Found.{Found};
-ghost use Rattle.price_sheet.specs.Price.{isSymbol};
-ghost use Rattle.glyphs.specs.Tables.{orderOf, pushed, bytesIn, byteAt, byteIn, byteBy, codeOf, Codes};
+ghost use Rattle.glyphs.specs.Tables.{orderOf, pushed, bytesIn, byteAt, numberWith, byteIn, byteBy, Slot, Picked, Entry};
 
 // The segments, a bit each.
 const A: u8 = 1;
@@ -131,20 +127,21 @@ fn byte_at(word: u64, k: u8) -> u8
     ((word >> (8 * k)) % 256) as u8
 }
 
+// The number that has it: chosen before it is shifted, so that there is one shift.
+fn number_with(bytes: Bytes, k: u8) -> u64
+    ensures { λ r. ⌜ r ≡ numberWith bytes k ⌝ }
+{
+    if k < 8 { bytes.first } else { bytes.second }
+}
+
 fn byte_in(bytes: Bytes, k: u8) -> u8
-    requires { ⌜ k < 16 ⌝ }
     ensures { λ r. ⌜ r ≡ byteIn bytes k ⌝ }
 {
-    if k < 8 {
-        byte_at(bytes.first, k)
-    } else {
-        byte_at(bytes.second, k - 8)
-    }
+    byte_at(number_with(bytes, k), k % 8)
 }
 
 // A symbol's data byte among those of an M.
 pub fn byte_of(bytes: Bytes, symbol: Symbol) -> u8
-    requires { ⌜ isSymbol symbol ≡ true ⌝ }
     ensures { λ r. ⌜ r ≡ byteBy bytes symbol ⌝ }
 {
     match symbol {
@@ -158,60 +155,206 @@ pub fn byte_of(bytes: Bytes, symbol: Symbol) -> u8
 
 // ---- and back
 
-// The first byte of a symbol's text, and 128 more where a point follows.
-fn code_of(symbol: Symbol) -> u8
-    requires { ⌜ isSymbol symbol ≡ true ⌝ }
-    ensures { λ r. ⌜ r ≡ codeOf (Found.Symbol symbol) ⌝ }
+// By a byte's slot an entry: the byte itself, then the first byte of its symbol's text, then how many bytes the text has.
+// A slot that no symbol's byte has holds the space, whose own slot is 0.
+const STATIC_ENTRIES: [u32; 32] = [
+    0x012000,
+    0x012000,
+    0x0137E0,
+    0x0233EB,
+    0x0136BE,
+    0x0130F6,
+    0x02326F,
+    0x012000,
+    0x0239FB,
+    0x0133EA,
+    0x0234D9,
+    0x012000,
+    0x01326E,
+    0x012000,
+    0x0139FA,
+    0x012000,
+    0x0134D8,
+    0x0238FF,
+    0x012D08,
+    0x0231C1,
+    0x012000,
+    0x0235BB,
+    0x012000,
+    0x0138FE,
+    0x012000,
+    0x0131C0,
+    0x012000,
+    0x0135BA,
+    0x0237E1,
+    0x012000,
+    0x0236BF,
+    0x0230F7,
+];
+
+const ONE_TO_TWO_ENTRIES: [u32; 32] = [
+    0x012000,
+    0x0135B6,
+    0x0230EF,
+    0x012000,
+    0x023145,
+    0x012000,
+    0x012000,
+    0x0235B7,
+    0x012000,
+    0x012000,
+    0x0139F6,
+    0x012000,
+    0x0132DA,
+    0x013474,
+    0x0136BE,
+    0x0239F7,
+    0x0137C4,
+    0x012000,
+    0x0232DB,
+    0x023475,
+    0x0236BF,
+    0x0133D6,
+    0x0237C5,
+    0x0138FE,
+    0x012000,
+    0x012000,
+    0x012D10,
+    0x0233D7,
+    0x0238FF,
+    0x0130EE,
+    0x012000,
+    0x013144,
+];
+
+const ONE_TO_THREE_ENTRIES: [u32; 32] = [
+    0x012000,
+    0x0238FF,
+    0x012000,
+    0x0237F0,
+    0x0234E6,
+    0x01353E,
+    0x012000,
+    0x012000,
+    0x0230FB,
+    0x0139BE,
+    0x012000,
+    0x01363F,
+    0x0232DD,
+    0x0131A0,
+    0x0233FC,
+    0x0138BF,
+    0x012000,
+    0x0137B0,
+    0x0134A6,
+    0x012000,
+    0x012000,
+    0x012000,
+    0x0130BB,
+    0x02357E,
+    0x012000,
+    0x012D04,
+    0x01329D,
+    0x0239FE,
+    0x0133BC,
+    0x02367F,
+    0x012000,
+    0x0231E0,
+];
+
+const ONE_TO_FOUR_ENTRIES: [u32; 32] = [
+    0x012000,
+    0x012000,
+    0x0135CB,
+    0x0235DB,
+    0x0133E3,
+    0x0139EB,
+    0x0233F3,
+    0x0239FB,
+    0x012D02,
+    0x012000,
+    0x013160,
+    0x012000,
+    0x023170,
+    0x0130ED,
+    0x0132A7,
+    0x0230FD,
+    0x0232B7,
+    0x012000,
+    0x0136CF,
+    0x01346A,
+    0x0236DF,
+    0x02347A,
+    0x0138EF,
+    0x0238FF,
+    0x0137E0,
+    0x012000,
+    0x0237F0,
+    0x012000,
+    0x012000,
+    0x012000,
+    0x012000,
+    0x012000,
+];
+
+// The top five bits of a product, by a factor with which no two symbols of an M share them.
+fn slot_of(byte: u8, factor: u64) -> u64
+    requires { ⌜ factor < 0x100000000 ⌝ }
+    ensures { λ r. ⌜ Slot byte factor r ⌝ }
 {
-    match symbol {
-        Symbol::Digit(digit) => 48 + digit,
-        Symbol::Pointed(digit) => 176 + digit,
-        Symbol::Space => 0x20,
-        Symbol::Minus => 0x2D,
-        Symbol::LongMinus => 0x2D,
+    byte as u64 * factor % 0x100000000 / 0x8000000
+}
+
+// The entry of a slot. Each is named, so that the compiler keeps a constant table where it is: by an index it would copy it at each call.
+fn entry_at(entries: [u32; 32], slot: u64) -> u32
+    requires { ⌜ slot < 32 ⌝ }
+    ensures { λ r. ⌜ Picked entries slot r ⌝ }
+{
+    match slot {
+        0 => entries[0],
+        1 => entries[1],
+        2 => entries[2],
+        3 => entries[3],
+        4 => entries[4],
+        5 => entries[5],
+        6 => entries[6],
+        7 => entries[7],
+        8 => entries[8],
+        9 => entries[9],
+        10 => entries[10],
+        11 => entries[11],
+        12 => entries[12],
+        13 => entries[13],
+        14 => entries[14],
+        15 => entries[15],
+        16 => entries[16],
+        17 => entries[17],
+        18 => entries[18],
+        19 => entries[19],
+        20 => entries[20],
+        21 => entries[21],
+        22 => entries[22],
+        23 => entries[23],
+        24 => entries[24],
+        25 => entries[25],
+        26 => entries[26],
+        27 => entries[27],
+        28 => entries[28],
+        29 => entries[29],
+        30 => entries[30],
+        _ => entries[31],
     }
 }
 
-fn put_code(codes: &mut [u8], bytes: Bytes, symbol: Symbol)
-    requires { ⌜ (length (now codes) ≡ 256) × (isSymbol symbol ≡ true) ⌝ }
-    ensures { λ _. ⌜ now (codes .exit) ≡ set (now (codes .entry)) (byteBy bytes symbol) (codeOf (Found.Symbol symbol)) ⌝ }
-{
-    codes[byte_of(bytes, symbol) as usize] = code_of(symbol);
-}
-
-// No byte has a code yet.
-fn no_codes() -> [u8; 256]
-    ensures { λ r. ⌜ r ≡ replicate 256 0 ⌝ }
-{
-    [0; 256]
-}
-
-// The codes of the 22 symbols that a byte may show.
-fn put_codes(mode: u8, codes: &mut [u8])
-    requires { ⌜ (mode < 4) × (now codes ≡ replicate 256 0) ⌝ }
-    ensures { λ _. ⌜ Codes mode (now (codes .exit)) ⌝ }
-{
-    let bytes = bytes_of(mode);
-    let mut digit: u8 = 0;
-    while digit < 10 {
-        put_code(codes, bytes, Symbol::Digit(digit));
-        digit += 1;
-    }
-    let mut pointed: u8 = 0;
-    while pointed < 10 {
-        put_code(codes, bytes, Symbol::Pointed(pointed));
-        pointed += 1;
-    }
-    put_code(codes, bytes, Symbol::Space);
-    put_code(codes, bytes, Symbol::Minus);
-}
-
-// For each byte the code of the symbol whose data byte it is in an M, or 0.
-pub fn codes_of(mode: u8) -> [u8; 256]
+// The entry where a byte's symbol stands in an M: if it has another byte, there is none.
+pub fn entry_of(mode: u8, byte: u8) -> u32
     requires { ⌜ mode < 4 ⌝ }
-    ensures { λ r. ⌜ Codes mode r ⌝ }
+    ensures { λ r. ⌜ Entry mode byte r ⌝ }
 {
-    let mut codes = no_codes();
-    put_codes(mode, &mut codes);
-    codes
+    match mode {
+        0 => entry_at(ONE_TO_FOUR_ENTRIES, slot_of(byte, 0x20E00000)),
+        1 => entry_at(STATIC_ENTRIES, slot_of(byte, 0xD2600000)),
+        2 => entry_at(ONE_TO_TWO_ENTRIES, slot_of(byte, 0x2D140000)),
+        _ => entry_at(ONE_TO_THREE_ENTRIES, slot_of(byte, 0x32400000)),
+    }
 }

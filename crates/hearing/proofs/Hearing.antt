@@ -10,29 +10,33 @@ use lib.ListN.{length, getD, take, drop, drop-of-length-le, length-drop, length-
 use lib.Dec.{ltb}
 use lib.Seq.{drop-drop}
 use Rattle.lemmas.proofs.Lists.{part-one}
+use Rattle.lemmas.proofs.Lists as lists
 use Rattle.sheet.specs.declared.Registers.{Registers}
 use Rattle.sheet.specs.declared.Kind.{Kind}
 use Rattle.sheet.specs.declared.Expect.{Expect}
 use Rattle.sheet.specs.declared.Expect.the-variants.{Control, One, All}
 use Rattle.sheet.specs.Parts.{Part}
 use Rattle.sheet.specs.Registers.{lostBy}
-use Rattle.sheet.specs.Protocol.{next, nextAfter, sent, wholeOf, wholeCount, isData, cutData}
-use Rattle.sheet.specs.Long.{Group, begun, byte, heard, heardWhole}
+use Rattle.sheet.specs.Protocol.{controlOf, next, nextAfter, sent, wholeOf, wholeCount, isData}
+use Rattle.sheet.specs.Long.{Group, byte, heard}
 use Rattle.sheet.specs.Runs.{writtenBy}
 use Rattle.sheet.specs.Agree.{Keeps}
 use Rattle.laws.proofs.Runs.{run-at-once}
+use Rattle.laws.proofs.Ranges.{InRange}
+use Rattle.laws.proofs.Nibbles.{Nibbles}
 use Rattle.laws.proofs.Kept.{Kept, heard-keeps}
 use Rattle.laws.proofs.Sums.{Few, heard-few}
 use Rattle.laws.proofs.Wholes.{whole-taken}
 use Rattle.laws.proofs.Joined.{next-joined, heard-joined}
 use Rattle.listener.specs.declared.Listener.{Listener}
-use Rattle.listener.specs.Listeners.{groupOf, dataEnd, stepped, ran, endedBy}
+use Rattle.opening.specs.Opened.{openedAt}
+use Rattle.listener.specs.Listeners.{groupOf, listenerOf, dataEnd, stepped, ran, endedBy}
 
-pub record Hearing (K : Part) (ram₀ bytes : List ℕ) (r : Registers) (ram : List ℕ) (l : Listener) (i : ℕ) : Type 0 where
-  pub rest : heard K (l .expect) (drop i bytes) (groupOf l ram) ≡ heard K Control (drop 1 bytes) (begun r ram₀)
+pub record Hearing (K : Part) (ram₀ bytes : List ℕ) (r : Registers) (from : ℕ) (ram : List ℕ) (l : Listener) (i : ℕ) : Type 0 where
+  pub rest : heard K (l .expect) (drop i bytes) (groupOf l ram) ≡ heard K Control (drop from bytes) (openedAt from r ram₀)
   pub kept : Kept K (length ram₀) (groupOf l ram)
   pub few : Few i (l .counts)
-  pub then : nextAfter (l .expect) (drop i bytes) ≡ nextAfter Control (drop 1 bytes)
+  pub then : nextAfter (l .expect) (drop i bytes) ≡ nextAfter Control (drop from bytes)
   pub most : i ≤ length bytes + 1
 
 -- past the last byte nothing is heard
@@ -80,10 +84,10 @@ run-of K bytes i h (All Kind.Data) some = record { then = all-next Kind.Data (ta
 
 -- ---- a turn
 
-module _ (K : Part) (keeps : Keeps K) (ram₀ bytes : List ℕ) (r : Registers) (ram : List ℕ) (l : Listener) (i : ℕ) (h : i < length bytes) (inv : Hearing K ram₀ bytes r ram l i) where
+module _ (K : Part) (keeps : Keeps K) (ram₀ bytes : List ℕ) (r : Registers) (from : ℕ) (ram : List ℕ) (l : Listener) (i : ℕ) (h : i < length bytes) (inv : Hearing K ram₀ bytes r from ram l i) where
   -- bytes i to end heard at once
   turn : (end : ℕ) → i ≤ end → end ≤ length bytes → (after : List ℕ) (l′ : Listener)
-      → let xs = take (end - i) (drop i bytes) in l′ .expect ≡ nextAfter (l .expect) xs → groupOf l′ after ≡ heard K (l .expect) xs (groupOf l ram) → Hearing K ram₀ bytes r after l′ end
+      → let xs = take (end - i) (drop i bytes) in l′ .expect ≡ nextAfter (l .expect) xs → groupOf l′ after ≡ heard K (l .expect) xs (groupOf l ram) → Hearing K ram₀ bytes r from after l′ end
   turn end le most after l′ then g =
       let xs = take (end - i) (drop i bytes) in
       record {
@@ -112,7 +116,7 @@ module _ (K : Part) (keeps : Keeps K) (ram₀ bytes : List ℕ) (r : Registers) 
   step-at (All Kind.Command) told none = rw told
   step-at (All Kind.Data) told none = absurd (omega arith)
 
-  pub step-turn : dataEnd (l .expect) i (length bytes) ≤ i → (l′ : Listener) → l′ ≡ stepped K l (getD bytes i 0) → Hearing K ram₀ bytes r ram l′ (i + 1)
+  pub step-turn : dataEnd (l .expect) i (length bytes) ≤ i → (l′ : Listener) → l′ ≡ stepped K l (getD bytes i 0) → Hearing K ram₀ bytes r from ram l′ (i + 1)
   unfolding heard
   step-turn none l′ el =
       let one = part-one bytes i h in
@@ -122,7 +126,7 @@ module _ (K : Part) (keeps : Keeps K) (ram₀ bytes : List ℕ) (r : Registers) 
 
   -- data, one byte or all that are left
   pub data-turn : length ram₀ ≤ K .columns * K .limit → (end : ℕ) → end ≡ dataEnd (l .expect) i (length bytes) → i < end → (after : List ℕ) (l′ : Listener)
-      → after ≡ writtenBy K (l .registers) (take (end - i) (drop i bytes)) ram → l′ ≡ ran K l (end - i) (length ram₀) → Hearing K ram₀ bytes r after l′ end
+      → after ≡ writtenBy K (l .registers) (take (end - i) (drop i bytes)) ram → l′ ≡ ran K l (end - i) (length ram₀) → Hearing K ram₀ bytes r from after l′ end
   data-turn small end ends some after l′ er el =
       let xs = take (end - i) (drop i bytes) in
       let most : end ≤ length bytes = rw ends (ends-in (l .expect) i (length bytes) h .1) in
@@ -134,18 +138,42 @@ module _ (K : Part) (keeps : Keeps K) (ram₀ bytes : List ℕ) (r : Registers) 
       ∙ sym (run-at-once K xs (groupOf l ram) (inv .kept .range .p-in) (inv .kept .range .a-in) (rw (inv .kept .columns) small))
       ∙ sym (run .alike (groupOf l ram)))
 
--- ---- all of a transfer: its whole bytes are the first k, and the listener ends with the one that is cut
+-- ---- before the first turn
 
-module _ (K : Part) (bytes : List ℕ) (bits k : ℕ) (ek : k ≡ wholeCount (length bytes) bits) (g : Group) (l : Listener) (ram : List ℕ) where
-  whole-is : take k bytes ≡ wholeOf (sent bytes bits)
-  whole-is = ap (λ (n : ℕ). take n bytes) ek ∙ whole-taken bytes bits
+module _ (K : Part) (ram₀ bytes : List ℕ) (r : Registers) (from : ℕ) (range : InRange K r) (nibbles : Nibbles ram₀) where
+  kept : (n : ℕ) → Kept K (length ram₀) (openedAt n r ram₀)
+  kept n = record { range = range; columns = refl; nibbles = nibbles }
 
-  pub whole-heard : groupOf l ram ≡ heard K Control (drop 1 (take k bytes)) g → l .expect ≡ nextAfter Control (drop 1 (take k bytes))
-      → (l′ : Listener) → l′ ≡ endedBy (ltb bits 8) l → groupOf l′ ram ≡ heardWhole K (sent bytes bits) g
-  unfolding cutData
+  pub at-first : from ≤ length bytes → Hearing K ram₀ bytes r from ram₀ (listenerOf Control (openedAt from r [])) from
+  at-first h = record { rest = refl; kept = kept from; few = record { acknowledged = omega arith; bits = omega arith }; then = refl; most = omega arith }
+
+  -- after a control byte 40 all that is left is data
+  pub at-run : from < length bytes → getD bytes from 0 ≡ 64 → Hearing K ram₀ bytes r from ram₀ (listenerOf (All Kind.Data) (openedAt (from + 1) r [])) (from + 1)
+  unfolding heard controlOf
+  at-run h e = record {
+    rest = rw (all-data h e);
+    kept = kept (from + 1);
+    few = record { acknowledged = omega arith; bits = omega arith };
+    then = rw (all-data h e);
+    most = omega arith;
+  }
+    where
+      all-data : from < length bytes → getD bytes from 0 ≡ 64 → drop from bytes ≡ 64 ∷ drop (from + 1) bytes
+      all-data h e = lists.next bytes from h ∙ ap (λ (x : ℕ). x ∷ drop (from + 1) bytes) e
+
+-- ---- all of what is left: the whole bytes are the first k, and the listener ends with the one that is cut
+
+pub whole-is : (bytes : List ℕ) (bits k : ℕ) → k ≡ wholeCount (length bytes) bits → take k bytes ≡ wholeOf (sent bytes bits)
+whole-is bytes bits k e = ap (λ (n : ℕ). take n bytes) e ∙ whole-taken bytes bits
+
+module _ (K : Part) (bytes : List ℕ) (bits k : ℕ) (ek : k ≡ wholeCount (length bytes) bits) (from : ℕ) (g : Group) (l : Listener) (ram : List ℕ) where
+  pub whole-heard : groupOf l ram ≡ heard K Control (drop from (take k bytes)) g → l .expect ≡ nextAfter Control (drop from (take k bytes))
+      → (l′ : Listener) → l′ ≡ endedBy (ltb bits 8) l
+      → let rest = drop from (wholeOf (sent bytes bits)) in let h = heard K Control rest g in
+      groupOf l′ ram ≡ record { registers = lostBy (ltb bits 8 && isData (nextAfter Control rest)) (h .registers); ram = h .ram; counts = h .counts; last = h .last }
   whole-heard eg ee l′ el =
-      let group : groupOf l ram ≡ heard K Control (drop 1 (wholeOf (sent bytes bits))) g = eg ∙ ap (λ (xs : List ℕ). heard K Control (drop 1 xs) g) whole-is in
-      let expect : l .expect ≡ nextAfter Control (drop 1 (wholeOf (sent bytes bits))) = ee ∙ ap (λ (xs : List ℕ). nextAfter Control (drop 1 xs)) whole-is in
+      let group : groupOf l ram ≡ heard K Control (drop from (wholeOf (sent bytes bits))) g = eg ∙ ap (λ (xs : List ℕ). heard K Control (drop from xs) g) (whole-is bytes bits k ek) in
+      let expect : l .expect ≡ nextAfter Control (drop from (wholeOf (sent bytes bits))) = ee ∙ ap (λ (xs : List ℕ). nextAfter Control (drop from xs)) (whole-is bytes bits k ek) in
       ap (λ (m : Listener). groupOf m ram) el
       ∙ (λ j. record {
         registers = lostBy (ltb bits 8 && isData (expect j)) (group j .registers);

@@ -11,12 +11,12 @@ use lib.Seq.{drop-drop}
 use borrow.Author.Tests.{eqb-true, leb-true}
 use Rattle.sheet.specs.declared.Check.the-variants.{Passed}
 use Rattle.sheet.specs.declared.Refusal.the-variants.{RamLength, LongLog}
-use Rattle.sheet.specs.Parts.{Part, partOf}
+use Rattle.sheet.specs.Parts.{partOf}
 use Rattle.sheet.specs.Checks.{unless, orElse, overIn, checkPart, checkChips, checkRam, checkPowerOn}
 use Rattle.image_sheet.specs.Hex.{recordOf, lineOf, dataLines, fileOf, oneGroup}
 use Rattle.image_sheet.specs.Images.{checkFile}
 use Rattle.laws.proofs.Fits.{both-pass, unless-passes, few-chips}
-use Rattle.laws.proofs.Named.{of-both, ram-small}
+use Rattle.laws.proofs.Named.{ram-small, by-sixteen}
 use Rattle.laws.proofs.Nibbles.{Nibbles, nibbles-of}
 use Rattle.laws.proofs.Hexadecimal.{length-line}
 
@@ -59,9 +59,6 @@ pub record Group (part n : ℕ) (ram : List ℕ) : Type 0 where
   pub sixteens : length ram % 16 ≡ 0
   pub few : length ram ≤ 640
 
-sixteens-of : (part n : ℕ) → (partOf part .columns * n) % 16 ≡ 0
-sixteens-of part n = of-both (λ (K : Part). (K .columns * n) % 16 ≡ 0) part (omega arith) (omega arith)
-
 pub group-of : (part n : ℕ) (ram : List ℕ) → orElse (checkPart part) (checkPowerOn (partOf part) (oneGroup n) ram) ≡ Passed → Group part n ram
 unfolding checkPowerOn checkRam
 group-of part n ram e =
@@ -74,7 +71,7 @@ group-of part n ram e =
       chips = t .0;
       size = size;
       low = nibbles-of 0 ram (u .1);
-      sixteens = ap (λ (k : ℕ). k % 16) size ∙ sixteens-of part n;
+      sixteens = ap (λ (k : ℕ). k % 16) size ∙ by-sixteen part n;
       few = omega (arith, size, ram-small part n (few-chips K (oneGroup n) (t .0) .0));
     }
 

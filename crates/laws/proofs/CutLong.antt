@@ -34,7 +34,7 @@ abbrev losing : Bool → Group → Group
 losing lost g = record { registers = lostBy lost (g .registers); ram = g .ram; counts = g .counts; last = g .last }
 
 -- a group's columns put back where they were
-put-back : (K : Part) (n : Chips) (g : ℕ) (ram : List ℕ) → withColumns K n g (columnsOf K n g ram) ram ≡ ram
+pub put-back : (K : Part) (n : Chips) (g : ℕ) (ram : List ℕ) → withColumns K n g (columnsOf K n g ram) ram ≡ ram
 put-back K n g ram =
     ap (λ (l : List ℕ). take (startOf K n g) ram ++ (columnsOf K n g ram ++ l)) (sym (drop-drop (K .columns * chipsIn g n) (startOf K n g) ram))
     ∙ ap (λ (l : List ℕ). take (startOf K n g) ram ++ l) (take-append-drop (K .columns * chipsIn g n) (drop (startOf K n g) ram))

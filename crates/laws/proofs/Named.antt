@@ -1,6 +1,6 @@
 -- A part by its number: what holds of both parts holds of it, and the sizes that follow.
 -- Assumes nothing.
-use Prim.Native.Nat.{ℕ, _*_, _/_, _<_, _≤_}
+use Prim.Native.Nat.{ℕ, _*_, _/_, _%_, _<_, _≤_}
 use mathlib.Core.Path.{_≡_, refl}
 use mathlib.Core.Bool.{Bool, true, false, cond}
 use mathlib.Core.List.{List}
@@ -70,6 +70,9 @@ ram-small part n l = omega (arith, group-columns part, mul-le-mul-left (partOf p
 pub position-small : (part : ℕ) (r : Registers) → InRange (partOf part) r → position (partOf part) r < 800
 position-small part r h = of-both (λ K. (r : Registers) → InRange K r → position K r < 800) part (λ r h. omega (arith, position-lt pcf8532 r h)) (λ r h. omega (arith, position-lt pca85133 r h)) r h
 
--- and of any number of chips
+-- the columns of any number of chips, by sixteen
+pub by-sixteen : (part n : ℕ) → partOf part .columns * n % 16 ≡ 0
+by-sixteen part n = of-both (λ K. K .columns * n % 16 ≡ 0) part (omega arith) (omega arith)
+
 pub columns-most : (part n : ℕ) → partOf part .columns * n ≤ 160 * n
 columns-most part n = of-both (λ K. K .columns * n ≤ 160 * n) part (omega arith) (omega arith)

@@ -1,10 +1,11 @@
 -- The long account as C sees it: registers as bytes, answers as numbers, through the definitions of `sheet`. Assumes nothing.
-use Prim.Native.Nat.{ℕ}
+use Prim.Native.Nat.{ℕ, _<_}
 use mathlib.Core.Path.{_≡_}
 use mathlib.Core.Bool.{Bool, cond, _&&_}
 use mathlib.Core.List.{List}
 use lib.Dec.{eqb}
-use lib.ListN.{length, getD}
+use lib.ListN.{length, getD, drop}
+use Rattle.sheet.specs.declared.Registers.{Registers}
 use Rattle.sheet.specs.declared.Chips.{Chips}
 use Rattle.sheet.specs.declared.Answer.{Answer}
 use Rattle.sheet.specs.declared.PowerOn.{PowerOn}
@@ -12,10 +13,12 @@ use Rattle.sheet.specs.declared.Addressed.the-variants.{To}
 use Rattle.sheet.specs.declared.Check.the-variants.{Passed}
 use Rattle.sheet.specs.Refusals.{numbers, pictureNumbers, checkNumbers}
 use Rattle.sheet.specs.Parts.{Part, partOf}
-use Rattle.sheet.specs.Protocol.{heardBy, Sent, addressByte}
+use Rattle.sheet.specs.Registers.{registersOf}
+use Rattle.sheet.specs.Protocol.{heardBy, Sent, wholeOf, addressByte}
 use Rattle.sheet.specs.Checks.{orElse, checkSent, checkBytes, checkState}
 use Rattle.sheet.specs.Pictures.{Seen}
 use Rattle.sheet.specs.Long.{After, answered, taken, powerOnPart, transferPart, picturePart}
+use Rattle.opening.specs.Opened.{opened}
 use Rattle.wire.specs.Bytes.{bothOf, bothBytes}
 
 -- ---- a transfer over lent registers
@@ -46,6 +49,20 @@ abbrev pub sentTo : Part → Chips → ℕ → List ℕ → List ℕ → Sent �
 sentTo K n g registers ram t =
     let r = bothOf registers in lentAfter (answered (checkBytes K r (To g) t) r ram (taken K n r ram t (To g)))
 
+-- what a group is asked that hears a transfer: byte 0 came, and an answer has six numbers
+pub record Hearable (K : Part) (n : Chips) (g : ℕ) (registers ram : List ℕ) (t : Sent) (answer : List ℕ) : Type 0 where
+  pub bus : Sendable K n registers ram
+  pub small : g < 2
+  pub short : length (t .bytes) < 4097
+  pub some : 0 < length (wholeOf t)
+  pub six : length answer ≡ 6
+
+-- and what is left of it after the commands that open it
+pub record Left (K : Part) (n : Chips) (g : ℕ) (registers ram : List ℕ) (t : Sent) (answer : List ℕ) (after : Registers) (from : ℕ) : Type 0 where
+  pub hearable : Hearable K n g registers ram t answer
+  pub opening : record { fault = Passed; registers = after; at = from } ≡ opened K (registersOf g (bothOf registers)) 1 (drop 1 (wholeOf t))
+  pub more : from < length (wholeOf t)
+
 -- ---- calls that lend registers and the RAM. Each gives the number returned and what each lent buffer holds after it
 
 pub record Called : Type 0 where
@@ -53,6 +70,10 @@ pub record Called : Type 0 where
   pub registers : List ℕ
   pub buffer : List ℕ
   pub answer : List ℕ
+
+-- what is left, with what is said of it in numbers
+abbrev pub numbered : Part → LentAfter → Called
+numbered K a = let k = numbers K (a .answer) in record { number = getD k 0 0; registers = a .registers; buffer = a .ram; answer = k }
 
 -- 255, and nothing is written, unless registers are 24 bytes and an answer has six numbers
 abbrev pub sized : List ℕ → List ℕ → List ℕ → Called → Called
@@ -70,9 +91,7 @@ powerOnC part n ram registers answer = poweredC registers ram answer (powerOnPar
 
 -- what a transfer says, and what it leaves
 abbrev pub afterC : ℕ → List ℕ → List ℕ → List ℕ → After → Called
-afterC part registers ram answer t =
-    let k = numbers (partOf part) (t .result .answer) in
-    sized registers ram answer (record { number = getD k 0 0; registers = bothBytes (t .result .registers); buffer = t .ram; answer = k })
+afterC part registers ram answer t = sized registers ram answer (numbered (partOf part) (lentAfter t))
 
 unfoldable pub transferC : ℕ → Chips → List ℕ → List ℕ → Sent → List ℕ → Called
 transferC part n registers ram transfer answer = afterC part registers ram answer (transferPart part n (bothOf registers) ram transfer)

@@ -4,16 +4,18 @@ use sheet::Answer;
 use sheet::Check;
 use sheet::Chips;
 use sheet::Pictured;
+use sheet::Registers;
 ghost use mathlib.Core.Path.{_≡_};
-ghost use Prim.Native.Nat.{_<_};
-ghost use lib.ListN.{length};
+ghost use lib.ListN.{length, getD};
 ghost use Rattle.sheet.specs.Parts.{partOf};
+ghost use Rattle.sheet.specs.Refusals.{numbers};
+ghost use Rattle.sheet.specs.Registers.{inRange};
 ghost use Rattle.sheet.specs.Protocol.{sent};
 ghost use Rattle.sheet.specs.Long.{transferPart, picturePart};
 ghost use Rattle.packed_sheet.specs.Packed.{columnsIn};
 ghost use Rattle.refused.specs.Fitting.{fitting};
-ghost use Rattle.wire.specs.Bytes.{bothOf};
-ghost use Rattle.lent_long.specs.LongCalls.{Sendable, lentAfter, sentTo, sentC, powerOnC, transferC, pictureC};
+ghost use Rattle.wire.specs.Bytes.{registersIn, bothOf};
+ghost use Rattle.lent_long.specs.LongCalls.{Sendable, Hearable, Left, lentAfter, numbered, sentTo, sentC, powerOnC, transferC, pictureC};
 
 // A bus as a call is told of it: the part, the chips of each group, and whether their columns are packed.
 pub struct Bus {
@@ -39,13 +41,65 @@ pub fn power_on(bus: Bus, ram: &[u8], registers: &mut [u8], answer: &mut [usize]
 
 // ---- a transfer to a bus that is in range, so that only the transfer is left to check
 
-// Whether every register of both groups is in range.
+// Whether every register of a group is in range. The bytes are looked at as words, whose masks have the bits that must be 0.
+fn in_range(part: u8, registers: &[u8]) -> bool
+    requires { ⌜ length (now registers) ≡ 12 ⌝ }
+    ensures { λ r. ⌜ r ≡ inRange (partOf part) (registersIn (now (registers .entry))) ⌝ }
+{
+    (words::eight_columns(registers, 0) & 0xFEFEFE0000FCFEFE == 0)
+        & (words::four_columns(registers, 8) & 0xFEFEFEFC == 0)
+        & ((registers[3] as usize) < arithmetic::columns(part))
+        & (registers[4] as usize <= arithmetic::limit(part))
+}
+
+// And of both groups.
 fn fits(part: u8, registers: &[u8]) -> bool
     requires { ⌜ length (now registers) ≡ 24 ⌝ }
     ensures { λ r. ⌜ r ≡ fitting (partOf part) (bothOf (now (registers .entry))) ⌝ }
 {
-    registers::in_range(part, wire::registers_of(&registers[..12]))
-        & registers::in_range(part, wire::registers_of(&registers[12..]))
+    in_range(part, &registers[..12]) & in_range(part, &registers[12..])
+}
+
+// What is said of a transfer, in the numbers of the lent answer; the first is returned too.
+fn say(part: u8, said: Answer, answer: &mut [usize]) -> u8
+    requires { ⌜ length (now answer) ≡ 6 ⌝ }
+    ensures { λ r. ⌜ r ≡ getD (numbers (partOf part) said) 0 0 ⌝ }
+    ensures { λ _. ⌜ now (answer .exit) ≡ numbers (partOf part) said ⌝ }
+{
+    wire::put_numbers(answers::numbers(part, said), answer)
+}
+
+// To a group that has obeyed the commands that open the transfer and hears what is left of it: 7, 17 and 18. Its registers are written if it is taken.
+fn send_rest(
+    bus: Bus,
+    group: u8,
+    opened: Registers,
+    from: usize,
+    registers: &mut [u8],
+    ram: &mut [u8],
+    bytes: &[u8],
+    bits: u8,
+    answer: &mut [usize],
+) -> u8
+    requires { ⌜ Left (partOf (bus .part)) (bus .chips) group (now registers) (columnsIn (bus .packed) (now ram)) (sent (now bytes) bits) (now answer) opened from ⌝ }
+    ensures { λ r. ⌜ record { number = r; registers = now (registers .exit); buffer = columnsIn (bus .packed) (now (ram .exit)); answer = now (answer .exit) } ≡ numbered (partOf (bus .part)) (sentTo (partOf (bus .part)) (bus .chips) group (now (registers .entry)) (columnsIn (bus .packed) (now (ram .entry))) (sent (now (bytes .entry)) bits)) ⌝ }
+{
+    let part = bus.part;
+    let chips = bus.chips;
+    let packed = bus.packed;
+    let whole = checks::whole_count(bytes.len(), bits);
+    match protocol::fault_from(part, bits < 8, opened.unknown, &bytes[..whole], from) {
+        Check::Refused(refusal) => say(part, Answer::Refused(refusal), answer),
+        Check::Passed => {
+            let heard = long::hear_in(part, chips, group, opened, ram, packed, bytes, bits, from);
+            let after = heard.registers;
+            let counts = heard.counts;
+            let last = heard.last;
+            let at = 12 * (group as usize);
+            wire::put_registers(after, &mut registers[at..at + 12]);
+            say(part, Answer::Taken { counts, last }, answer)
+        }
+    }
 }
 
 // To the group that hears it: 7, 17 and 18. Only its registers are read, and written if it is taken.
@@ -56,37 +110,61 @@ fn send_to(
     ram: &mut [u8],
     bytes: &[u8],
     bits: u8,
-) -> Answer
-    requires { ⌜ Sendable (partOf (bus .part)) (bus .chips) (now registers) (columnsIn (bus .packed) (now ram)) × (group < 2) × (length (now bytes) < 4097) ⌝ }
-    ensures { λ r. ⌜ record { answer = r; registers = now (registers .exit); ram = columnsIn (bus .packed) (now (ram .exit)) } ≡ sentTo (partOf (bus .part)) (bus .chips) group (now (registers .entry)) (columnsIn (bus .packed) (now (ram .entry))) (sent (now (bytes .entry)) bits) ⌝ }
+    answer: &mut [usize],
+) -> u8
+    requires { ⌜ Hearable (partOf (bus .part)) (bus .chips) group (now registers) (columnsIn (bus .packed) (now ram)) (sent (now bytes) bits) (now answer) ⌝ }
+    ensures { λ r. ⌜ record { number = r; registers = now (registers .exit); buffer = columnsIn (bus .packed) (now (ram .exit)); answer = now (answer .exit) } ≡ numbered (partOf (bus .part)) (sentTo (partOf (bus .part)) (bus .chips) group (now (registers .entry)) (columnsIn (bus .packed) (now (ram .entry))) (sent (now (bytes .entry)) bits)) ⌝ }
 {
     let part = bus.part;
-    let packed = bus.packed;
     let at = 12 * (group as usize);
     let before = wire::registers_of(&registers[at..at + 12]);
-    match protocol::first_fault(part, before.unknown, bytes, bits) {
-        Check::Refused(refusal) => Answer::Refused(refusal),
+    let whole = checks::whole_count(bytes.len(), bits);
+    let opening = opening::open(part, before, &bytes[..whole]);
+    let fault = opening.fault;
+    let opened = opening.registers;
+    let from = opening.at;
+    match fault {
+        Check::Refused(refusal) => say(part, Answer::Refused(refusal), answer),
         Check::Passed => {
-            let heard = long::hear_in(part, bus.chips, group, before, ram, packed, bytes, bits);
-            let after = heard.registers;
-            let counts = heard.counts;
-            let last = heard.last;
-            wire::put_registers(after, &mut registers[at..at + 12]);
-            Answer::Taken { counts, last }
+            if from < whole {
+                send_rest(
+                    bus,
+                    group,
+                    opened,
+                    from,
+                    registers,
+                    ram,
+                    bytes,
+                    bits,
+                    answer,
+                )
+            } else {
+                wire::put_registers(opened, &mut registers[at..at + 12]);
+                say(part, long::without_data(from), answer)
+            }
         }
     }
 }
 
 // A transfer, of whose last byte so many bits came, taken or refused by 1, 2, 19, then 7, 17 and 18.
-pub fn send(bus: Bus, registers: &mut [u8], ram: &mut [u8], bytes: &[u8], bits: u8) -> Answer
-    requires { ⌜ Sendable (partOf (bus .part)) (bus .chips) (now registers) (columnsIn (bus .packed) (now ram)) ⌝ }
-    ensures { λ r. ⌜ record { answer = r; registers = now (registers .exit); ram = columnsIn (bus .packed) (now (ram .exit)) } ≡ sentC (partOf (bus .part)) (bus .chips) (now (registers .entry)) (columnsIn (bus .packed) (now (ram .entry))) (sent (now (bytes .entry)) bits) ⌝ }
+pub fn send(
+    bus: Bus,
+    registers: &mut [u8],
+    ram: &mut [u8],
+    bytes: &[u8],
+    bits: u8,
+    answer: &mut [usize],
+) -> u8
+    requires { ⌜ Sendable (partOf (bus .part)) (bus .chips) (now registers) (columnsIn (bus .packed) (now ram)) × (length (now answer) ≡ 6) ⌝ }
+    ensures { λ r. ⌜ record { number = r; registers = now (registers .exit); buffer = columnsIn (bus .packed) (now (ram .exit)); answer = now (answer .exit) } ≡ numbered (partOf (bus .part)) (sentC (partOf (bus .part)) (bus .chips) (now (registers .entry)) (columnsIn (bus .packed) (now (ram .entry))) (sent (now (bytes .entry)) bits)) ⌝ }
 {
-    match checks::check_sent(bytes.len(), bits) {
-        Check::Refused(refusal) => Answer::Refused(refusal),
-        Check::Passed => match groups::heard_by(bus.chips, checks::address_byte(bytes, bits)) {
-            Addressed::To(group) => send_to(bus, group, registers, ram, bytes, bits),
-            Addressed::Nobody => long::unheard(),
+    // read once, so that pointer and length are handed on and not where they lie
+    let all = &bytes[..];
+    match checks::check_sent(all.len(), bits) {
+        Check::Refused(refusal) => say(bus.part, Answer::Refused(refusal), answer),
+        Check::Passed => match groups::heard_by(bus.chips, checks::address_byte(all, bits)) {
+            Addressed::To(group) => send_to(bus, group, registers, ram, all, bits, answer),
+            Addressed::Nobody => say(bus.part, long::without_data(0), answer),
         },
     }
 }
@@ -94,14 +172,21 @@ pub fn send(bus: Bus, registers: &mut [u8], ram: &mut [u8], bytes: &[u8], bits: 
 // ---- the calls
 
 // Registers of the right size: a transfer, taken or refused.
-fn answered(bus: Bus, registers: &mut [u8], ram: &mut [u8], bytes: &[u8], bits: u8) -> Answer
-    requires { ⌜ length (now registers) ≡ 24 ⌝ }
-    ensures { λ r. ⌜ record { answer = r; registers = now (registers .exit); ram = columnsIn (bus .packed) (now (ram .exit)) } ≡ lentAfter (transferPart (bus .part) (bus .chips) (bothOf (now (registers .entry))) (columnsIn (bus .packed) (now (ram .entry))) (sent (now (bytes .entry)) bits)) ⌝ }
+fn answered(
+    bus: Bus,
+    registers: &mut [u8],
+    ram: &mut [u8],
+    bytes: &[u8],
+    bits: u8,
+    answer: &mut [usize],
+) -> u8
+    requires { ⌜ (length (now registers) ≡ 24) × (length (now answer) ≡ 6) ⌝ }
+    ensures { λ r. ⌜ record { number = r; registers = now (registers .exit); buffer = columnsIn (bus .packed) (now (ram .exit)); answer = now (answer .exit) } ≡ numbered (partOf (bus .part)) (lentAfter (transferPart (bus .part) (bus .chips) (bothOf (now (registers .entry))) (columnsIn (bus .packed) (now (ram .entry))) (sent (now (bytes .entry)) bits))) ⌝ }
 {
     let fit = fits(bus.part, registers);
     match refused::check_state(bus.part, bus.chips, fit, ram, bus.packed) {
-        Check::Refused(refusal) => Answer::Refused(refusal),
-        Check::Passed => send(bus, registers, ram, bytes, bits),
+        Check::Refused(refusal) => say(bus.part, Answer::Refused(refusal), answer),
+        Check::Passed => send(bus, registers, ram, bytes, bits, answer),
     }
 }
 
@@ -125,25 +210,26 @@ fn pictured(
         Check::Passed => {
             let at = 12 * (group as usize);
             let shown = wire::registers_of(&registers[at..at + 12]);
-            Pictured::Lit(long::show_in(part, bus.chips, group, shown, ram, packed, phase, out))
+            let start = groups::start_in(part, bus.chips, group, packed);
+            let end = groups::end_in(part, bus.chips, group, packed);
+            Pictured::Lit(picture::show(&ram[start..end], packed, shown, phase, out))
         }
     }
 }
 
-// A transfer, of whose last byte so many bits came, taken or refused by 16, 3, 6, 4, 5, 1, 2, 19, then 7, 17 and 18.
+// A transfer, of whose last byte so many bits came, taken or refused by 16, 3, 6, 4, 5, 1, 2, 19, then 7, 17 and 18. What is looked at first stands first, and comes in the processor's registers.
 pub fn transfer(
     bus: Bus,
+    answer: &mut [usize],
     registers: &mut [u8],
     ram: &mut [u8],
-    bytes: &[u8],
     bits: u8,
-    answer: &mut [usize],
+    bytes: &[u8],
 ) -> u8
     ensures { λ r. ⌜ transferC (bus .part) (bus .chips) (now (registers .entry)) (columnsIn (bus .packed) (now (ram .entry))) (sent (now (bytes .entry)) bits) (now (answer .entry)) ≡ record { number = r; registers = now (registers .exit); buffer = columnsIn (bus .packed) (now (ram .exit)); answer = now (answer .exit) } ⌝ }
 {
     if (registers.len() == 24) & (answer.len() == 6) {
-        let said = answered(bus, registers, ram, bytes, bits);
-        wire::put_numbers(answers::numbers(bus.part, said), answer)
+        answered(bus, registers, ram, &bytes[..], bits, answer)
     } else {
         255
     }

@@ -1,18 +1,22 @@
 // The lines of a replay's text, each written into a lent buffer at a place.
-use sheet::Answer;
 use sheet::Refusal;
 ghost use Prim.Native.Nat.{_+_, _≤_};
 ghost use lib.ListN.{length};
-ghost use Rattle.log_sheet.specs.Logs.{transferLine, seenLine, recordLines, columnLine, columnLines, refusalLine};
+ghost use Rattle.log_sheet.specs.Logs.{seenLine, columnLine, columnLines, refusalLine};
+ghost use Rattle.lines.specs.Numbered.{numberedLine, numberedLines};
 ghost use Rattle.text.specs.Texts.{Puts};
 
-// A transfer's line. Logs are the PCF8532's.
-fn put_transfer(out: &mut [u8], at: usize, index: usize, answer: Answer) -> usize
-    requires { ⌜ at + length (transferLine index answer) ≤ length (now out) ⌝ }
-    ensures { λ r. ⌜ Puts at (transferLine index answer) (now (out .entry)) (now (out .exit)) r ⌝ }
+// A transfer's line: its number in the log, and what it was answered.
+fn put_transfer(out: &mut [u8], at: usize, index: usize, said: [usize; 6]) -> usize
+    requires { ⌜ at + length (numberedLine index said) ≤ length (now out) ⌝ }
+    ensures { λ r. ⌜ Puts at (numberedLine index said) (now (out .entry)) (now (out .exit)) r ⌝ }
 {
-    let n = answers::numbers(sheet::PCF8532, answer);
-    text::put_line(out, at, b'T', &[index, n[0], n[1], n[2], n[3], n[4], n[5]])
+    text::put_line(
+        out,
+        at,
+        b'T',
+        &[index, said[0], said[1], said[2], said[3], said[4], said[5]],
+    )
 }
 
 // The line of what the analyser saw, if it differs from what the model has.
@@ -34,16 +38,16 @@ pub fn put_record(
     seen: usize,
     index: usize,
     count: usize,
-    answer: Answer,
+    said: [usize; 6],
 ) -> usize
-    requires { ⌜ at + length (recordLines seen index count answer) ≤ length (now out) ⌝ }
-    ensures { λ r. ⌜ Puts at (recordLines seen index count answer) (now (out .entry)) (now (out .exit)) r ⌝ }
+    requires { ⌜ at + length (numberedLines seen index count said) ≤ length (now out) ⌝ }
+    ensures { λ r. ⌜ Puts at (numberedLines seen index count said) (now (out .entry)) (now (out .exit)) r ⌝ }
 {
-    let after = put_transfer(out, at, index, answer);
+    let after = put_transfer(out, at, index, said);
     if seen == 0 {
         after
     } else {
-        put_seen(out, after, index, count, answers::modelled(answer))
+        put_seen(out, after, index, count, said[2])
     }
 }
 

@@ -9,8 +9,9 @@ ghost use mathlib.Core.List.{[]};
 ghost use Prim.Native.Nat.{_<_, _^_};
 ghost use Rattle.sheet.specs.Parts.{partOf};
 ghost use Rattle.sheet.specs.Data.{acknowledger};
-ghost use Rattle.sheet.specs.Long.{oneAcknowledged, begun};
+ghost use Rattle.sheet.specs.Long.{oneAcknowledged};
 ghost use Rattle.sheet.specs.Runs.{countedRun, lastRun};
+ghost use Rattle.opening.specs.Opened.{openedAt};
 ghost use Rattle.listener.specs.Listeners.{listenerOf, isControl, obeyedBy, dataEnd, stepped, ran, endedBy, Countable, Placed, Runs};
 
 // The protocol position, with the registers, the counts, and who acknowledged the last data byte.
@@ -21,15 +22,15 @@ pub struct Listener {
     pub last: Acknowledger,
 }
 
-// After the address byte.
-pub fn begun(registers: Registers) -> Listener
-    ensures { λ r. ⌜ r ≡ listenerOf Expect.Control (begun registers []) ⌝ }
+// After so many bytes that are no data, all of them acknowledged.
+pub fn begun(expect: Expect, registers: Registers, acknowledged: usize) -> Listener
+    ensures { λ r. ⌜ r ≡ listenerOf expect (openedAt acknowledged registers []) ⌝ }
 {
     Listener {
-        expect: Expect::Control,
+        expect,
         registers,
         counts: Counts {
-            acknowledged: 1,
+            acknowledged,
             stored: 0,
             discarded: 0,
         },
@@ -75,14 +76,14 @@ fn is_control(expect: Expect) -> bool
     }
 }
 
-// The registers after a byte that is no data: a command is obeyed, from one place, so that the call is inlined.
+// The registers after a byte that is no data: a command is obeyed.
 fn obeyed_by(part: u8, expect: Expect, byte: u8, registers: Registers) -> Registers
     ensures { λ r. ⌜ r ≡ obeyedBy (partOf part) expect byte registers ⌝ }
 {
     if is_control(expect) {
         registers
     } else {
-        command::obey(part, registers, byte)
+        command::obey(registers, decode::decode(part, byte))
     }
 }
 

@@ -16,12 +16,12 @@ ghost use Prim.Native.Nat.{_*_, _<_};
 ghost use lib.ListN.{length};
 ghost use Rattle.sheet.specs.Refusals.{numbers, pictureNumbers, checkNumbers};
 ghost use Rattle.sheet.specs.Parts.{partOf};
-ghost use Rattle.sheet.specs.Protocol.{chipsIn, sent};
+ghost use Rattle.sheet.specs.Protocol.{chipsIn, sent, wholeOf};
 ghost use Rattle.sheet.specs.Checks.{checkState};
 ghost use Rattle.sheet.specs.Pictures.{pictureOf, litIn};
-ghost use Rattle.sheet.specs.Long.{noCounts, replaced, columnsOf, taken, powerOnPart, transferPart, picturePart};
+ghost use Rattle.sheet.specs.Long.{replaced, columnsOf, taken, powerOnPart, transferPart, picturePart};
 ghost use Rattle.listener.specs.Listeners.{groupOf};
-ghost use Rattle.long.specs.Heard.{Owned, heardInRam};
+ghost use Rattle.long.specs.Heard.{Owned, Ready, heardInRam};
 ghost use Rattle.packed_sheet.specs.Packed.{columnsIn};
 
 // Power-on: the power-on registers, taken or refused by 16, 3, 4, 5; the RAM is only read.
@@ -37,23 +37,32 @@ pub fn power_on(part: u8, chips: Chips, ram: &[u8], packed: bool) -> PowerOn
     PowerOn { check, registers }
 }
 
-// What a group, its registers given, makes of a transfer that passed its checks, in its part of the RAM.
+// What a group, its registers given, makes of what is left from a place on of a transfer that passed its checks, in its part of the RAM.
 pub fn hear_in(
     part: u8,
     chips: Chips,
     group: u8,
-    before: Registers,
+    opened: Registers,
     ram: &mut [u8],
     packed: bool,
     bytes: &[u8],
     bits: u8,
+    from: usize,
 ) -> Listener
-    requires { ⌜ Owned (partOf part) chips group before (columnsIn packed (now ram)) × (length (now bytes) < 4097) ⌝ }
-    ensures { λ r. ⌜ groupOf r (columnsIn packed (now (ram .exit))) ≡ heardInRam (partOf part) chips group before (columnsIn packed (now (ram .entry))) (sent (now (bytes .entry)) bits) ⌝ }
+    requires { ⌜ Ready (partOf part) chips opened (columnsIn packed (now ram)) (sent (now bytes) bits) from ⌝ }
+    ensures { λ r. ⌜ groupOf r (columnsIn packed (now (ram .exit))) ≡ heardInRam (partOf part) chips group opened (columnsIn packed (now (ram .entry))) (sent (now (bytes .entry)) bits) from ⌝ }
 {
     let start = groups::start_in(part, chips, group, packed);
     let end = groups::end_in(part, chips, group, packed);
-    hearing::hear(part, &mut ram[start..end], packed, before, bytes, bits)
+    hearing::hear(
+        part,
+        &mut ram[start..end],
+        packed,
+        opened,
+        bytes,
+        bits,
+        from,
+    )
 }
 
 // A transfer that passed its checks, at the group that hears it.
@@ -67,11 +76,11 @@ fn deliver(
     bits: u8,
     group: u8,
 ) -> Transferred
-    requires { ⌜ (checkState (partOf part) chips registers (columnsIn packed (now ram)) ≡ Check.Passed) × (length (now bytes) < 4097) ⌝ }
+    requires { ⌜ (checkState (partOf part) chips registers (columnsIn packed (now ram)) ≡ Check.Passed) × (length (now bytes) < 4097) × (0 < length (wholeOf (sent (now bytes) bits))) ⌝ }
     ensures { λ r. ⌜ record { result = r; ram = columnsIn packed (now (ram .exit)) } ≡ taken (partOf part) chips registers (columnsIn packed (now (ram .entry))) (sent (now (bytes .entry)) bits) (Addressed.To group) ⌝ }
 {
     let before = groups::registers_of(group, registers);
-    let heard = hear_in(part, chips, group, before, ram, packed, bytes, bits);
+    let heard = hear_in(part, chips, group, before, ram, packed, bytes, bits, 1);
     let after = heard.registers;
     let counts = heard.counts;
     let last = heard.last;
@@ -81,13 +90,13 @@ fn deliver(
     }
 }
 
-// What is said of a transfer that nobody hears.
-pub fn unheard() -> Answer
-    ensures { λ r. ⌜ r ≡ Answer.Taken noCounts Acknowledger.None ⌝ }
+// What is said of a transfer that brings no data: so many bytes are acknowledged, none where nobody hears it.
+pub fn without_data(acknowledged: usize) -> Answer
+    ensures { λ r. ⌜ r ≡ Answer.Taken (record { acknowledged = acknowledged; stored = 0; discarded = 0 }) Acknowledger.None ⌝ }
 {
     Answer::Taken {
         counts: Counts {
-            acknowledged: 0,
+            acknowledged,
             stored: 0,
             discarded: 0,
         },
@@ -125,7 +134,7 @@ pub fn transfer(
                 group,
             ),
             Addressed::Nobody => Transferred {
-                answer: unheard(),
+                answer: without_data(0),
                 registers,
             },
         },

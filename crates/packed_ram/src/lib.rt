@@ -108,15 +108,27 @@ fn three_run(ram: &mut [u8], v: usize, bytes: &[u8])
     }
 }
 
-// The same, each mode by its own number: the compiler makes a loop of each.
-fn even_run(ram: &mut [u8], at: usize, m: usize, bank: u8, shift: usize, before: u8, bytes: &[u8])
-    requires { ⌜ Whole (unpacked (now ram)) (2 * at) m bank (now bytes) × (m ≢ 3) × (shift < 8) ⌝ }
-    ensures { λ _. ⌜ unpacked (now (ram .exit)) ≡ putRun m (bankRow m bank) (2 * at) (stream shift before (now (bytes .entry))) (unpacked (now (ram .entry))) ⌝ }
+// A run from an even column on. Each mode goes by its own numbers, here and below: the compiler makes a loop of each.
+fn even_run(ram: &mut [u8], at: usize, m: usize, bank: u8, bytes: &[u8])
+    requires { ⌜ Whole (unpacked (now ram)) (2 * at) m bank (now bytes) × (m ≢ 3) ⌝ }
+    ensures { λ _. ⌜ unpacked (now (ram .exit)) ≡ putRun m (bankRow m bank) (2 * at) (stream 0 0 (now (bytes .entry))) (unpacked (now (ram .entry))) ⌝ }
 {
     match m {
-        1 => stream_run(ram, at, 1, bank, shift, before, bytes),
-        2 => stream_run(ram, at, 2, bank, shift, before, bytes),
-        _ => stream_run(ram, at, 4, bank, shift, before, bytes),
+        1 => stream_run(ram, at, 1, bank, 0, 0, bytes),
+        2 => stream_run(ram, at, 2, bank, 0, 0, bytes),
+        _ => stream_run(ram, at, 4, bank, 0, 0, bytes),
+    }
+}
+
+// One from an odd column on, as a stream that begins one column, m bits, earlier.
+fn shifted_run(ram: &mut [u8], at: usize, m: usize, bank: u8, before: u8, bytes: &[u8])
+    requires { ⌜ Whole (unpacked (now ram)) (2 * at) m bank (now bytes) × (m ≢ 3) ⌝ }
+    ensures { λ _. ⌜ unpacked (now (ram .exit)) ≡ putRun m (bankRow m bank) (2 * at) (stream m before (now (bytes .entry))) (unpacked (now (ram .entry))) ⌝ }
+{
+    match m {
+        1 => stream_run(ram, at, 1, bank, 1, before, bytes),
+        2 => stream_run(ram, at, 2, bank, 2, before, bytes),
+        _ => stream_run(ram, at, 4, bank, 4, before, bytes),
     }
 }
 
@@ -137,7 +149,7 @@ fn odd_run(ram: &mut [u8], v: usize, m: usize, bank: u8, bytes: &[u8])
     let at = v / 2;
     let w = arithmetic::width(m);
     let before = ending_in(m, bank, ram[at] % 16);
-    even_run(ram, at, m, bank, m, before, bytes);
+    shifted_run(ram, at, m, bank, before, bytes);
     let n = bytes.len();
     let t = packed_words::columns_of(m, bytes[n - 1]);
     let down = 4 * (w - 1);
@@ -158,7 +170,7 @@ pub fn whole_bytes(ram: &mut [u8], v: usize, m: usize, bank: u8, bytes: &[u8])
     if m == 3 {
         three_run(ram, v, bytes);
     } else if v % 2 == 0 {
-        even_run(ram, v / 2, m, bank, 0, 0, bytes);
+        even_run(ram, v / 2, m, bank, bytes);
     } else if 0 < bytes.len() {
         odd_run(ram, v, m, bank, bytes);
     }

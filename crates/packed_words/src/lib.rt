@@ -87,13 +87,13 @@ pub fn rows_of(m: usize, bank: u8) -> u64
     }
 }
 
-// Static: eight columns of one row, in both banks. The product has bit k of the byte at bit k + 10 j, for j from 0 to 3.
+// Static: eight columns of one row, in both banks. The product has bit k of the byte at bit k + 10 j, for j from 0 to 3; what is past 32 bits is not asked, so that four bytes go at a time.
 pub fn eight_columns(x: u8) -> u64
     ensures { λ r. ⌜ Word 1 x r ⌝ }
 {
-    let copies = (x as u64) * 0x40100401;
+    let copies = ((x as u64) * 0x40100401 % 0x100000000) as u32;
     let word = (copies / 128 & 0x01010101) + (copies / 4 & 0x10101010);
-    5 * word
+    (5 * word) as u64
 }
 
 // 1:2: four columns of two rows, in both banks.

@@ -3,8 +3,8 @@
 use mathlib.Core.Path.{_≡_, refl, sym, ap, _∙_}
 use mathlib.Core.List.{List, [], _++_}
 use Prim.Native.Nat.{ℕ, _≤_}
-use native.Mathlib.Omega.{arith}
-use lib.ListN.{length, take, drop}
+use lib.ListN.{length, take, drop, take-append-drop}
+use lib.Seq.{length-take-le}
 use Rattle.sheet.specs.declared.Written.{Written}
 use Rattle.sheet.specs.declared.Refusal.{Refusal}
 use Rattle.sheet.specs.declared.Check.{Check}
@@ -13,43 +13,27 @@ use Rattle.sheet.specs.Checks.{orElse}
 use Rattle.sheet.specs.Written.{writtenBy}
 use Rattle.price_sheet.specs.Price.{Spelled, checkPrice, Sizes, priceBy}
 use Rattle.laws.proofs.Spelling.{sizes}
-use Rattle.price.specs.Fronts.{Fronted, sizeOf, kept}
+use Rattle.price.specs.Fronts.{Put, settled}
 
-module _ (sizes : Check) (p : Spelled) (bytes out : List ℕ) where
-  by-sizes : (x : Refusal) → sizes ≡ Refused x → record { result = Written.Refused x; out = out } ≡ priceBy sizes p bytes out
-  by-sizes x e = sym (ap (λ (k : Check). writtenBy (orElse k (p .fault)) bytes out) e)
+module _ (p : Spelled) (bytes : List ℕ) (room : ℕ) (out after : List ℕ) where
+  by-fault : (k : Check) (w : Written) → p .fault ≡ k → room ≤ length out → Put p bytes room out after w → settled w (take room out) after ≡ writtenBy k bytes out
+  unfolding settled
+  by-fault Passed w e h f =
+      ap (λ (r : Written). settled r (take room out) after) (f .result ∙ ap (λ (k : Check). writtenBy k bytes [] .result) e)
+      ∙ ap (λ (l : List ℕ). record { result = Written.Bytes (length bytes); out = l }) (f .whole e)
+  by-fault (Refused x) w e h f =
+      ap (λ (r : Written). settled r (take room out) after) (f .result ∙ ap (λ (k : Check). writtenBy k bytes [] .result) e)
+      ∙ ap (λ (l : List ℕ). record { result = Written.Refused x; out = take room out ++ l }) (ap (λ (n : ℕ). drop n after) (length-take-le room out h) ∙ f .far)
+      ∙ ap (λ (l : List ℕ). record { result = Written.Refused x; out = l }) (take-append-drop room out)
 
-  by-fault : (k : Check) (after : List ℕ) → take (length bytes) after ≡ bytes → kept (writtenBy k bytes [] .result) after out ≡ writtenBy k bytes out
-  unfolding kept
-  by-fault Passed after f = ap (λ (l : List ℕ). record { result = Written.Bytes (length bytes); out = l ++ drop (length bytes) out }) f
-  by-fault (Refused x) after f = refl
-
-  by-front : {after : List ℕ} {w : Written} → sizes ≡ Passed → Fronted p bytes after w → kept w after out ≡ priceBy sizes p bytes out
-  by-front {after} e f = ap (λ (r : Written). kept r after out) (f .result) ∙ by-fault (p .fault) after (f .front) ∙ sym (ap (λ (k : Check). writtenBy (orElse k (p .fault)) bytes out) e)
-
--- no more bytes than there are
-size-by : (k : Check) (bytes : List ℕ) → sizeOf (writtenBy k bytes [] .result) ≤ length bytes
-size-by Passed bytes = omega arith
-size-by (Refused x) bytes = omega arith
-
-sized : {p : Spelled} {bytes after : List ℕ} {w : Written} → Fronted p bytes after w → sizeOf w ≤ length bytes
-sized {p} {bytes} f = rw (f .result) (size-by (p .fault) bytes)
-
--- a call whose check of the sizes answers k, and what it asks of its output
+-- a call whose check of the sizes answers k
 module _ (size mode room : ℕ) (out : List ℕ) (k : Check) (told : k ≡ checkPrice size mode room (length out)) where
   pub refused : (p : Spelled) (bytes : List ℕ) (x : Refusal) → k ≡ Refused x → record { result = Written.Refused x; out = out } ≡ priceBy (checkPrice size mode room (length out)) p bytes out
-  refused p bytes x e = by-sizes (checkPrice size mode room (length out)) p bytes out x (sym told ∙ e)
+  refused p bytes x e = sym (ap (λ (c : Check). writtenBy (orElse c (p .fault)) bytes out) (sym told ∙ e))
 
-  pub taken : {p : Spelled} {bytes after : List ℕ} {w : Written} → k ≡ Passed → Fronted p bytes after w → kept w after out ≡ priceBy (checkPrice size mode room (length out)) p bytes out
-  taken {p} {bytes} e f = by-front (checkPrice size mode room (length out)) p bytes out (sym told ∙ e) f
-
-  fits : k ≡ Passed → Sizes size mode room (length out)
+  pub fits : k ≡ Passed → Sizes size mode room (length out)
   fits e = sizes size mode room (length out) (sym told ∙ e)
 
-  -- a buffer of the call's own has that room too
-  pub fits-own : (own : ℕ) → own ≡ room → k ≡ Passed → Sizes size mode room own
-  fits-own own long e = let f = fits e in record { bytes = f .bytes; four = f .four; enough = omega (arith, long) }
-
-  pub keeps : {p : Spelled} {bytes after : List ℕ} {w : Written} (fit : (n : ℕ) → Sizes size mode room n → length bytes ≤ n) → length after ≡ room → k ≡ Passed → Fronted p bytes after w
-      → (sizeOf w ≤ length after) × (sizeOf w ≤ length out)
-  keeps {after = after} fit long e f = (omega (arith, sized f, fit (length after) (fits-own (length after) long e)), omega (arith, sized f, fit (length out) (fits e)))
+  pub taken : {p : Spelled} {bytes after : List ℕ} {w : Written} → k ≡ Passed → Put p bytes room out after w → settled w (take room out) after ≡ priceBy (checkPrice size mode room (length out)) p bytes out
+  taken {p} {bytes} {after} {w} e f =
+      by-fault p bytes room out after (p .fault) w refl (fits e .enough) f ∙ sym (ap (λ (c : Check). writtenBy (orElse c (p .fault)) bytes out) (sym told ∙ e))

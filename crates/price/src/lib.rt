@@ -7,10 +7,10 @@ use sheet::Written;
 ghost use mathlib.Core.Path.{_≡_};
 ghost use mathlib.Core.List.{map};
 ghost use Prim.Native.Nat.{_≤_, _<_};
-ghost use lib.ListN.{length};
+ghost use lib.ListN.{length, take};
 ghost use Rattle.sheet.specs.Refusals.{writtenNumbers};
 ghost use Rattle.price_sheet.specs.Price.{textOf, textsOf, byteOf, begunAt, spelled, readFrom, checkPrice, Sizes, priceWrite, priceRead};
-ghost use Rattle.price.specs.Fronts.{Fronted, sizeOf, kept};
+ghost use Rattle.price.specs.Fronts.{Put, settled};
 
 // ---- the symbols of a text
 
@@ -54,12 +54,57 @@ fn text_size(symbol: Symbol) -> usize
     }
 }
 
-// ---- a text to data bytes, and data bytes to a text, each in one walk, into a buffer of the call's own
+// ---- what stands at the start of an output is kept while it is written over, since a refusal leaves it as it was
+
+fn no_bytes() -> [u8; 80] {
+    [0; 80]
+}
+
+fn no_text() -> [u8; 160] {
+    [0; 160]
+}
+
+fn bytes_before(out: &[u8]) -> [u8; 80]
+    requires { ⌜ 80 ≤ length (now out) ⌝ }
+    ensures { λ r. ⌜ r ≡ take 80 (now (out .entry)) ⌝ }
+{
+    let mut before = no_bytes();
+    copies::copy(&out[..80], &mut before);
+    before
+}
+
+// In two halves, which are copied without a call.
+fn text_before(out: &[u8]) -> [u8; 160]
+    requires { ⌜ 160 ≤ length (now out) ⌝ }
+    ensures { λ r. ⌜ r ≡ take 160 (now (out .entry)) ⌝ }
+{
+    let mut before = no_text();
+    copies::copy(&out[..80], &mut before[..80]);
+    copies::copy(&out[80..160], &mut before[80..]);
+    before
+}
+
+// A refusal puts back what stood there.
+fn settled(written: Written, before: &[u8], out: &mut [u8]) -> Written
+    requires { ⌜ length (now before) ≤ length (now out) ⌝ }
+    ensures { λ r. ⌜ record { result = r; out = now (out .exit) } ≡ settled written (now (before .entry)) (now (out .entry)) ⌝ }
+{
+    match written {
+        Written::Bytes(size) => Written::Bytes(size),
+        Written::Refused(refusal) => {
+            let size = before.len();
+            copies::copy(before, &mut out[..size]);
+            Written::Refused(refusal)
+        }
+    }
+}
+
+// ---- a text to data bytes, and data bytes to a text, each in one walk
 
 // A data byte for each symbol, or 15 at the first byte that begins none.
 fn put_bytes(mode: u8, text: &[u8], out: &mut [u8]) -> Written
     requires { ⌜ Sizes (length (now text)) mode 80 (length (now out)) ⌝ }
-    ensures { λ r. ⌜ Fronted (spelled (now (text .entry))) (map (byteOf mode) (spelled (now (text .entry)) .symbols)) (now (out .exit)) r ⌝ }
+    ensures { λ r. ⌜ Put (spelled (now (text .entry))) (map (byteOf mode) (spelled (now (text .entry)) .symbols)) 80 (now (out .entry)) (now (out .exit)) r ⌝ }
 {
     let bytes = glyphs::bytes_of(mode);
     let mut place = 0;
@@ -77,47 +122,29 @@ fn put_bytes(mode: u8, text: &[u8], out: &mut [u8]) -> Written
     Written::Bytes(place)
 }
 
-// The text of each byte, or 15 at the first that is no symbol's. The point is put after each, and the next symbol over it where it does not belong.
-fn put_texts(mode: u8, segments: &[u8], out: &mut [u8]) -> Written
-    requires { ⌜ Sizes (length (now segments)) mode 160 (length (now out)) ⌝ }
-    ensures { λ r. ⌜ Fronted (readFrom mode 0 (now (segments .entry))) (textsOf (readFrom mode 0 (now (segments .entry)) .symbols)) (now (out .exit)) r ⌝ }
+// The text of each byte, or 15 at the first that is no symbol's. A point is put after each, and the next symbol over it where it does not belong; where no symbol comes, what stood there.
+fn put_texts(mode: u8, segments: &[u8], before: &[u8], out: &mut [u8]) -> Written
+    requires { ⌜ Sizes (length (now segments)) mode 160 (length (now out)) × (now before ≡ take 160 (now out)) ⌝ }
+    ensures { λ r. ⌜ Put (readFrom mode 0 (now (segments .entry))) (textsOf (readFrom mode 0 (now (segments .entry)) .symbols)) 160 (now (out .entry)) (now (out .exit)) r ⌝ }
 {
-    let codes = glyphs::codes_of(mode);
     let mut place = 0;
     let mut i = 0;
     while i < segments.len() {
-        let code = codes[segments[i] as usize];
-        if code == 0 {
+        let byte = segments[i];
+        let entry = glyphs::entry_of(mode, byte);
+        if (entry % 256) as u8 != byte {
             return Written::Refused(Refusal::NoSymbol(i));
         }
-        out[place] = code % 128;
+        let code = entry / 256;
+        out[place] = (code % 256) as u8;
         out[place + 1] = 0x2E;
-        place += 1 + (code / 128) as usize;
+        place += (code / 256) as usize;
         i += 1;
     }
-    Written::Bytes(place)
-}
-
-fn no_bytes() -> [u8; 80] {
-    [0; 80]
-}
-
-fn no_text() -> [u8; 160] {
-    [0; 160]
-}
-
-// What was written goes to the start of `out`; a refusal leaves it as it was.
-fn keep(written: Written, from: &[u8], out: &mut [u8]) -> Written
-    requires { ⌜ (sizeOf written ≤ length (now from)) × (sizeOf written ≤ length (now out)) ⌝ }
-    ensures { λ r. ⌜ record { result = r; out = now (out .exit) } ≡ kept written (now (from .entry)) (now (out .entry)) ⌝ }
-{
-    match written {
-        Written::Refused(refusal) => Written::Refused(refusal),
-        Written::Bytes(size) => {
-            copies::copy(&from[..size], &mut out[..size]);
-            Written::Bytes(size)
-        }
+    if place < before.len() {
+        out[place] = before[place];
     }
+    Written::Bytes(place)
 }
 
 // ---- the calls
@@ -143,10 +170,12 @@ pub fn write(mode: u8, text: &[u8], out: &mut [u8]) -> Written
     ensures { λ r. ⌜ record { result = r; out = now (out .exit) } ≡ priceWrite mode (now (text .entry)) (now (out .entry)) ⌝ }
     ensures { λ r. ⌜ writtenNumbers r ≡ writtenNumbers (priceWrite mode (now (text .entry)) (now (out .entry)) .result) ⌝ }
 {
-    let mut bytes = no_bytes();
     match check_sizes(text.len(), mode, 80, out.len()) {
         Check::Refused(refusal) => Written::Refused(refusal),
-        Check::Passed => keep(put_bytes(mode, text, &mut bytes), &bytes, out),
+        Check::Passed => {
+            let before = bytes_before(out);
+            settled(put_bytes(mode, text, out), &before, out)
+        }
     }
 }
 
@@ -156,9 +185,11 @@ pub fn read(mode: u8, segments: &[u8], out: &mut [u8]) -> Written
     ensures { λ r. ⌜ record { result = r; out = now (out .exit) } ≡ priceRead mode (now (segments .entry)) (now (out .entry)) ⌝ }
     ensures { λ r. ⌜ writtenNumbers r ≡ writtenNumbers (priceRead mode (now (segments .entry)) (now (out .entry)) .result) ⌝ }
 {
-    let mut text = no_text();
     match check_sizes(segments.len(), mode, 160, out.len()) {
         Check::Refused(refusal) => Written::Refused(refusal),
-        Check::Passed => keep(put_texts(mode, segments, &mut text), &text, out),
+        Check::Passed => {
+            let before = text_before(out);
+            settled(put_texts(mode, segments, &before, out), &before, out)
+        }
     }
 }

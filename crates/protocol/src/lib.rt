@@ -5,11 +5,15 @@ use sheet::Kind;
 use sheet::Marks;
 use sheet::Refusal;
 ghost use mathlib.Core.Path.{_≡_};
-ghost use Prim.Native.Nat.{_≤_};
+ghost use mathlib.Core.Bool.{cond};
+ghost use Prim.Native.Nat.{_≤_, _<_};
 ghost use lib.ListN.{length, drop};
 ghost use Rattle.sheet.specs.Parts.{partOf};
 ghost use Rattle.sheet.specs.Protocol.{kindOf, controlOf, next, sent, isDataOf, isData};
-ghost use Rattle.sheet.specs.Checks.{faultOf, fault, marksOf, marksAfter, lastFault, faultIn, faultOfSent};
+ghost use Rattle.sheet.specs.declared.Refusal.the-variants.{UnknownPlace};
+ghost use Rattle.sheet.specs.declared.Check.the-variants.{Passed};
+ghost use Rattle.sheet.specs.Registers.{known};
+ghost use Rattle.sheet.specs.Checks.{unless, faultOf, fault, marksOf, marksAfter, lastFault, faultIn, faultOfSent};
 ghost use Rattle.protocol.specs.Left.{onlyLeft, undefinedIn, allDefined};
 
 // ---- what a byte is
@@ -185,13 +189,13 @@ fn undefined_from(part: u8, bytes: &[u8], from: usize) -> Check
     Check::Passed
 }
 
-// The first fault of whole bytes after the address byte, and of one that is cut after them.
-fn fault_in(part: u8, cut: bool, initial: Marks, bytes: &[u8]) -> Check
-    ensures { λ r. ⌜ r ≡ faultIn (partOf part) cut initial Expect.Control 1 (drop 1 (now (bytes .entry))) ⌝ }
+// The first fault of whole bytes, from the control byte at a place on, and of one that is cut after them.
+fn fault_in(part: u8, cut: bool, initial: Marks, bytes: &[u8], from: usize) -> Check
+    ensures { λ r. ⌜ r ≡ faultIn (partOf part) cut initial Expect.Control from (drop from (now (bytes .entry))) ⌝ }
 {
     let mut expect = Expect::Control;
     let mut marks = initial;
-    let mut i: usize = 1;
+    let mut i = from;
     while i < bytes.len() {
         let byte = bytes[i];
         if let Check::Refused(refusal) = fault(part, marks, expect, i, byte) {
@@ -215,5 +219,39 @@ pub fn first_fault(part: u8, marks: Marks, bytes: &[u8], bits: u8) -> Check
     ensures { λ r. ⌜ r ≡ faultOfSent (partOf part) marks (sent (now (bytes .entry)) bits) ⌝ }
 {
     let whole = checks::whole_count(bytes.len(), bits);
-    fault_in(part, bits < 8, marks, &bytes[..whole])
+    fault_in(part, bits < 8, marks, &bytes[..whole], 1)
+}
+
+// The fault of a run of data from place i to the end, of which a byte came, whole or cut: its place, while a mark is unknown.
+fn run_fault(came: bool, marks: Marks, i: usize) -> Check
+    ensures { λ r. ⌜ r ≡ cond came (unless (known marks) (UnknownPlace i)) Passed ⌝ }
+{
+    if came {
+        checks::unless(registers::all_known(marks), Refusal::UnknownPlace(i))
+    } else {
+        Check::Passed
+    }
+}
+
+// The first fault of what is left of a transfer from a control byte on: mostly a run of data, which has one place to look at.
+pub fn fault_from(part: u8, cut: bool, marks: Marks, bytes: &[u8], from: usize) -> Check
+    requires { ⌜ from < length (now bytes) ⌝ }
+    ensures { λ r. ⌜ r ≡ faultIn (partOf part) cut marks Expect.Control from (drop from (now (bytes .entry))) ⌝ }
+{
+    let control = bytes[from];
+    if control == 0x40 {
+        let i = from + 1;
+        return run_fault((i < bytes.len()) | cut, marks, i);
+    }
+    if control % 64 == 0 {
+        // by its fields, so that the registers that it is one of stay out of memory
+        let initial = Marks {
+            high: marks.high,
+            low: marks.low,
+            device: marks.device,
+        };
+        fault_in(part, cut, initial, bytes, from)
+    } else {
+        Check::Refused(Refusal::StrayBits(from))
+    }
 }

@@ -1,6 +1,11 @@
--- The tables of `ram`: the columns that a byte's first and last four bits give in 1:3, as words. `proofs/three_columns` computes that they do.
+-- The words of `ram`: four columns of a byte in static, and, as tables, the columns that a byte's first and last four bits give in 1:3. `proofs/static_run` and `proofs/three_columns` compute that they do.
 use mathlib.Core.List.{List, [], _∷_}
-use Prim.Native.Nat.{ℕ}
+use Prim.Native.Nat.{ℕ, _+_, _-_, _*_, _/_, _^_}
+use lib.Bits.{bitAnd}
+
+-- a copy of the byte in each column, of which the bit of its mask is carried to bit 7 and brought down
+unfoldable pub staticColumns : ℕ → ℕ → ℕ → ℕ
+staticColumns x masks shift = (bitAnd (16843009 * x) masks + (2155905152 - masks)) / 2 ^ shift
 
 unfoldable pub firstBits : List ℕ
 firstBits =

@@ -10,7 +10,7 @@ ghost use Rattle.sheet.specs.Data.{changed, withRow, putBits};
 ghost use Rattle.sheet.specs.Runs.{putRun};
 ghost use Rattle.words.specs.Fields.{threeColumns};
 ghost use Rattle.ram.specs.Writes.{Whole, Cut};
-ghost use Rattle.ram.specs.Tables.{firstBits, lastBits};
+ghost use Rattle.ram.specs.Tables.{staticColumns, firstBits, lastBits};
 
 // One row of a column. A column past the end is nobody's.
 fn put_row(ram: &mut [u8], at: usize, row: usize, bit: u8)
@@ -46,40 +46,28 @@ pub fn cut_byte(ram: &mut [u8], at: usize, m: usize, bank: u8, rest: &[u8])
     }
 }
 
-// A nibble's four columns of one row as words, in both banks.
-const SPREAD: [u32; 16] = [
-    0x00000000,
-    0x05000000,
-    0x00050000,
-    0x05050000,
-    0x00000500,
-    0x05000500,
-    0x00050500,
-    0x05050500,
-    0x00000005,
-    0x05000005,
-    0x00050005,
-    0x05050005,
-    0x00000505,
-    0x05000505,
-    0x00050505,
-    0x05050505,
-];
+// Four columns of a byte in static, in the row that a shift by 7 or by 5 leads to: each column has a copy of the byte, of which the bit of its mask is carried to bit 7 by what the mask lacks to 80.
+fn static_columns(x: u8, masks: u32, shift: u32) -> u32
+    requires { ⌜ (masks ≤ 2155905152) × (shift < 8) ⌝ }
+    ensures { λ r. ⌜ r ≡ staticColumns x masks shift ⌝ }
+{
+    let copies = 0x01010101 * words::wide(x);
+    ((copies & masks) + (0x80808080 - masks)) >> shift
+}
 
 // Static, where all columns are there.
 fn static_run(ram: &mut [u8], v: usize, bank: u8, bytes: &[u8])
     requires { ⌜ (bank < 2) × (8 * length (now bytes) ≤ length (now ram) - v) × (overIn 0 (now ram) ≡ Passed) ⌝ }
     ensures { λ _. ⌜ now (ram .exit) ≡ putRun 1 (2 * bank) v (now (bytes .entry)) (now (ram .entry)) ⌝ }
 {
-    // copied once, and not at each index
-    let table = SPREAD;
     let rows = 0x01010101 * (1 + 3 * words::wide(bank));
+    let shift = 7 - 2 * words::wide(bank);
     let mut i: usize = 0;
     while i < bytes.len() {
+        let x = bytes[i];
         let at = v + 8 * i;
-        let high = (bytes[i] / 16) as usize;
-        let low = (bytes[i] % 16) as usize;
-        words::put_eight(ram, at, rows, table[high], table[low]);
+        words::put_four(ram, at, rows, static_columns(x, 0x10204080, shift));
+        words::put_four(ram, at + 4, rows, static_columns(x, 0x01020408, shift));
         i += 1;
     }
 }

@@ -35,7 +35,7 @@ fn cut_byte(ram: &mut [u8], packed: bool, at: usize, m: usize, bank: u8, rest: &
 }
 
 // Writes a run from column v on: the bytes that fit, and of the others the columns left.
-fn put_run(ram: &mut [u8], packed: bool, v: usize, m: usize, bank: u8, bytes: &[u8])
+pub fn put_run(ram: &mut [u8], packed: bool, v: usize, m: usize, bank: u8, bytes: &[u8])
     requires { ⌜ Run (columnsIn packed (now ram)) v m bank (now bytes) ⌝ }
     ensures { λ _. ⌜ columnsIn packed (now (ram .exit)) ≡ putRun m (bankRow m bank) v (now (bytes .entry)) (columnsIn packed (now (ram .entry))) ⌝ }
 {

@@ -9,7 +9,7 @@ use Rattle.writer_sheet.specs.Three.{pairOf, byteAt}
 use Rattle.laws.proofs.Wanted.{bits-lt}
 use Rattle.words.specs.Fields.{joined, columnOf}
 use Rattle.gather.specs.Gathered.{side}
-use Rattle.gather.proofs.Bytewise.{columns-side, column-at}
+use Rattle.gather.proofs.Sides.{columns-side, column-at}
 
 pub word-bytes : (w a b c d : ℕ) → w ≡ side a b c d → a < 256 → b < 256 → c < 256 → d < 256 → columnOf w 0 ∷ columnOf w 1 ∷ columnOf w 2 ∷ columnOf w 3 ∷ [] ≡ a ∷ b ∷ c ∷ d ∷ []
 word-bytes w a b c d is la lb lc ld = let e = columns-side a b c d la lb lc ld in

@@ -1,3 +1,4 @@
 pub mod Fields
 pub mod Bytes
 pub mod Words
+pub mod Bytewise

@@ -16,7 +16,7 @@ use Rattle.sheet.specs.Data.{changed, putBits}
 use Rattle.laws.proofs.Rows.{changed-other}
 use Rattle.laws.proofs.Runs.{changed-alike}
 use Rattle.laws.proofs.Nibbles.{Nibbles, bits-nibbles}
-use Rattle.words.specs.Fields.{withRows, field, columnOf, joined, laid, mixed, merged, threeColumns, threeRows, Spread}
+use Rattle.words.specs.Fields.{withRows, field, columnOf, joined, laid, mixed, merged, threeColumns, threeRows, Spread, InBank}
 use Rattle.words.proofs.Fields.{field-lt, column}
 
 -- ---- column by column
@@ -35,7 +35,7 @@ column-mixed r t w j =
     (column-op bitXor xor-shr xor-mod (bitOr w r) r j ∙ ap (λ (n : ℕ). bitXor n (columnOf r j)) (column-op bitOr or-shr or-mod w r j))
     (column-op bitAnd and-shr and-mod t r j)
 
-column-joined : (n : ℕ) (q : ℕ → ℕ) → ((j : ℕ) → q j < 256) → (j : ℕ) → j < n → columnOf (joined n q) j ≡ q j
+pub column-joined : (n : ℕ) (q : ℕ → ℕ) → ((j : ℕ) → q j < 256) → (j : ℕ) → j < n → columnOf (joined n q) j ≡ q j
 unfolding columnOf joined
 column-joined zero q w j h = absurd (not-suc-le-zero h)
 column-joined (suc n) q w zero h = rw (div-one (joined n (λ j. q (suc j)) * 256 + q 0)) (digits-mod (joined n (λ j. q (suc j))) (w 0))
@@ -75,56 +75,7 @@ word-merged n r t v ram w =
 at-place : (r s t u p q : ℕ) {l k : List ℕ} → r ≡ s → t ≡ u → p ≡ q → l ≡ k → changed (mixed r t) p l ≡ changed (mixed s u) q k
 at-place r s t u p q er et ep el = rw (er, et, ep, el)
 
--- of two words as one, the columns of each
-low-column : (x y j : ℕ) → x < 4294967296 → j < 4 → columnOf (x + 4294967296 * y) j ≡ columnOf x j
-unfolding columnOf
-low-column x y zero lx h = omega arith
-low-column x y (suc zero) lx h = omega arith
-low-column x y (suc (suc zero)) lx h = omega arith
-low-column x y (suc (suc (suc zero))) lx h = omega arith
-low-column x y (suc (suc (suc (suc j)))) lx h = absurd (omega arith)
-
-high-column : (x y j : ℕ) → x < 4294967296 → columnOf (x + 4294967296 * y) (4 + j) ≡ columnOf y j
-unfolding columnOf
-high-column x y j lx =
-    let n : ℕ = x + 4294967296 * y in
-    let e : n / 4294967296 ≡ y = omega arith in
-    ap (λ (k : ℕ). k % 256) (ap (λ (k : ℕ). n / 2 ^ k) {x = 8 * (4 + j)} {y = 32 + 8 * j} (omega arith) ∙ sym (shr-shr n 32 (8 * j)) ∙ ap (λ (k : ℕ). k / 2 ^ (8 * j)) e)
-
--- a word stored as its two halves
-low-half : (w j : ℕ) → j < 4 → columnOf (w % 4294967296) j ≡ columnOf w j
-low-half w j h =
-    let whole : w % 4294967296 + 4294967296 * (w / 4294967296) ≡ w = omega arith in
-    sym (low-column (w % 4294967296) (w / 4294967296) j (omega arith) h) ∙ ap (λ (n : ℕ). columnOf n j) whole
-
-high-half : (w j : ℕ) → j < 4 → columnOf (w / 4294967296 % 4294967296) j ≡ columnOf w (4 + j)
-high-half w j h =
-    let whole : w % 4294967296 + 4294967296 * (w / 4294967296) ≡ w = omega arith in
-    low-half (w / 4294967296) j h ∙ sym (high-column (w % 4294967296) (w / 4294967296) j (omega arith)) ∙ ap (λ (n : ℕ). columnOf n (4 + j)) whole
-
-at-set : {l k : List ℕ} (p q a b : ℕ) → p ≡ q → a ≡ b → l ≡ k → set l p a ≡ set k q b
-at-set p q a b ep ea el = rw (ep, ea, el) refl
-
-pub laid-eight : (w v : ℕ) (ram : List ℕ) → laid 4 (w / 4294967296 % 4294967296) (v + 4) (laid 4 (w % 4294967296) v ram) ≡ laid 8 w v ram
-unfolding laid
-laid-eight w v ram =
-    at-set (v + 4 + 3) (v + 7) _ _ (omega arith) (high-half w 3 (omega arith))
-    (at-set (v + 4 + 2) (v + 6) _ _ (omega arith) (high-half w 2 (omega arith))
-    (at-set (v + 4 + 1) (v + 5) _ _ (omega arith) (high-half w 1 (omega arith))
-    (at-set (v + 4 + 0) (v + 4) _ _ (omega arith) (high-half w 0 (omega arith))
-    (at-set (v + 3) (v + 3) _ _ refl (low-half w 3 (omega arith)) (at-set (v + 2) (v + 2) _ _ refl (low-half w 2 (omega arith)) (at-set (v + 1) (v + 1) _ _ refl (low-half w 1 (omega arith)) (at-set {l = ram} (v + 0) (v + 0) _ _ refl (low-half w 0 (omega arith)) refl)))))))
-
 -- eight columns are four and four
-pub eight : (v r a b : ℕ) (ram : List ℕ) → r < 4294967296 → a < 4294967296 → merged 8 (r + 4294967296 * r) (a + 4294967296 * b) v ram ≡ merged 4 r b (v + 4) (merged 4 r a v ram)
-unfolding merged
-eight v r a b ram lr la = high 3 (high 2 (high 1 (high 0 (low 3 (omega arith) (low 2 (omega arith) (low 1 (omega arith) (low 0 (omega arith) refl)))))))
-  where
-    low : (j : ℕ) → j < 4 → {l k : List ℕ} → l ≡ k → changed (mixed (columnOf (r + 4294967296 * r) j) (columnOf (a + 4294967296 * b) j)) (v + j) l ≡ changed (mixed (columnOf r j) (columnOf a j)) (v + j) k
-    low j h el = at-place _ _ _ _ _ _ (low-column r r j lr h) (low-column a b j la h) refl el
-
-    high : (j : ℕ) {l k : List ℕ} → l ≡ k → changed (mixed (columnOf (r + 4294967296 * r) (4 + j)) (columnOf (a + 4294967296 * b) (4 + j))) (v + (4 + j)) l ≡ changed (mixed (columnOf r j) (columnOf b j)) (v + 4 + j) k
-    high j el = at-place _ _ _ _ _ _ (high-column r r j lr) (high-column a b j la) (omega arith) el
-
 pub joined-eight : (q : ℕ → ℕ) → joined 4 q + 4294967296 * joined 4 (λ j. q (4 + j)) ≡ joined 8 q
 unfolding joined
 joined-eight q = omega arith
@@ -139,10 +90,11 @@ rowsThere m r bank = all 4 (λ j. eqb (columnOf (r * (1 + 3 * bank)) j) ((2 ^ m 
 abbrev pub rowsPut : ℕ → ℕ → Bool
 rowsPut m bank = all (2 ^ m) (λ f. all 16 (λ q. eqb (mixed ((2 ^ m - 1) * (1 + 3 * bank)) (5 * f) q) (withRows (2 * bank) m f q)))
 
-module _ (m r bank x v k t : ℕ) (ram before : List ℕ) (there : T (all 2 (rowsThere m r))) (puts : T (all 2 (rowsPut m))) (pm : 0 < m) (few : m ≤ 2) (pb : bank < 2) (w : Nibbles ram) (told : Spread m x k t)
+module _ (m r bank x v k t : ℕ) (ram before : List ℕ) (there : T (all 2 (rowsThere m r))) (puts : T (all 2 (rowsPut m))) (pm : 0 < m) (few : m ≤ 2) (pb : bank < 2) (w : Nibbles ram) (told : InBank m bank x k t)
     (eb : before ≡ putBits (m * k) m (2 * bank) v x ram) where
   one-column : (j q : ℕ) → j < 4 → q < 16
       → mixed (columnOf (r * (1 + 3 * bank)) j) (columnOf t j) q ≡ withRows (2 * bank) m (field x (m * (k + j)) m) q
+  unfolding mixed
   one-column j q lj lq =
       let s : ℕ = (2 ^ m - 1) * (1 + 3 * bank) in
       let f : ℕ = field x (m * (k + j)) m in
@@ -150,7 +102,8 @@ module _ (m r bank x v k t : ℕ) (ram before : List ℕ) (there : T (all 2 (row
       eqb→eq (columnOf (r * (1 + 3 * bank)) j) s (all-at 4 (λ i. eqb (columnOf (r * (1 + 3 * bank)) i) s) (all-at 2 (rowsThere m r) there bank pb) j lj) in
       let of-f : T (all 16 (λ p. eqb (mixed s (5 * f) p) (withRows (2 * bank) m f p))) =
       all-at (2 ^ m) (λ g. all 16 (λ p. eqb (mixed s (5 * g) p) (withRows (2 * bank) m g p))) (all-at 2 (rowsPut m) puts bank pb) f (field-lt x (m * (k + j)) m) in
-      ap₂ (λ (a b : ℕ). mixed a b q) er (told j lj)
+      ap (λ (a : ℕ). mixed a (columnOf t j) q) er
+      ∙ ap (bitOr (bitXor (bitOr q s) s)) (told j lj)
       ∙ eqb→eq (mixed s (5 * f) q) (withRows (2 * bank) m f q) (all-at 16 (λ p. eqb (mixed s (5 * f) p) (withRows (2 * bank) m f p)) of-f q lq)
 
   columns : (n : ℕ) → n ≤ 4 → merged n (r * (1 + 3 * bank)) t (v + k) before ≡ putBits (m * (k + n)) m (2 * bank) v x ram
@@ -172,11 +125,15 @@ module _ (m r bank x v k t : ℕ) (ram before : List ℕ) (there : T (all 2 (row
   four-columns after e = e ∙ columns 4 (le-refl 4)
 
 -- the first four columns of a byte
-pub first-four : (m r bank x v t : ℕ) (ram after : List ℕ) → T (all 2 (rowsThere m r)) → T (all 2 (rowsPut m)) → 0 < m → m ≤ 2 → bank < 2 → Nibbles ram → Spread m x 0 t
+pub first-four : (m r bank x v t : ℕ) (ram after : List ℕ) → T (all 2 (rowsThere m r)) → T (all 2 (rowsPut m)) → 0 < m → m ≤ 2 → bank < 2 → Nibbles ram → InBank m bank x 0 t
     → after ≡ merged 4 (r * (1 + 3 * bank)) t v ram → after ≡ putBits (m * 4) m (2 * bank) v x ram
 unfolding putBits
 first-four m r bank x v t ram after there puts pm few pb w told e =
     four-columns m r bank x v 0 t ram ram there puts pm few pb w told (rw (mul-zero m) refl) after (rw (add-zero v) e)
+
+-- a word that has both banks has each
+pub in-bank : (m bank x k t : ℕ) → Spread m x k t → InBank m bank x k t
+in-bank m bank x k t told j h = ap (λ (n : ℕ). bitAnd n ((2 ^ m - 1) * (1 + 3 * bank))) (told j h)
 
 -- ---- 1:3, a byte and four of them
 

@@ -1,6 +1,6 @@
 -- Several rows of a column, several bits of a byte and several columns at once: what the functions that write whole columns promise.
 -- `proofs/Fields.antt` and `proofs/Words.antt` prove them equal to the single rows and bits of `sheet`.
-use Prim.Native.Nat.{ℕ, zero, suc, _+_, _*_, _/_, _%_, _^_, _<_}
+use Prim.Native.Nat.{ℕ, zero, suc, _+_, _*_, _/_, _%_, _^_, _-_, _<_}
 use mathlib.Core.Path.{_≡_}
 use mathlib.Core.List.{List}
 use lib.Bits.{bitAnd, bitOr, bitXor}
@@ -49,3 +49,7 @@ threeRows = 0x030707
 -- four columns of a byte in a word, from its column k on, each in both banks: 5 is row 0 and row 2
 abbrev pub Spread : ℕ → ℕ → ℕ → ℕ → Type 0
 Spread m x k w = (j : ℕ) → j < 4 → columnOf w j ≡ 5 * field x (m * (k + j)) m
+
+-- the same in the rows of one bank; what the word has beside them does not matter
+abbrev pub InBank : ℕ → ℕ → ℕ → ℕ → ℕ → Type 0
+InBank m bank x k w = let rows = (2 ^ m - 1) * (1 + 3 * bank) in (j : ℕ) → j < 4 → bitAnd (columnOf w j) rows ≡ bitAnd (5 * field x (m * (k + j)) m) rows

@@ -95,18 +95,12 @@ fn double(low: u32, high: u32) -> u64
     low as u64 + 4294967296 * (high as u64)
 }
 
-// Eight columns at once, of which a is the word of the first four and b that of the others. The two words become one.
-pub fn put_eight(ram: &mut [u8], at: usize, rows: u32, a: u32, b: u32)
+// Eight columns as a word.
+pub fn eight_columns(ram: &[u8], at: usize) -> u64
     requires { ⌜ at + 8 ≤ length (now ram) ⌝ }
-    ensures { λ _. ⌜ now (ram .exit) ≡ merged 4 rows b (at + 4) (merged 4 rows a at (now (ram .entry))) ⌝ }
+    ensures { λ r. ⌜ r ≡ joined 8 (λ j. getD (now (ram .entry)) (at + j) 0) ⌝ }
 {
-    let old = double(four_columns(ram, at), four_columns(ram, at + 4));
-    let both = double(rows, rows);
-    let t = double(a, b);
-    let kept = (old | both) ^ both;
-    let w = kept | (t & both);
-    store_four(ram, at, (w % 4294967296) as u32);
-    store_four(ram, at + 4, (w / 4294967296 % 4294967296) as u32);
+    double(four_columns(ram, at), four_columns(ram, at + 4))
 }
 
 // 1:3: the words of four bytes, three columns each, as three words of four.

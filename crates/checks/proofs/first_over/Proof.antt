@@ -1,43 +1,43 @@
--- `checks::first_over` meets its contract: where the highest column is at most 15, none is over; else there is a first.
+-- `checks::first_over` meets its contract: where no column is over 15, the check passes; else the search tells.
 -- Assumes nothing.
-use mathlib.Core.Path.{_≡_, refl, sym, ap, _∙_}
+use mathlib.Core.Path.{_≡_, refl, sym, ap, ap₂, _∙_}
 use mathlib.Core.Bool.{Bool, true, false, cond}
 use mathlib.Core.List.{List, [], _∷_}
-use Prim.Native.Nat.{ℕ, suc, _+_, _≤_, _<_}
-use native.Mathlib.Nat.{add-zero}
+use Prim.Native.Nat.{ℕ, suc, _+_}
+use native.Mathlib.Nat.{add-zero, zero-add}
 use native.Mathlib.Omega.{arith}
-use borrow.Author.Tests.{le-ltb, ltb-false}
-use lib.Dec.{ltb}
+use lib.Dec.{ltb, leb, leb·suc-zero, leb·suc-suc}
+use lib.ListN.{length}
 use denote.Ref.{now}
 use Rattle.sheet.specs.declared.Refusal.the-variants.{RamByte}
-use Rattle.sheet.specs.declared.Check.the-variants.{Passed, Refused}
-use Rattle.sheet.specs.Checks.{overIn}
-use Rattle.checks.specs.Highest.{highestOf, firstOver}
+use Rattle.sheet.specs.declared.Check.the-variants.{Refused}
+use Rattle.sheet.specs.Checks.{unless, overIn}
+use Rattle.laws.proofs.Nibbles.{check-nibbles}
+use Rattle.checks.specs.Highest.{firstOver}
 use borrow.Author.Needs.{needs}
 use Rattle.checks.proofs.first_over.Statement.{statement}
 use Rattle.checks.proofs.first_over.Tie as tie
 
-none-over : (i : ℕ) (l : List ℕ) → highestOf l ≤ 15 → overIn i l ≡ Passed
-unfolding highestOf overIn
-none-over i [] h = refl
-none-over i (q ∷ qs) h = rw (le-ltb 15 q (omega arith)) (none-over (suc i) qs (omega arith))
-
-some-over : (i : ℕ) (l : List ℕ) → 15 < highestOf l → Refused (RamByte (i + firstOver l)) ≡ overIn i l
-unfolding highestOf firstOver overIn
-some-over i [] h = absurd (omega arith)
-some-over i (q ∷ qs) h = by-column (ltb 15 q) refl (λ e. some-over (suc i) qs (omega (arith, ltb-false 15 q e)))
+-- the place that the search finds is a column's, or past the last
+found : (i : ℕ) (l : List ℕ) → unless (leb (length l) (firstOver l)) (RamByte (i + firstOver l)) ≡ overIn i l
+unfolding firstOver overIn
+found i [] = refl
+found i (q ∷ qs) = by-column (ltb 15 q) (found (suc i) qs)
   where
-    by-column : (over : Bool) → ltb 15 q ≡ over → (ltb 15 q ≡ false → Refused (RamByte (suc i + firstOver qs)) ≡ overIn (suc i) qs)
-        → Refused (RamByte (i + cond over 0 (suc (firstOver qs)))) ≡ cond over (Refused (RamByte i)) (overIn (suc i) qs)
-    by-column true e later = ap (λ (k : ℕ). Refused (RamByte k)) (add-zero i)
-    by-column false e later = ap (λ (k : ℕ). Refused (RamByte k)) (omega arith) ∙ later e
+    by-column : (over : Bool) → unless (leb (length qs) (firstOver qs)) (RamByte (suc i + firstOver qs)) ≡ overIn (suc i) qs
+        → unless (leb (suc (length qs)) (cond over 0 (suc (firstOver qs)))) (RamByte (i + cond over 0 (suc (firstOver qs)))) ≡ cond over (Refused (RamByte i)) (overIn (suc i) qs)
+    by-column true later = ap₂ (λ (past : Bool) (k : ℕ). unless past (RamByte k)) (leb·suc-zero (length qs)) (add-zero i)
+    by-column false later =
+        let next : i + suc (firstOver qs) ≡ suc i + firstOver qs = omega arith in
+        ap₂ (λ (past : Bool) (k : ℕ). unless past (RamByte k)) (leb·suc-suc (length qs) (firstOver qs)) next ∙ later
 
 returns : tie.Need-returns
-returns c = sym (none-over 0 (now (c .before .before .before .args .columns)) (omega (arith, c .before .highest .ensures, c .if1 .taken)))
+returns c = let l = now (c .before .before .before .args .columns) in sym (check-nibbles 0 l (c .before .words-low .ensures .0 (c .if1 .taken)))
 
 returns-2 : tie.Need-returns-2
-returns-2 c = let l = now (c .before .before .before .before .args .columns) in
-    ap (λ (k : ℕ). Refused (RamByte k)) {y = 0 + firstOver l} (omega (arith, c .search-over .ensures)) ∙ some-over 0 l (omega (arith, c .before .before .highest .ensures, c .before .if1 .left))
+returns-2 c = let l = now (c .before .before .before .before .before .args .columns) in
+    let at = c .before .search-over .ensures in
+    c .unless .ensures ∙ ap (λ (k : ℕ). unless (leb (length l) k) (RamByte k)) at ∙ ap (λ (k : ℕ). unless (leb (length l) (firstOver l)) (RamByte k)) (sym (zero-add (firstOver l))) ∙ found 0 l
 
 pub first-over-spec : {M : Type 1} → statement M
-first-over-spec = tie.close (tie.spec (λ c κs. search needs) (λ c κs. search needs) returns returns-2)
+first-over-spec = tie.close (tie.spec (λ c κs. search needs) (λ c κs. search needs) (λ c κs. search needs) returns returns-2)

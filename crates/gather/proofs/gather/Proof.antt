@@ -2,9 +2,8 @@
 -- Assumes nothing.
 use mathlib.Core.Path.{_≡_, refl, sym, ap, ap₂, _∙_}
 use mathlib.Core.Logic.{_≢_}
-use Prim.Native.Nat.{ℕ, zero, suc, _+_, _*_, _/_, _%_, _≤_, _<_}
+use Prim.Native.Nat.{ℕ, zero, suc, _*_, _%_, _≤_, _<_}
 use native.Mathlib.Omega.{arith}
-use lib.Arith.{digits-mod}
 use lib.ListN.{length}
 use borrow.Author.Tests.{lt-ltb, le-ltb}
 use denote.Ref.{now}
@@ -23,11 +22,6 @@ whole (suc (suc zero)) size p l n e = omega (arith, e)
 whole (suc (suc (suc zero))) size p l n e = absurd (n refl)
 whole (suc (suc (suc (suc zero)))) size p l n e = omega (arith, e)
 whole (suc (suc (suc (suc (suc m))))) size p l n e = absurd (omega (arith, l))
-
-by-four : (size : ℕ) → size % 16 ≡ 0 → bytesFor 4 size % 4 ≡ 0
-by-four size e =
-    let half : (size + 1) / 2 ≡ size / 16 * 2 * 4 + 0 = omega (arith, e) in
-    ap (λ (n : ℕ). n % 4) half ∙ digits-mod (size / 16 * 2) (omega arith)
 
 few-banks : (m bank : ℕ) → m < 3 → 2 * bank ≡ bankRow m bank
 unfolding bankRow
@@ -51,11 +45,11 @@ three-data-requires c κs = let s = c .before .before .before .before .before in
 is-four : (c : tie.Else2) → c .before .before .before .before .args .m ≡ 4
 is-four c = let p = c .before .before .before .before .pre in omega (arith, c .if2 .left, c .before .if1 .left, p .four)
 
-word-data-requires : tie.Need-word-data-requires
-word-data-requires c κs = let s = c .before .before .before .before .before in
+four-data-requires : tie.Need-four-data-requires
+four-data-requires c κs = let s = c .before .before .before .before .before in
     let p = s .pre in
     let all : length (now (s .args .out)) ≡ bytesFor 4 (length (now (s .args .columns))) = p .all ∙ ap (λ (m : ℕ). bytesFor m (length (now (s .args .columns)))) (is-four (c .before)) in
-    record { more = omega arith; four = omega arith; words = rw all (by-four (length (now (s .args .columns))) (p .sixteen)); fit = rw all (omega (arith, p .sixteen)) }
+    rw all (omega (arith, p .sixteen))
 
 returns : tie.Need-returns
 returns c = let d = c .before .before in
@@ -73,7 +67,7 @@ returns-3 : tie.Need-returns-3
 returns-3 c = let d = c .before .before in
     let t = d .before .before in
     let a = t .before .before .before .before .args in
-    d .word-data .ensures ∙ ap₂ (λ (m b : ℕ). dataFrom (length (now (a .out))) m b (now (a .columns))) (sym (is-four t)) (no-banks (a .m) (a .bank) (omega (arith, is-four t)))
+    d .four-data .ensures ∙ ap₂ (λ (m b : ℕ). dataFrom (length (now (a .out))) m b (now (a .columns))) (sym (is-four t)) (no-banks (a .m) (a .bank) (omega (arith, is-four t)))
 
 pub gather-spec : {M : Type 1} → statement M
 gather-spec =
@@ -81,7 +75,7 @@ gather-spec =
     (tie.spec
     byte-data-requires
     three-data-requires
-    word-data-requires
+    four-data-requires
     (λ c. search needs)
     returns
     (λ c. search needs)

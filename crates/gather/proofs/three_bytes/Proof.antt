@@ -8,7 +8,7 @@ use lib.ListN.{getD}
 use denote.Ref.{now}
 use Rattle.words.specs.Fields.{joined, columnOf}
 use Rattle.gather.specs.Gathered.{side, turnedThree}
-use Rattle.gather.proofs.Bytewise.{columns-of}
+use Rattle.gather.proofs.Sides.{columns-of}
 use Rattle.gather.proofs.Exchanged.{laidOut, lastRows, three-words}
 use borrow.Author.Needs.{needs}
 use Rattle.gather.proofs.three_bytes.Statement.{statement}

@@ -31,7 +31,7 @@ front m b n columns before first h e is = record { size = refl; so-far = take-at
 -- past them the first bytes are there
 begun : (c : tie.After-word-data Inv-loop μ-loop) → let s = c .before .before .before .before in
     let n = length (now (s .args .columns)) / 12 * 4 in
-    let l = c .word-data .last .1 .1 .0 ++ drop n (now (s .args .out)) in
+    let l = c .word-data .last .1 .0 ++ drop n (now (s .args .out)) in
     Gathering 3 0 (now (s .args .columns)) l l n
 begun c = let s = c .before .before .before .before in
     let n = length (now (s .args .columns)) / 12 * 4 in
@@ -40,10 +40,10 @@ begun c = let s = c .before .before .before .before in
     front 3 0 n (now (s .args .columns)) (now (s .args .out)) _ (by-four s) (ap length is ∙ length-data n 3 0 (now (s .args .columns))) is
 
 -- as many as there were
-same : (c : tie.After-word-data Inv-loop μ-loop) → let s = c .before .before .before .before in length (c .word-data .last .1 .1 .0 ++ drop (length (now (s .args .columns)) / 12 * 4) (now (s .args .out))) ≡ length (now (s .args .out))
+same : (c : tie.After-word-data Inv-loop μ-loop) → let s = c .before .before .before .before in length (c .word-data .last .1 .0 ++ drop (length (now (s .args .columns)) / 12 * 4) (now (s .args .out))) ≡ length (now (s .args .out))
 same c = let s = c .before .before .before .before in
     let n = length (now (s .args .columns)) / 12 * 4 in
-    length-append (c .word-data .last .1 .1 .0) (drop n (now (s .args .out)))
+    length-append (c .word-data .last .1 .0) (drop n (now (s .args .out)))
     ∙ omega (arith, ap length (c .word-data .ensures) ∙ length-data _ 3 0 (now (s .args .columns)), length-take-le n (now (s .args .out)) (by-four s), length-drop n (now (s .args .out)), by-four s)
 
 -- the byte's first column is near
@@ -63,7 +63,7 @@ three-data-spec =
     (λ c. sym (length-take-le _ _ (by-four (c .before .before .before))))
     (λ c κs. let s = c .before .before .before in
     let long = length-take-le _ (now (s .args .out)) (by-four s) in
-    record { more = omega arith; four = omega arith; words = omega (arith, long); fit = omega (arith, long) })
+    record { words = omega (arith, long); fit = omega (arith, long) })
     (λ c. begun (c .before .before))
     (λ c. omega (arith, near c))
     (λ c κs. near c)

@@ -11,7 +11,7 @@ use denote.Ref.{now}
 use Rattle.words.specs.Fields.{joined}
 use Rattle.gather.specs.Gathered.{side}
 use Rattle.gather.proofs.Folds.{past-one, past-two}
-use Rattle.gather.proofs.Bytewise.{joined-alike, and-joined}
+use Rattle.words.proofs.Bytewise.{joined-alike, and-joined}
 use borrow.Author.Needs.{needs}
 use Rattle.gather.proofs.two_pairs.Statement.{statement}
 use Rattle.gather.proofs.two_pairs.Tie as tie

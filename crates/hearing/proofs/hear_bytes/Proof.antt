@@ -7,7 +7,7 @@ use lib.ListN.{length, drop, length-take, length-drop}
 use denote.Ref.{now}
 use Rattle.sheet.specs.declared.Expect.the-variants.{Control}
 use Rattle.sheet.specs.Parts.{partOf}
-use Rattle.sheet.specs.Long.{begun, heard}
+use Rattle.sheet.specs.Long.{heard}
 use Rattle.packed_sheet.specs.Packed.{columnsIn}
 use Rattle.laws.proofs.Ranges.{range-of, in-range}
 use Rattle.laws.proofs.Kept.{part-keeps}
@@ -15,17 +15,18 @@ use Rattle.laws.proofs.Named.{group-columns}
 use Rattle.laws.proofs.Nibbles.{nibbles-of, check-nibbles}
 use Rattle.laws.proofs.Packed.{columns-held, bytes-few, bytes-alike}
 use Rattle.listener.specs.declared.Listener.{Listener}
+use Rattle.opening.specs.Opened.{openedAt}
 use Rattle.listener.specs.Listeners.{groupOf, ran}
-use Rattle.hearing.proofs.Hearing.{Hearing, at-end, at-end-next, ends-in, step-turn, data-turn}
+use Rattle.hearing.proofs.Hearing.{Hearing, at-first, at-end, at-end-next, ends-in, step-turn, data-turn}
 use borrow.Author.Needs.{needs}
 use Rattle.hearing.proofs.hear_bytes.Statement.{statement}
 use Rattle.hearing.proofs.hear_bytes.Tie as tie
 
 abbrev Inv-loop : tie.InvT-loop
-Inv-loop part ram₀ packed bytes n size listener₀ i₀ ram listener i = Hearing (partOf part) (columnsIn packed ram₀) bytes (listener₀ .registers) (columnsIn packed ram) listener i
+Inv-loop part ram₀ packed bytes from n size listener₀ i₀ ram listener i = Hearing (partOf part) (columnsIn packed ram₀) bytes (listener₀ .registers) from (columnsIn packed ram) listener i
 
 abbrev μ-loop : tie.MeasureT-loop
-μ-loop part ram₀ packed bytes n size listener₀ i₀ ram listener i = length bytes - i
+μ-loop part ram₀ packed bytes from n size listener₀ i₀ ram listener i = length bytes - i
 
 ends : (c : tie.After-data-end Inv-loop μ-loop) → c .data-end .result ≤ length (now (c .before .before .before .before .before .before .before .args .bytes))
 ends c = rw (c .data-end .ensures) (ends-in (c .before .before .loop .listener .expect) (c .before .before .loop .i) (length (now (c .before .before .before .before .before .before .before .args .bytes))) (c .before .loop-test .taken) .1)
@@ -40,14 +41,8 @@ columns-held-requires c κs = let s = c .before .before in omega (arith, bytes-f
 loop-holds : tie.Need-loop-holds Inv-loop μ-loop
 loop-holds c = let s = c .before .before .before .before in
     let ram = columnsIn (s .args .packed) (now (s .args .ram)) in
-    subst (λ (l : Listener). Hearing (partOf (s .args .part)) ram (now (s .args .bytes)) (l .registers) ram l 1) (sym (c .begun .ensures))
-    (record {
-      rest = refl;
-      kept = record { range = range-of (partOf (s .args .part)) (s .args .registers) (s .pre .range); columns = refl; nibbles = nibbles-of 0 ram (s .pre .nibbles) };
-      few = record { acknowledged = omega arith; bits = omega arith };
-      then = refl;
-      most = omega arith;
-    })
+    subst (λ (l : Listener). Hearing (partOf (s .args .part)) ram (now (s .args .bytes)) (l .registers) (s .args .from) ram l (s .args .from)) (sym (c .begun .ensures))
+    (at-first (partOf (s .args .part)) ram (now (s .args .bytes)) (s .args .opened) (s .args .from) (range-of (partOf (s .args .part)) (s .args .opened) (s .pre .range)) (nibbles-of 0 ram (s .pre .nibbles)) (s .pre .place))
 
 sub-write : tie.Need-sub-write Inv-loop μ-loop
 sub-write c = omega (arith, c .before .before .if1 .taken)
@@ -95,7 +90,7 @@ loop-again c = let e = c .before .before .before .before .before .before .before
     let s = p .before .before .before .before .before in
     let w = c .before .before .before .write in
     let columns = columnsIn (s .args .packed) in
-    data-turn (partOf (s .args .part)) (part-keeps (s .args .part)) (columns (now (s .args .ram))) (now (s .args .bytes)) (p .before .begun .result .registers) (columns (p .loop .ram)) (p .loop .listener) (p .loop .i) (e .before .loop-test .taken) (p .loop .inv)
+    data-turn (partOf (s .args .part)) (part-keeps (s .args .part)) (columns (now (s .args .ram))) (now (s .args .bytes)) (p .before .begun .result .registers) (s .args .from) (columns (p .loop .ram)) (p .loop .listener) (p .loop .i) (e .before .loop-test .taken) (p .loop .inv)
     (rw (group-columns (s .args .part)) (s .pre .few)) (e .data-end .result) (e .data-end .ensures) (c .before .before .before .before .before .before .before .if1 .taken) (columns (w .last .1 .0)) (c .run .result) (w .ensures)
     (c .run .ensures ∙ ap (λ (size : ℕ). ran (partOf (s .args .part)) (p .loop .listener) (e .data-end .result - p .loop .i) size) (held (p .before .before)))
 
@@ -108,7 +103,7 @@ loop-again-2 c = let e = c .before .before .before in
     let p = e .before .before in
     let s = p .before .before .before .before .before in
     let columns = columnsIn (s .args .packed) in
-    step-turn (partOf (s .args .part)) (part-keeps (s .args .part)) (columns (now (s .args .ram))) (now (s .args .bytes)) (p .before .begun .result .registers) (columns (p .loop .ram)) (p .loop .listener) (p .loop .i) (e .before .loop-test .taken) (p .loop .inv)
+    step-turn (partOf (s .args .part)) (part-keeps (s .args .part)) (columns (now (s .args .ram))) (now (s .args .bytes)) (p .before .begun .result .registers) (s .args .from) (columns (p .loop .ram)) (p .loop .listener) (p .loop .i) (e .before .loop-test .taken) (p .loop .inv)
     (rw (← (e .data-end .ensures)) (c .before .before .if1 .left)) (c .step .result) (c .step .ensures)
 
 same-length : tie.Need-same-length Inv-loop μ-loop
@@ -120,7 +115,7 @@ returns : tie.Need-returns Inv-loop μ-loop
 returns c = let p = c .before in
     let a = p .before .before .before .before .before .args in (
       sym (at-end (partOf (a .part)) (p .loop .listener .expect) (now (a .bytes)) (p .loop .i) (c .loop-test .left) (groupOf (p .loop .listener) (columnsIn (a .packed) (p .loop .ram)))) ∙ p .loop .inv .rest
-          ∙ ap (λ (l : Listener). heard (partOf (a .part)) Control (drop 1 (now (a .bytes))) (begun (l .registers) (columnsIn (a .packed) (now (a .ram))))) (p .before .begun .ensures),
+          ∙ ap (λ (l : Listener). heard (partOf (a .part)) Control (drop (a .from) (now (a .bytes))) (openedAt (a .from) (l .registers) (columnsIn (a .packed) (now (a .ram))))) (p .before .begun .ensures),
       sym (at-end-next (p .loop .listener .expect) (now (a .bytes)) (p .loop .i) (c .loop-test .left)) ∙ p .loop .inv .then,
     )
 

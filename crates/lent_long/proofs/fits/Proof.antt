@@ -2,6 +2,8 @@
 -- Assumes nothing.
 use mathlib.Core.Path.{ap, ap₂, _∙_}
 use mathlib.Core.Bool.{_&&_}
+use mathlib.Core.List.{List}
+use Prim.Native.Nat.{ℕ}
 use native.Mathlib.Omega.{arith}
 use lib.ListN.{length-take}
 use denote.Ref.{now}
@@ -14,12 +16,9 @@ use Rattle.lent_long.proofs.fits.Statement.{statement}
 use Rattle.lent_long.proofs.fits.Tie as tie
 
 returns : tie.Need-returns
-returns c = let zero = c .before .before .before in
-    let a = zero .before .before .before .before .args in
-    let K = partOf (a .part) in
-    ap₂ _&&_
-    (zero .in-range .ensures ∙ ap (inRange K) (zero .before .registers-of .ensures))
-    (c .in-range2 .ensures ∙ ap (inRange K) (c .before .registers-of2 .ensures ∙ ap registersIn (part-rest (now (a .registers)) 12)))
+returns c = let zero = c .before .before in
+    let a = zero .before .before .before .args in
+    ap₂ _&&_ (zero .in-range .ensures) (c .in-range2 .ensures ∙ ap (λ (l : List ℕ). inRange (partOf (a .part)) (registersIn l)) (part-rest (now (a .registers)) 12))
 
 pub fits-spec : {M : Type 1} → statement M
 fits-spec =
@@ -27,10 +26,8 @@ fits-spec =
     (tie.spec
     (λ c. simp length-take (omega arith))
     (λ c κs. simp length-take (omega arith))
-    (λ c κs. search needs)
     (λ c. search needs)
     (λ c. search needs)
     (λ c. search needs)
-    (λ c κs. search needs)
     (λ c κs. search needs)
     returns)

@@ -1,6 +1,6 @@
 -- `lent_long::pictured` meets its contract: refused, or what the group shows and how many elements are lit.
 -- Assumes nothing.
-use mathlib.Core.Path.{_≡_, sym, ap, _∙_}
+use mathlib.Core.Path.{_≡_, sym, ap, ap₂, _∙_}
 use mathlib.Core.List.{List}
 use Prim.Native.Nat.{ℕ, _*_}
 use native.Mathlib.Nat.{add-sub-cancel-left}
@@ -12,13 +12,14 @@ use Rattle.sheet.specs.declared.Pictured.{Pictured}
 use Rattle.sheet.specs.declared.Check.the-variants.{Passed}
 use Rattle.sheet.specs.Parts.{partOf}
 use Rattle.sheet.specs.Registers.{registersOf}
-use Rattle.sheet.specs.Checks.{orElse, checkPart, checkPicture}
+use Rattle.sheet.specs.Protocol.{chipsIn}
+use Rattle.sheet.specs.Checks.{orElse, checkPart, checkState, checkPicture}
 use Rattle.sheet.specs.Pictures.{pictureOf, litIn}
-use Rattle.sheet.specs.Long.{columnsOf}
 use Rattle.packed_sheet.specs.Packed.{columnsIn}
 use Rattle.laws.proofs.Fits.{both-pass, picture-passed}
 use Rattle.refused.proofs.Fitted.{picture-by}
 use Rattle.long.proofs.Checked.{shown-by-check}
+use Rattle.long.proofs.Parts.{Cut, cut, showable}
 use Rattle.wire.specs.Bytes.{registersIn, bothOf}
 use Rattle.wire.proofs.Given.{own-bytes}
 use Rattle.lent_long.proofs.Sending.{shown-small}
@@ -43,6 +44,15 @@ passes : (t : tie.After-enum-told) → let s = t .before .before .before .before
     orElse (checkPart (a .bus .part)) (checkPicture (partOf (a .bus .part)) (a .bus .chips) (bothOf (now (a .registers))) (columns s) (a .group) (a .phase) (length (now (a .out)))) ≡ Passed
 passes t = sym (asked (t .before .before)) ∙ t .enum-told .given .1
 
+-- so the state is in range, and the buffer as long as the group's columns
+passed : (t : tie.After-enum-told) → let s = t .before .before .before .before .before .before .before in
+    let a = s .args in
+    let K = partOf (a .bus .part) in
+    (checkState K (a .bus .chips) (bothOf (now (a .registers))) (columns s) ≡ Passed) × (length (now (a .out)) ≡ K .columns * chipsIn (a .group) (a .bus .chips))
+passed t = let s = t .before .before .before .before .before .before .before in
+    let a = s .args in
+    picture-passed (partOf (a .bus .part)) (a .bus .chips) (bothOf (now (a .registers))) (columns s) (a .group) (a .phase) (length (now (a .out))) (both-pass (checkPart (a .bus .part)) _ (passes t) .1)
+
 -- the group is 0 or 1
 part-registers-of-end : tie.Need-part-registers-of-end
 part-registers-of-end t = let s = t .before .before .before .before .before .before .before in
@@ -58,13 +68,21 @@ own b = let t = b .before .before in
     ∙ ap (λ (n : ℕ). registersIn (take n (drop (12 * a .group) (now (a .registers))))) (add-sub-cancel-left (12 * a .group) 12)
     ∙ own-bytes (a .group) (shown-small (partOf (a .bus .part)) (a .bus .chips) (bothOf (now (a .registers))) (columns s) (a .group) (a .phase) (length (now (a .out))) (both-pass (checkPart (a .bus .part)) _ (passes t) .1)) (now (a .registers)) (s .pre)
 
-show-in-requires : tie.Need-show-in-requires
-show-in-requires c κs = let b = c .before in
-    let t = b .before .before in
+-- the group's part of the RAM is a part of it
+taken : (e : tie.After-end-in) → let t = e .before .before .before .before in
+    let a = t .before .before .before .before .before .before .before .args in
+    Cut (partOf (a .bus .part)) (a .bus .chips) (bothOf (now (a .registers))) (a .group) (a .bus .packed) (now (a .ram)) (e .before .start-in .result) (e .end-in .result)
+taken e = let t = e .before .before .before .before in
     let s = t .before .before .before .before .before .before .before in
     let a = s .args in
-    let p = picture-passed (partOf (a .bus .part)) (a .bus .chips) (bothOf (now (a .registers))) (columns s) (a .group) (a .phase) (length (now (a .out))) (both-pass (checkPart (a .bus .part)) _ (passes t) .1) in
-    (record { both = bothOf (now (a .registers)); same = sym (own b); state = p .0 }, p .1)
+    cut (a .bus .part) (a .bus .chips) (bothOf (now (a .registers))) (a .group) (a .bus .packed) (now (a .ram)) _ _ (passed t .0) (e .before .start-in .ensures) (e .end-in .ensures)
+
+show-requires : tie.Need-show-requires
+show-requires c κs = let e = c .before .before in
+    let b = e .before .before in
+    let t = b .before .before in
+    let a = t .before .before .before .before .before .before .before .args in
+    showable (a .bus .part) (a .bus .chips) (bothOf (now (a .registers))) (a .group) (a .bus .packed) (now (a .ram)) _ _ _ _ (taken e) (sym (own b)) (passed t .1)
 
 returns : tie.Need-returns
 returns c = let k = c .before .before .before in
@@ -73,12 +91,14 @@ returns c = let k = c .before .before .before in
     sym (shown-by-check (a .bus .part) (a .bus .chips) (bothOf (now (a .registers))) (columns s) (a .group) (a .phase) (now (a .out)) _ (sym (asked k) ∙ c .before .refusal .given .1))
 
 returns-2 : tie.Need-returns-2
-returns-2 c = let put = c .before .before .show-in .ensures in
-    let b = c .before .before .before .before in
+returns-2 c = let d = c .before .before in
+    let put = d .show .ensures in
+    let e = d .before .before .before in
+    let b = e .before .before in
     let t = b .before .before in
     let s = t .before .before .before .before .before .before .before in
     let a = s .args in
-    let same = ap (λ (r : Registers). pictureOf r (a .phase) (columnsOf (partOf (a .bus .part)) (a .bus .chips) (a .group) (columns s))) (own b) in
+    let same = ap₂ (λ (r : Registers) (shown : List ℕ). pictureOf r (a .phase) shown) (own b) (taken e .part) in
     let lit = put .1 ∙ ap litIn same in
     (λ j. record { result = Pictured.Lit (lit j); out = (put .0 ∙ same) j })
     ∙ sym (shown-by-check (a .bus .part) (a .bus .chips) (bothOf (now (a .registers))) (columns s) (a .group) (a .phase) (now (a .out)) _ (passes t))
@@ -97,7 +117,12 @@ pictured-spec =
     (λ c. search needs)
     part-registers-of-end
     (λ c κs. search needs)
-    show-in-requires
+    (λ c κs. search needs)
+    (λ c κs. search needs)
+    (λ c. taken c .begins)
+    (λ c. taken c .begins)
+    (λ c. taken c .ends)
+    show-requires
     returns
     (λ c. search needs)
     returns-2)

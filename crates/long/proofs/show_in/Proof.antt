@@ -1,20 +1,15 @@
 -- `long::show_in` meets its contract: the group's part of the RAM is shown.
 -- Assumes nothing.
-use mathlib.Core.Path.{_≡_, sym, ap, _∙_, subst}
+use mathlib.Core.Path.{_≡_, ap, _∙_}
 use mathlib.Core.List.{List}
 use Prim.Native.Nat.{ℕ, _-_}
-use native.Mathlib.Omega.{arith}
-use lib.ListN.{length, take, drop}
+use lib.ListN.{take, drop}
 use denote.Ref.{now}
 use Rattle.sheet.specs.Parts.{partOf}
-use Rattle.sheet.specs.Protocol.{chipsIn}
 use Rattle.sheet.specs.Pictures.{pictureOf, litIn}
 use Rattle.sheet.specs.Long.{columnsOf}
 use Rattle.packed_sheet.specs.Packed.{columnsIn}
-use Rattle.laws.proofs.Ranges.{InRange}
-use Rattle.laws.proofs.Named.{ram-small}
-use Rattle.laws.proofs.Lens.{range-of-group, few-chips-in, length-columns}
-use Rattle.long.proofs.Parts.{Cut, cut}
+use Rattle.long.proofs.Parts.{Cut, cut, showable}
 use borrow.Author.Needs.{needs}
 use Rattle.long.proofs.show_in.Statement.{statement}
 use Rattle.long.proofs.show_in.Tie as tie
@@ -30,9 +25,7 @@ show-requires : tie.Need-show-requires
 show-requires c κs = let e = c .before .before in
     let s = e .before .before .before .before in
     let a = s .args in
-    let f = taken e .fits in
-    let range = subst (InRange (partOf (a .part))) (s .pre .0 .same) (range-of-group (partOf (a .part)) (a .chips) (s .pre .0 .both) (columns s) f (a .group)) in
-    (s .pre .1 ∙ sym (ap length (taken e .part) ∙ length-columns (partOf (a .part)) (a .chips) (s .pre .0 .both) (columns s) f (a .group)), omega (arith, s .pre .1, ram-small (a .part) (chipsIn (a .group) (a .chips)) (few-chips-in (partOf (a .part)) (a .chips) (s .pre .0 .both) (columns s) f (a .group))), range .m-in, range .o-in)
+    showable (a .part) (a .chips) (s .pre .0 .both) (a .group) (a .packed) (now (a .ram)) _ _ (a .shown) _ (taken e) (s .pre .0 .same) (s .pre .1)
 
 same : (e : tie.After-end-in) → let s = e .before .before .before .before in
     let a = s .args in

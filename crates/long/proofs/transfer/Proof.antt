@@ -10,6 +10,7 @@ use Rattle.sheet.specs.Long.{taken, transferPart}
 use Rattle.packed_sheet.specs.Packed.{columnsIn}
 use Rattle.laws.proofs.Numbered.{numbered}
 use Rattle.laws.proofs.Fits.{both-pass, transfer-passed}
+use Rattle.opening.proofs.Openings.{hearer-some}
 use Rattle.long.proofs.Checked.{by-check}
 use borrow.Author.Needs.{needs}
 use Rattle.long.proofs.transfer.Statement.{statement}
@@ -26,11 +27,12 @@ enum-told : tie.Need-enum-told
 enum-told c = search needs
 
 deliver-requires : tie.Need-deliver-requires
-deliver-requires c κs = let t = c .before .before .before .before .before .before in
+deliver-requires c κs = let h = c .before .before .before .before in
+    let t = c .before .before .before .before .before .before in
     let a = t .before .before .before .before .before .before .args in
     let e = both-pass (checkPart (a .part)) _ (sym (t .before .before .check-transfer .ensures) ∙ t .enum-told .given .1) .1 in
     let p = transfer-passed (partOf (a .part)) (a .chips) (a .registers) (columnsIn (a .packed) (now (a .ram))) (sent (now (a .bytes)) (a .bits)) e in
-    (p .0, p .1 .1)
+    (p .0, p .1 .1, hearer-some (a .chips) (sent (now (a .bytes)) (a .bits)) _ (sym (h .heard-by .ensures ∙ ap (heardBy (a .chips)) (h .before .address-byte .ensures)) ∙ c .before .before .group .given .1))
 
 returns : tie.Need-returns
 returns c = let a = c .before .before .before .before .before .before .before .args in
@@ -41,7 +43,7 @@ returns-2 c = numbered _ (c .before .before .deliver .ensures ∙ sym (takes (c 
 
 returns-3 : tie.Need-returns-3
 returns-3 c = let a = c .before .before .before .before .before .before .before .before .before .before .before .args in
-    numbered _ ((λ j. record { result = record { answer = c .unheard .ensures j; registers = a .registers }; ram = columnsIn (a .packed) (now (a .ram)) }) ∙ sym (takes (c .before .before .before) _ (c .before .enum-told2 .given .1)))
+    numbered _ ((λ j. record { result = record { answer = c .without-data .ensures j; registers = a .registers }; ram = columnsIn (a .packed) (now (a .ram)) }) ∙ sym (takes (c .before .before .before) _ (c .before .enum-told2 .given .1)))
 
 pub transfer-spec : {M : Type 1} → statement M
 transfer-spec =

@@ -46,23 +46,22 @@ ends k = let s = k .before .before .before in
     let most : s .args .v + k .width .result * length (now (s .args .bytes)) ≤ 2 * length (now (s .args .ram)) = omega (arith, fit k, inside s) in
     omega (arith, most, column-before (s .args .v) (s .pre .2))
 
-even-run-requires : tie.Need-even-run-requires
-even-run-requires c κs = let s = c .before .before .before .before .before .before in
+shifted-run-requires : tie.Need-shifted-run-requires
+shifted-run-requires c κs = let s = c .before .before .before .before .before .before in
     let h = s .pre .0 in (
       record { some = h .some; four = h .four; two = h .two; fit = omega (arith, h .fit, column-before (s .args .v) (s .pre .2)); nibbles = h .nibbles },
       s .pre .1,
-      omega (arith, h .four),
     )
 
 -- the stream leaves the RAM as long as it was
-long : (k : tie.After-even-run) → length (k .even-run .last .0) ≡ length (now (k .before .before .before .before .before .before .before .args .ram))
+long : (k : tie.After-shifted-run) → length (k .shifted-run .last .0) ≡ length (now (k .before .before .before .before .before .before .before .args .ram))
 long k = let a = k .before .before .before .before .before .before .before .args in
     let p = k .before .before .ending-in .result in
     omega (
       arith,
-      length-unpacked (k .even-run .last .0),
+      length-unpacked (k .shifted-run .last .0),
       length-unpacked (now (a .ram)),
-      ap length (k .even-run .ensures),
+      ap length (k .shifted-run .ensures),
       length-run (a .m) (bankRow (a .m) (a .bank)) (2 * (a .v / 2)) (stream (a .m) p (now (a .bytes))) (unpacked (now (a .ram))),
     )
 
@@ -107,8 +106,8 @@ returns c = let f = c .before .before in
     let kept : changed (ending m b p) (2 * at) ram ≡ ram =
     changed-alike (ending m b p) (λ i. i) (2 * at) ram (ap (ending m b p) (even-column at (now (a .ram))) ∙ g .ending-in .ensures ∙ sym (even-column at (now (a .ram)))) ∙ unchanged (2 * at) ram in
     f .put-columns .ensures
-    ∙ ap (λ (d : ℕ). placed 1 (r .rows-of .result / 2 ^ (4 * d)) (q .columns-of .result / 2 ^ (4 * d)) (a .v - 1 + w .width .result * n) (unpacked (k .even-run .last .0))) {x = w .width .result - 1} {y = 7 / m} (omega (arith, w .width .ensures))
-    ∙ ap₂ (λ (i : ℕ) (l : List ℕ). placed 1 (r .rows-of .result / 2 ^ (4 * (7 / m))) (q .columns-of .result / 2 ^ (4 * (7 / m))) i l) column (k .even-run .ensures)
+    ∙ ap (λ (d : ℕ). placed 1 (r .rows-of .result / 2 ^ (4 * d)) (q .columns-of .result / 2 ^ (4 * d)) (a .v - 1 + w .width .result * n) (unpacked (k .shifted-run .last .0))) {x = w .width .result - 1} {y = 7 / m} (omega (arith, w .width .ensures))
+    ∙ ap₂ (λ (i : ℕ) (l : List ℕ). placed 1 (r .rows-of .result / 2 ^ (4 * (7 / m))) (q .columns-of .result / 2 ^ (4 * (7 / m))) i l) column (k .shifted-run .ensures)
     ∙ last-put m (a .bank) (getD bytes (n - 1) 0) (2 * at + widthOf m * n) (r .rows-of .result) (q .columns-of .result) after (h .four) (h .two) whole
     (run-nibbles m b (2 * at) (stream m p bytes) ram (h .some) rows (nibbles-of 0 ram (h .nibbles))) (r .rows-of .ensures) (q .columns-of .ensures)
     ∙ ap (λ (x : ℕ). changed (ending m b x) (2 * at + widthOf m * n) after) last
@@ -122,7 +121,7 @@ odd-run-spec =
     (λ c κs. search needs)
     (λ c. let s = c .before .before .before .before in omega (arith, inside s, div-add-mod' (s .args .v) 2))
     (λ c κs. search needs)
-    even-run-requires
+    shifted-run-requires
     (λ c. search needs)
     (λ c. search needs)
     (λ c κs. search needs)

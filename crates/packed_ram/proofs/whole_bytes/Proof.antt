@@ -30,7 +30,7 @@ even-run-requires : tie.Need-even-run-requires
 even-run-requires c κs = let t = c .before in
     let s = t .before .before .before .before in
     let h = s .pre .0 in
-    (record { some = h .some; four = h .four; two = h .two; fit = omega (arith, h .fit, even (s .args .v) (t .if2 .taken)); nibbles = h .nibbles }, t .before .if1 .left, omega arith)
+    (record { some = h .some; four = h .four; two = h .two; fit = omega (arith, h .fit, even (s .args .v) (t .if2 .taken)); nibbles = h .nibbles }, t .before .if1 .left)
 
 returns : tie.Need-returns
 unfolding bankRow

@@ -19,13 +19,13 @@ use Rattle.price.proofs.put_bytes.Statement.{statement}
 use Rattle.price.proofs.put_bytes.Tie as tie
 
 abbrev Inv-loop : tie.InvT-loop
-Inv-loop mode text out₀ bytes place₀ i₀ out place i = Spelling mode text (length out₀) place i out
+Inv-loop mode text out₀ bytes place₀ i₀ out place i = Spelling mode text out₀ place i out
 
 abbrev μ-loop : tie.MeasureT-loop
 μ-loop mode text out₀ bytes place₀ i₀ out place i = length text - i
 
 loop-holds : tie.Need-loop-holds Inv-loop μ-loop
-loop-holds c = record { front = record { same = refl; inside = omega arith }; fault = refl; few = omega arith; kept = refl }
+loop-holds c = record { front = record { same = refl; inside = omega arith }; fault = refl; few = (omega arith, omega arith); kept = refl; stays = refl }
 
 -- what is found at i
 found : (c : tie.After-symbol Inv-loop μ-loop) → let b = c .before .before in
@@ -44,10 +44,8 @@ byte c = let s = c .before .before in
     c .byte-of .ensures ∙ ap (λ (l : Bytes). byteBy l (s .symbol .given .0 .0)) (b .bytes-of .ensures) ∙ byte-is _ (b .before .before .before .pre .four) _ (is-symbol s)
 
 -- there is room for it
-room : (c : tie.In-loop Inv-loop μ-loop) → let p = c .before in p .loop .place < length (now (p .before .before .before .before .args .out))
-room c = let p = c .before in
-    let s = p .before .before .before .before in
-    omega (arith, p .loop .inv .few, c .loop-test .taken, s .pre .bytes, s .pre .enough)
+room : (c : tie.In-loop Inv-loop μ-loop) → c .before .loop .place < 80
+room c = let p = c .before in omega (arith, p .loop .inv .few .0, c .loop-test .taken, p .before .before .before .before .pre .bytes)
 
 loop-less : tie.Need-loop-less Inv-loop μ-loop
 loop-less c = let s = c .before .before .before in
@@ -56,7 +54,7 @@ loop-less c = let s = c .before .before .before in
 loop-again : tie.Need-loop-again Inv-loop μ-loop
 loop-again c = let s = c .before .before .before in
     let l = s .before .before .before in
-    spell-turn (s .symbol .given .0 .0) (c .before .byte-of .result) (c .text-size .result) (l .loop-test .taken) (room l) (found s) (byte (c .before)) (c .text-size .ensures .0) (l .before .loop .inv)
+    spell-turn (s .symbol .given .0 .0) (c .before .byte-of .result) (c .text-size .result) (l .loop-test .taken) (room l) (l .before .before .before .before .before .pre .enough) (found s) (byte (c .before)) (c .text-size .ensures .0) (l .before .loop .inv)
 
 returns : tie.Need-returns Inv-loop μ-loop
 returns c = let b = c .before .before in
@@ -69,6 +67,6 @@ pub put-bytes-spec : {M : Type 1} → statement M
 put-bytes-spec =
     tie.close
     (tie.spec
-    Inv-loop μ-loop (λ c κs. search needs) loop-holds (λ c κs. search needs) (λ c. search needs) (λ c κs. is-symbol (c .before))
-    (λ c. let l = c .before .before .before .before .before in omega (arith, room l, l .before .loop .inv .kept)) (λ c. search needs) (λ c κs. search needs) (λ c. search needs)
+    Inv-loop μ-loop (λ c κs. search needs) loop-holds (λ c κs. search needs) (λ c. search needs) (λ c κs. search needs)
+    (λ c. let l = c .before .before .before .before .before in omega (arith, room l, l .before .loop .inv .kept, l .before .before .before .before .before .pre .enough)) (λ c. search needs) (λ c κs. search needs) (λ c. search needs)
     loop-less loop-again (λ c. search needs) (λ c. c .before .before .before .before .loop .inv .kept) returns (λ c. c .before .loop .inv .kept) returns-2)

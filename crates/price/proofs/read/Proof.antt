@@ -1,32 +1,50 @@
 -- `price::read` meets its contract: refused by its sizes, by 15, or the text.
 -- Assumes nothing.
-use mathlib.Core.Path.{_≡_, _∙_}
+use mathlib.Core.Path.{ap, _∙_}
+use mathlib.Core.List.{List}
+use Prim.Native.Nat.{ℕ}
+use native.Mathlib.Omega.{arith}
 use lib.ListN.{length}
+use lib.Seq.{length-take-le}
 use denote.Ref.{now}
 use borrow.Author.Needs.{needs}
-use Rattle.price_sheet.specs.Price.{readFrom, priceRead}
+use Rattle.price_sheet.specs.Price.{readFrom, Sizes, priceRead}
 use Rattle.laws.proofs.Written.{numbered}
-use Rattle.laws.proofs.Spelling.{texts-fit}
-use Rattle.price.proofs.Calls.{refused, taken, fits-own, keeps}
+use Rattle.price.specs.Fronts.{settled}
+use Rattle.price.proofs.Calls.{refused, fits, taken}
 use Rattle.price.proofs.read.Statement.{statement}
 use Rattle.price.proofs.read.Tie as tie
 
-own : (c : tie.After-no-text) → length (c .no-text .result) ≡ 160
-own c = search needs
+-- what has passed the sizes
+passed : (c : tie.After-enum-told) → let a = c .before .before .before .before .before .args in Sizes (length (now (a .segments))) (a .mode) 160 (length (now (a .out)))
+passed c = let k = c .before .before in fits _ _ _ (now (k .before .before .before .args .out)) _ (k .check-sizes .ensures) (c .enum-told .given .1)
+
+settled-requires : tie.Need-settled-requires
+settled-requires c κs = let put = c .before .before .before .before in
+    let b = put .before .before .before in
+    let e = b .before .before in
+    let out = now (e .before .before .before .before .before .args .out) in
+    omega (arith, ap length (b .text-before .ensures), length-take-le 160 out (passed e .enough), put .put-texts .kept .1 .1 .1 .0, passed e .enough)
+
+returns : tie.Need-returns
+unfolding priceRead
+returns c = let k = c .before .before .before in
+    let a = k .before .before .before .args in
+    numbered (refused _ _ _ (now (a .out)) _ (k .check-sizes .ensures) (readFrom (a .mode) 0 (now (a .segments))) _ _ (c .before .refusal .given .1))
+
+returns-2 : tie.Need-returns-2
+unfolding priceRead
+returns-2 c = let s = c .before .before in
+    let put = s .before .before .before .before .before in
+    let b = put .before .before .before in
+    let e = b .before .before in
+    let k = e .before .before in
+    numbered
+    (s .settled .ensures ∙ ap (λ (front : List ℕ). settled (put .put-texts .result) front (put .put-texts .last .1 .1 .1 .0)) (b .text-before .ensures)
+    ∙ taken _ _ _ (now (k .before .before .before .args .out)) _ (k .check-sizes .ensures) (e .enum-told .given .1) (put .put-texts .ensures))
 
 pub read-spec : {M : Type 1} → statement M
-unfolding priceRead
 read-spec =
     tie.close
     (tie.spec
-    (λ c κs. search needs)
-    (λ c κs. search needs)
-    (λ c. search needs)
-    (λ c. search needs)
-    (λ c. search needs)
-    (λ c κs. let k = c .before .before .before in fits-own _ _ _ (now (k .before .before .before .before .args .out)) _ (k .check-sizes .ensures) _ (own (k .before)) (c .before .enum-told .given .1))
-    (λ c. search needs)
-    (λ c κs. let q = c .before .before .before in let k = q .before .before .before .before in let a = k .before .before .before .before .args in keeps _ _ _ (now (a .out)) _ (k .check-sizes .ensures) (texts-fit (a .mode) (now (a .segments))) (q .put-texts .kept .1 .1 .0 ∙ own (k .before)) (q .before .before .enum-told .given .1) (q .put-texts .ensures))
-    (λ c. let k = c .before .before .before in numbered (refused _ _ _ (now (k .before .before .before .before .args .out)) _ (k .check-sizes .ensures) (readFrom (k .before .before .before .before .args .mode) 0 (now (k .before .before .before .before .args .segments))) _ _ (c .before .refusal .given .1)))
-    (λ c. search needs)
-    (λ c. let q = c .before .before .before .before .before .before in let k = q .before .before .before .before in numbered (c .before .before .keep .ensures ∙ taken _ _ _ (now (k .before .before .before .before .args .out)) _ (k .check-sizes .ensures) (q .before .before .enum-told .given .1) (q .put-texts .ensures))))
+    (λ c κs. search needs) (λ c. search needs) (λ c. search needs) (λ c κs. passed (c .before) .enough) (λ c. search needs) (λ c κs. (passed (c .before .before .before .before), c .before .before .text-before .ensures)) (λ c. search needs) settled-requires returns (λ c. search needs) returns-2)

@@ -16,10 +16,10 @@ use Rattle.protocol.proofs.fault_in.Statement.{statement}
 use Rattle.protocol.proofs.fault_in.Tie as tie
 
 abbrev Inv-loop : tie.InvT-loop
-Inv-loop part cut bytes expect₀ marks₀ i₀ expect marks i = faultIn (partOf part) cut marks expect i (drop i bytes) ≡ faultIn (partOf part) cut marks₀ Expect.Control 1 (drop 1 bytes)
+Inv-loop part cut bytes from expect₀ marks₀ i₀ expect marks i = faultIn (partOf part) cut marks expect i (drop i bytes) ≡ faultIn (partOf part) cut marks₀ Expect.Control from (drop from bytes)
 
 abbrev μ-loop : tie.MeasureT-loop
-μ-loop part cut bytes expect₀ marks₀ i₀ expect marks i = length bytes - i
+μ-loop part cut bytes from expect₀ marks₀ i₀ expect marks i = length bytes - i
 
 loop-holds : tie.Need-loop-holds Inv-loop μ-loop
 loop-holds c = refl
@@ -34,7 +34,7 @@ returns c = let f = c .before .before .before in
 goes-on : (c : tie.After-follow Inv-loop μ-loop) → let p = c .before .before .before .before .before .before .before in
     let a = p .before .before .args in
     let bytes = now (a .bytes) in
-    faultIn (partOf (a .part)) (a .cut) (c .before .marks-after .result) (c .follow .result) (p .loop .i + 1) (drop (p .loop .i + 1) bytes) ≡ faultIn (partOf (a .part)) (a .cut) (a .initial) Expect.Control 1 (drop 1 bytes)
+    faultIn (partOf (a .part)) (a .cut) (c .before .marks-after .result) (c .follow .result) (p .loop .i + 1) (drop (p .loop .i + 1) bytes) ≡ faultIn (partOf (a .part)) (a .cut) (a .initial) Expect.Control (a .from) (drop (a .from) bytes)
 goes-on c = let f = c .before .before .before .before in
     let p = f .before .before .before in
     let a = p .before .before .args in

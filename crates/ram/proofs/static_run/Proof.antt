@@ -1,66 +1,64 @@
--- `ram::static_run` meets its contract: after i turns the first i bytes are written, each as its two nibbles.
+-- `ram::static_run` meets its contract: after i turns the first i bytes are written, each as its first four columns and its last.
 -- Assumes nothing.
-use mathlib.Core.Path.{refl, ap, _∙_}
-use mathlib.Core.List.{List, [], _∷_}
-use Prim.Native.Nat.{ℕ, _+_, _-_, _*_, _/_, _%_, _<_}
+use mathlib.Core.Path.{ap, ap₂, _∙_}
+use mathlib.Core.Bool.{Bool}
+use Prim.Native.Nat.{ℕ, _+_, _-_, _*_, _^_, _<_}
 use native.Mathlib.Omega.{arith}
+use lib.Bits.{bitAnd}
+use lib.Dec.{T, eqb, eqb→eq}
 use lib.ListN.{length, getD}
 use denote.Ref.{now}
-use Rattle.lemmas.proofs.Tests.{all-at}
-use Rattle.words.specs.Fields.{withRows, field, columnOf, mixed, merged, Spread}
-use Rattle.words.proofs.Words.{first-four, four-columns, isSpread, tested}
+use Rattle.lemmas.proofs.Tests.{all, all-at}
+use Rattle.words.specs.Fields.{withRows, field, columnOf, mixed, merged, InBank}
+use Rattle.words.proofs.Words.{first-four, four-columns}
+use Rattle.ram.specs.Tables.{staticColumns}
 use Rattle.ram.proofs.Runs.{Running, begun, turn, done, small}
 use borrow.Author.Needs.{needs}
 use Rattle.ram.proofs.static_run.Statement.{statement}
 use Rattle.ram.proofs.static_run.Tie as tie
 
-unfoldable table : List ℕ
-table =
-    0x00000000 ∷ 0x05000000 ∷ 0x00050000 ∷ 0x05050000 ∷ 0x00000500 ∷ 0x05000500 ∷ 0x00050500 ∷ 0x05050500
-    ∷ 0x00000005 ∷ 0x05000005 ∷ 0x00050005 ∷ 0x05050005 ∷ 0x00000505 ∷ 0x05000505 ∷ 0x00050505 ∷ 0x05050505 ∷ []
+-- four columns of a byte from its column k on, in a bank, as a test that computes
+abbrev isShown : ℕ → ℕ → ℕ → ℕ → Bool
+isShown masks k bank x =
+    all 4 (λ j. eqb (bitAnd (columnOf (staticColumns x masks (7 - 2 * bank)) j) ((2 ^ 1 - 1) * (1 + 3 * bank))) (bitAnd (5 * field x (1 * (k + j)) 1) ((2 ^ 1 - 1) * (1 + 3 * bank))))
 
-high-spread : (x : ℕ) → x < 256 → Spread 1 x 0 (getD table (x / 16) 0)
-unfolding table field columnOf
-high-spread x h = tested 1 x 0 (getD table (x / 16) 0) (all-at 256 (λ n. isSpread 1 n 0 (getD table (n / 16) 0)) tt x h)
+shown : (masks k bank x : ℕ) → T (all 2 (λ b. all 256 (isShown masks k b))) → bank < 2 → x < 256 → InBank 1 bank x k (staticColumns x masks (7 - 2 * bank))
+shown masks k bank x ok lb lx j h =
+    eqb→eq _ _ (all-at 4 (λ i. eqb (bitAnd (columnOf (staticColumns x masks (7 - 2 * bank)) i) ((2 ^ 1 - 1) * (1 + 3 * bank))) (bitAnd (5 * field x (1 * (k + i)) 1) ((2 ^ 1 - 1) * (1 + 3 * bank)))) (all-at 256 (isShown masks k bank) (all-at 2 (λ b. all 256 (isShown masks k b)) ok bank lb) x lx) j h)
 
-low-spread : (x : ℕ) → x < 256 → Spread 1 x 4 (getD table (x % 16) 0)
-unfolding table field columnOf
-low-spread x h = tested 1 x 4 (getD table (x % 16) 0) (all-at 256 (λ n. isSpread 1 n 4 (getD table (n % 16) 0)) tt x h)
+first-shown : (bank x : ℕ) → bank < 2 → x < 256 → InBank 1 bank x 0 (staticColumns x 0x10204080 (7 - 2 * bank))
+unfolding staticColumns field columnOf
+first-shown bank x lb lx = shown 0x10204080 0 bank x tt lb lx
+
+last-shown : (bank x : ℕ) → bank < 2 → x < 256 → InBank 1 bank x 4 (staticColumns x 0x01020408 (7 - 2 * bank))
+unfolding staticColumns field columnOf
+last-shown bank x lb lx = shown 0x01020408 4 bank x tt lb lx
 
 abbrev Inv-loop : tie.InvT-loop
-Inv-loop ram₀ v bank bytes tbl rows i₀ ram i = Running 1 (2 * bank) v bytes ram₀ ram i
+Inv-loop ram₀ v bank bytes rows shift i₀ ram i = Running 1 (2 * bank) v bytes ram₀ ram i
 
 abbrev μ-loop : tie.MeasureT-loop
-μ-loop ram₀ v bank bytes tbl rows i₀ ram i = length bytes - i
-
-cast-high : tie.Need-cast-high Inv-loop μ-loop
-cast-high c = omega (arith, c .shared-slice-known2 .given (c .before .before .loop .i))
-
-cast-low : tie.Need-cast-low Inv-loop μ-loop
-cast-low c = omega (arith, c .shared-slice-known3 .given (c .before .before .before .loop .i))
-
--- the byte is one, so that its halves are below 16
-known-byte : (c : tie.After-put-eight-arg Inv-loop μ-loop) → let p = c .before .before .before .before in getD (now (p .before .before .before .before .args .bytes)) (p .loop .i) 0 < 256
-known-byte c = c .before .shared-slice-known3 .given (c .before .before .before .before .loop .i) .fits
+μ-loop ram₀ v bank bytes rows shift i₀ ram i = length bytes - i
 
 loop-again : tie.Need-loop-again Inv-loop μ-loop
-unfolding table withRows columnOf mixed
-loop-again c = let put = c .before .before in
-    let l = put .before .before .before .before in
-    let p = l .before in
-    let s = p .before .before .before .before in
+unfolding withRows columnOf mixed
+loop-again c = let p = c .before .before .before .before .before .before .before .before .before .before .before .before in
+    let s = p .before .before .before .before .before in
     let a = s .args in
     let i = p .loop .i in
     let x = getD (now (a .bytes)) i 0 in
     let at = a .v + 8 * i in
-    let small-x : x < 256 = known-byte (put .before) in
+    let byte = p .before .before .before .shared-slice-known .given i .fits in
+    let bank = p .before .before .wide .ensures .0 in
+    let moved = p .before .wide2 .ensures .0 in
     let w = small (omega arith) (omega arith) (s .pre .2) (p .loop .inv) in
-    let first = first-four 1 16843009 (a .bank) x at (getD table (x / 16) 0) (p .loop .ram) _ tt tt (omega arith) (omega arith) (s .pre .0) w (high-spread x small-x) refl in
-    let in-bank = ap
-    (λ (k : ℕ). merged 4 (16843009 * (1 + 3 * k)) (getD table (x % 16) 0) (at + 4) (merged 4 (16843009 * (1 + 3 * k)) (getD table (x / 16) 0) at (p .loop .ram)))
-    (p .before .wide .ensures .0) in
-    turn (l .loop-test .taken)
-    (four-columns 1 16843009 (a .bank) x at 4 (getD table (x % 16) 0) (p .loop .ram) _ tt tt (omega arith) (omega arith) (s .pre .0) w (low-spread x small-x) first (put .put-eight .last .0) (put .put-eight .ensures ∙ in-bank))
+    let one = c .before .before .before .before .before .before .before .before .static-columns .ensures ∙ ap (λ (k : ℕ). staticColumns x 0x10204080 (7 - 2 * k)) moved in
+    let two = c .before .before .before .static-columns2 .ensures ∙ ap (λ (k : ℕ). staticColumns x 0x01020408 (7 - 2 * k)) moved in
+    let first = first-four 1 16843009 (a .bank) x at (staticColumns x 0x10204080 (7 - 2 * a .bank)) (p .loop .ram) _ tt tt (omega arith) (omega arith) (s .pre .0) w (first-shown (a .bank) x (s .pre .0) byte)
+    (c .before .before .before .before .before .before .before .put-four .ensures ∙ ap₂ (λ (k t : ℕ). merged 4 (16843009 * (1 + 3 * k)) t at (p .loop .ram)) bank one) in
+    turn (c .before .before .before .before .before .before .before .before .before .before .before .loop-test .taken)
+    (four-columns 1 16843009 (a .bank) x at 4 (staticColumns x 0x01020408 (7 - 2 * a .bank)) (p .loop .ram) _ tt tt (omega arith) (omega arith) (s .pre .0) w (last-shown (a .bank) x (s .pre .0) byte) first (c .before .before .put-four2 .last .0)
+    (c .before .before .put-four2 .ensures ∙ ap₂ (λ (k t : ℕ). merged 4 (16843009 * (1 + 3 * k)) t (at + 4) (c .before .before .before .before .before .before .before .put-four .last .0)) bank two))
     (p .loop .inv)
 
 pub static-run-spec : {M : Type 1} → statement M
@@ -73,17 +71,17 @@ static-run-spec =
     (λ c. search needs)
     (λ c. search needs)
     (λ c. search needs)
+    (λ c κs. search needs)
+    (λ c. search needs)
+    (λ c. search needs)
     (λ c. begun)
     (λ c. search needs)
     (λ c. search needs)
     (λ c. search needs)
-    cast-high
+    (λ c κs. search needs)
+    (λ c κs. search needs)
     (λ c. search needs)
-    cast-low
-    (λ c. omega (arith, known-byte c))
-    (λ c. omega (arith, known-byte c))
-    (λ c. omega (arith, known-byte c))
-    (λ c. omega (arith, known-byte c))
+    (λ c κs. search needs)
     (λ c κs. search needs)
     (λ c. search needs)
     (λ c. search needs)

@@ -6,7 +6,7 @@ use native.Mathlib.Omega.{arith}
 use lib.ListN.{length, getD}
 use denote.Ref.{now}
 use Rattle.words.specs.Fields.{withRows, columnOf, mixed, merged}
-use Rattle.words.proofs.Words.{first-four}
+use Rattle.words.proofs.Words.{first-four, in-bank}
 use Rattle.ram.proofs.Runs.{Running, begun, turn, done, small}
 use borrow.Author.Needs.{needs}
 use Rattle.ram.proofs.two_run.Statement.{statement}
@@ -31,7 +31,7 @@ loop-again c = let p = c .before .before .before .before .before .before .before
     put .ensures ∙ ap (λ (n : ℕ). merged 4 (50529027 * (1 + 3 * n)) (t .result) at (p .loop .ram)) (p .before .wide .ensures .0) in
     let w = small (omega arith) (omega arith) (s .pre .2) (p .loop .inv) in
     turn (c .before .before .before .before .before .before .loop-test .taken)
-    (first-four 2 50529027 (a .bank) (getD (now (a .bytes)) i 0) at (t .result) (p .loop .ram) (put .last .0) tt tt (omega arith) (omega arith) (s .pre .0) w (t .ensures) e)
+    (first-four 2 50529027 (a .bank) (getD (now (a .bytes)) i 0) at (t .result) (p .loop .ram) (put .last .0) tt tt (omega arith) (omega arith) (s .pre .0) w (in-bank 2 (a .bank) (getD (now (a .bytes)) i 0) 0 (t .result) (t .ensures)) e)
     (p .loop .inv)
 
 pub two-run-spec : {M : Type 1} → statement M

@@ -2,25 +2,20 @@
 -- Assumes nothing.
 use mathlib.Core.Path.{ap₂, _∙_}
 use Prim.Native.Nat.{ℕ}
-use native.Mathlib.Omega.{arith}
 use denote.Ref.{now}
 use Rattle.sheet.specs.Parts.{partOf}
 use Rattle.sheet.specs.Registers.{bankRow}
 use Rattle.sheet.specs.Runs.{putRun}
 use Rattle.packed_sheet.specs.Packed.{columnsIn}
-use Rattle.laws.proofs.Ranges.{range-of, rows-fit}
-use Rattle.laws.proofs.Named.{position-small}
+use Rattle.runs.proofs.Asked.{run-asked}
 use borrow.Author.Needs.{needs}
 use Rattle.runs.proofs.write.Statement.{statement}
 use Rattle.runs.proofs.write.Tie as tie
 
 put-run-requires : tie.Need-put-run-requires
 put-run-requires c κs = let s = c .before .before .before .before .before in
-    let r = s .args .registers in
-    let h = range-of (partOf (s .args .part)) r (s .pre .range) in
-    let fit = rows-fit r (r .i) (h .m-in) (h .i-in) in
-    let m = c .before .before .backplanes .ensures in
-    record { some = rw m (fit .0); four = rw m (omega (arith, fit .1)); two = h .i-in; near = rw (c .before .position .ensures) (omega (arith, position-small (s .args .part) r h)); short = s .pre .short; few = s .pre .few; nibbles = s .pre .nibbles }
+    let a = s .args in
+    run-asked (a .part) (a .registers) (now (a .bytes)) (columnsIn (a .packed) (now (a .ram))) _ _ (s .pre) (c .before .position .ensures) (c .before .before .backplanes .ensures)
 
 returns : tie.Need-returns
 returns c = let p = c .before .before .before .before in

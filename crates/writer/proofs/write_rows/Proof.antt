@@ -2,7 +2,7 @@
 -- Assumes nothing.
 use mathlib.Core.Path.{_≡_, sym, ap, ap₂, _∙_}
 use mathlib.Core.List.{List, [], _∷_, _++_}
-use Prim.Native.Nat.{ℕ, _+_, _*_, _%_, _≤_, _<_}
+use Prim.Native.Nat.{ℕ, _+_, _*_, _≤_, _<_}
 use native.Mathlib.Omega.{arith}
 use lib.ListN.{length, drop}
 use lib.Seq.{length-take-le}
@@ -20,7 +20,7 @@ use Rattle.sheet.specs.Checks.{orElse, checkPart}
 use Rattle.writer_sheet.specs.Writer.{eachAfter80, settings, setTo, bytesFor, dataOf, rowsTransfer, checkWanted, writeRowsPart}
 use Rattle.laws.proofs.Written.{numbered, refuses, too-short, written, none}
 use Rattle.laws.proofs.Fits.{both-pass}
-use Rattle.laws.proofs.Named.{of-both}
+use Rattle.laws.proofs.Named.{by-sixteen}
 use Rattle.laws.proofs.Ranges.{rows-fit}
 use Rattle.laws.proofs.Asked.{Asked, asked-of, few-wanted}
 use Rattle.laws.proofs.Puts.{length-rows, is-rows}
@@ -33,10 +33,6 @@ use Rattle.writer.proofs.write_rows.Tie as tie
 is-none : (K : Part) (n : Chips) (r : Both) (g mode bank : ℕ) (wanted : List ℕ) → chipsIn g n ≡ 0 → rowsTransfer K n r g mode bank wanted ≡ []
 unfolding rowsTransfer
 is-none K n r g mode bank wanted none = rw (eq-eqb (chipsIn g n) 0 none)
-
--- the columns are by sixteen
-by-sixteen : (part chips : ℕ) → partOf part .columns * chips % 16 ≡ 0
-by-sixteen part chips = of-both (λ K. K .columns * chips % 16 ≡ 0) part (omega arith) (omega arith)
 
 passes : (t : tie.After-enum-told) → let a = t .before .before .before .before .before .args in
     orElse (checkPart (a .part)) (checkWanted (partOf (a .part)) (a .chips) (a .registers) (a .group) (a .mode) (a .bank) (now (a .wanted))) ≡ Passed
