@@ -7,21 +7,19 @@ use sheet::Chips;
 use sheet::Counts;
 use sheet::Registers;
 ghost use mathlib.Core.Path.{_≡_};
-ghost use mathlib.Core.Bool.{_&&_, not};
-ghost use Prim.Native.Nat.{_+_, _*_, _<_};
-ghost use lib.Dec.{eqb, ltb};
+ghost use mathlib.Core.Bool.{true};
+ghost use Prim.Native.Nat.{_<_};
 ghost use lib.ListN.{length, getD};
 ghost use Rattle.sheet.specs.Parts.{partOf};
 ghost use Rattle.sheet.specs.Refusals.{numbers};
-ghost use Rattle.sheet.specs.Registers.{backplanes};
-ghost use Rattle.sheet.specs.Places.{position, atPosition};
-ghost use Rattle.sheet.specs.Data.{widthOf};
+ghost use Rattle.sheet.specs.Registers.{inRange};
+ghost use Rattle.sheet.specs.Places.{atPosition};
 ghost use Rattle.sheet.specs.Protocol.{sent};
 ghost use Rattle.packed_sheet.specs.Packed.{columnsIn};
 ghost use Rattle.long.specs.Heard.{heardInRam};
 ghost use Rattle.lent_opening.specs.Held.{heldIn};
 ghost use Rattle.wire.specs.Bytes.{registersIn, bytesOf};
-ghost use Rattle.lent_group.specs.Sets.{Asked, Left, Rest, Fitting, heardSet, setTo, numberedSet};
+ghost use Rattle.lent_group.specs.Sets.{Asked, Left, Rest, Fitting, isFitting, heardSet, setTo, numberedSet};
 
 // What is said of a transfer, in the numbers of the lent answer; the first is returned too.
 pub fn say(part: u8, said: Answer, answer: &mut [usize]) -> u8
@@ -84,7 +82,7 @@ fn hear_run(
     say(part, Answer::Taken { counts, last }, answer)
 }
 
-// Whether all that is left is such a run.
+// Whether all that is left is such a run, where so many columns are there.
 fn is_fitting(
     part: u8,
     size: usize,
@@ -92,8 +90,11 @@ fn is_fitting(
     bytes: &[u8],
     bits: u8,
     from: usize,
-) -> bool {
-    if (8 <= bits) & (from + 1 < bytes.len()) & (checks::byte_at(bytes, from) == 0x40) {
+) -> bool
+    requires { ⌜ (inRange (partOf part) registers ≡ true) × (length (now bytes) < 4097) × (from < 4097) ⌝ }
+    ensures { λ r. ⌜ r ≡ isFitting (partOf part) size registers (now (bytes .entry)) bits from ⌝ }
+{
+    if (bits == 8) & ((from + 1 < bytes.len()) & (checks::byte_at(bytes, from) == 0x40)) {
         let n = bytes.len() - (from + 1);
         let w = arithmetic::width(arithmetic::backplanes(registers));
         arithmetic::position(part, registers) + w * n <= size
@@ -148,7 +149,7 @@ fn send_rest(
     from: usize,
     answer: &mut [usize],
 ) -> u8
-    requires { ⌜ Left (partOf part) chips group (heldIn kept) (now set) (columnsIn packed (now ram)) (sent (now bytes) bits) (now answer) from ⌝ }
+    requires { ⌜ Left (partOf part) chips (heldIn kept) (now set) (columnsIn packed (now ram)) (sent (now bytes) bits) (now answer) from ⌝ }
     ensures { λ r. ⌜ record { number = r; set = now (set .exit); buffer = columnsIn packed (now (ram .exit)); answer = now (answer .exit) } ≡ numberedSet (partOf part) (setTo (partOf part) chips group (heldIn kept) (columnsIn packed (now (ram .entry))) (sent (now (bytes .entry)) bits)) ⌝ }
 {
     let opened = wire::registers_of(set);
