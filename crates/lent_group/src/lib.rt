@@ -21,6 +21,13 @@ ghost use Rattle.lent_opening.specs.Held.{heldIn};
 ghost use Rattle.wire.specs.Bytes.{registersIn, bytesOf};
 ghost use Rattle.lent_group.specs.Sets.{Asked, Left, Rest, Fitting, isFitting, heardSet, setTo, numberedSet};
 
+// A bus as a call is told of it: the part, the chips of each group, and whether their columns are packed.
+pub struct Bus {
+    pub part: u8,
+    pub chips: Chips,
+    pub packed: bool,
+}
+
 // What is said of a transfer, in the numbers of the lent answer; the first is returned too.
 pub fn say(part: u8, said: Answer, answer: &mut [usize]) -> u8
     requires { ⌜ length (now answer) ≡ 6 ⌝ }
@@ -44,21 +51,21 @@ fn put_place(part: u8, v: usize, set: &mut [u8])
 
 // A run of data that is all that is left, and all of whose columns are there: every byte is stored and acknowledged.
 fn hear_run(
-    part: u8,
-    chips: Chips,
+    bus: Bus,
     group: u8,
-    packed: bool,
     set: &mut [u8],
     ram: &mut [u8],
     bytes: &[u8],
     from: usize,
     answer: &mut [usize],
 ) -> u8
-    requires { ⌜ Fitting (partOf part) chips group (now set) (columnsIn packed (now ram)) (now bytes) from (now answer) ⌝ }
-    ensures { λ r. ⌜ record { number = r; set = now (set .exit); buffer = columnsIn packed (now (ram .exit)); answer = now (answer .exit) } ≡ numberedSet (partOf part) (heardSet (heardInRam (partOf part) chips group (registersIn (now (set .entry))) (columnsIn packed (now (ram .entry))) (sent (now (bytes .entry)) 8) from)) ⌝ }
+    requires { ⌜ Fitting (partOf (bus .part)) (bus .chips) group (now set) (columnsIn (bus .packed) (now ram)) (now bytes) from (now answer) ⌝ }
+    ensures { λ r. ⌜ record { number = r; set = now (set .exit); buffer = columnsIn (bus .packed) (now (ram .exit)); answer = now (answer .exit) } ≡ numberedSet (partOf (bus .part)) (heardSet (heardInRam (partOf (bus .part)) (bus .chips) group (registersIn (now (set .entry))) (columnsIn (bus .packed) (now (ram .entry))) (sent (now (bytes .entry)) 8) from)) ⌝ }
 {
-    let start = groups::start_in(part, chips, group, packed);
-    let end = groups::end_in(part, chips, group, packed);
+    let part = bus.part;
+    let packed = bus.packed;
+    let start = groups::start_in(part, bus.chips, group, packed);
+    let end = groups::end_in(part, bus.chips, group, packed);
     let registers = wire::registers_of(set);
     let v = arithmetic::position(part, registers);
     let m = arithmetic::backplanes(registers);
@@ -105,10 +112,8 @@ fn is_fitting(
 
 // Whatever is left.
 fn hear_rest(
-    part: u8,
-    chips: Chips,
+    bus: Bus,
     group: u8,
-    packed: bool,
     set: &mut [u8],
     ram: &mut [u8],
     bytes: &[u8],
@@ -116,13 +121,16 @@ fn hear_rest(
     from: usize,
     answer: &mut [usize],
 ) -> u8
-    requires { ⌜ Rest (partOf part) chips (now set) (columnsIn packed (now ram)) (sent (now bytes) bits) from (now answer) ⌝ }
-    ensures { λ r. ⌜ record { number = r; set = now (set .exit); buffer = columnsIn packed (now (ram .exit)); answer = now (answer .exit) } ≡ numberedSet (partOf part) (heardSet (heardInRam (partOf part) chips group (registersIn (now (set .entry))) (columnsIn packed (now (ram .entry))) (sent (now (bytes .entry)) bits) from)) ⌝ }
+    requires { ⌜ Rest (partOf (bus .part)) (bus .chips) (now set) (columnsIn (bus .packed) (now ram)) (sent (now bytes) bits) from (now answer) ⌝ }
+    ensures { λ r. ⌜ record { number = r; set = now (set .exit); buffer = columnsIn (bus .packed) (now (ram .exit)); answer = now (answer .exit) } ≡ numberedSet (partOf (bus .part)) (heardSet (heardInRam (partOf (bus .part)) (bus .chips) group (registersIn (now (set .entry))) (columnsIn (bus .packed) (now (ram .entry))) (sent (now (bytes .entry)) bits) from)) ⌝ }
 {
+    let part = bus.part;
+    let chips = bus.chips;
+    let packed = bus.packed;
     let opened = wire::registers_of(set);
     let size = arithmetic::columns_in(part, groups::chips_in(group, chips) as u16);
     if is_fitting(part, size, opened, bytes, bits, from) {
-        hear_run(part, chips, group, packed, set, ram, bytes, from, answer)
+        hear_run(bus, group, set, ram, bytes, from, answer)
     } else {
         let heard = long::hear_in(part, chips, group, opened, ram, packed, bytes, bits, from);
         let after = heard.registers;
@@ -137,10 +145,8 @@ fn hear_rest(
 
 // To a group that has obeyed the commands that open it and hears what is left: 7, 17 and 18.
 fn send_rest(
-    part: u8,
-    chips: Chips,
+    bus: Bus,
     group: u8,
-    packed: bool,
     kept: Kept,
     set: &mut [u8],
     ram: &mut [u8],
@@ -149,9 +155,10 @@ fn send_rest(
     from: usize,
     answer: &mut [usize],
 ) -> u8
-    requires { ⌜ Left (partOf part) chips (heldIn kept) (now set) (columnsIn packed (now ram)) (sent (now bytes) bits) (now answer) from ⌝ }
-    ensures { λ r. ⌜ record { number = r; set = now (set .exit); buffer = columnsIn packed (now (ram .exit)); answer = now (answer .exit) } ≡ numberedSet (partOf part) (setTo (partOf part) chips group (heldIn kept) (columnsIn packed (now (ram .entry))) (sent (now (bytes .entry)) bits)) ⌝ }
+    requires { ⌜ Left (partOf (bus .part)) (bus .chips) (heldIn kept) (now set) (columnsIn (bus .packed) (now ram)) (sent (now bytes) bits) (now answer) from ⌝ }
+    ensures { λ r. ⌜ record { number = r; set = now (set .exit); buffer = columnsIn (bus .packed) (now (ram .exit)); answer = now (answer .exit) } ≡ numberedSet (partOf (bus .part)) (setTo (partOf (bus .part)) (bus .chips) group (heldIn kept) (columnsIn (bus .packed) (now (ram .entry))) (sent (now (bytes .entry)) bits)) ⌝ }
 {
+    let part = bus.part;
     let opened = wire::registers_of(set);
     let whole = checks::whole_count(bytes.len(), bits);
     match protocol::fault_from(part, bits < 8, opened.unknown, &bytes[..whole], from) {
@@ -159,36 +166,24 @@ fn send_rest(
             lent_opening::take_back(kept, set);
             say(part, Answer::Refused(refusal), answer)
         }
-        Check::Passed => hear_rest(
-            part,
-            chips,
-            group,
-            packed,
-            set,
-            ram,
-            bytes,
-            bits,
-            from,
-            answer,
-        ),
+        Check::Passed => hear_rest(bus, group, set, ram, bytes, bits, from, answer),
     }
 }
 
 // To the group that hears it: 7, 17 and 18.
 pub fn send(
-    part: u8,
-    chips: Chips,
+    bus: Bus,
     group: u8,
-    packed: bool,
     set: &mut [u8],
     ram: &mut [u8],
     bytes: &[u8],
     bits: u8,
     answer: &mut [usize],
 ) -> u8
-    requires { ⌜ Asked (partOf part) chips (now set) (columnsIn packed (now ram)) (sent (now bytes) bits) (now answer) ⌝ }
-    ensures { λ r. ⌜ record { number = r; set = now (set .exit); buffer = columnsIn packed (now (ram .exit)); answer = now (answer .exit) } ≡ numberedSet (partOf part) (setTo (partOf part) chips group (now (set .entry)) (columnsIn packed (now (ram .entry))) (sent (now (bytes .entry)) bits)) ⌝ }
+    requires { ⌜ Asked (partOf (bus .part)) (bus .chips) (now set) (columnsIn (bus .packed) (now ram)) (sent (now bytes) bits) (now answer) ⌝ }
+    ensures { λ r. ⌜ record { number = r; set = now (set .exit); buffer = columnsIn (bus .packed) (now (ram .exit)); answer = now (answer .exit) } ≡ numberedSet (partOf (bus .part)) (setTo (partOf (bus .part)) (bus .chips) group (now (set .entry)) (columnsIn (bus .packed) (now (ram .entry))) (sent (now (bytes .entry)) bits)) ⌝ }
 {
+    let part = bus.part;
     let kept = lent_opening::keep(set);
     let whole = checks::whole_count(bytes.len(), bits);
     let opening = lent_opening::open(part, set, &bytes[..whole]);
@@ -201,19 +196,7 @@ pub fn send(
         }
         Check::Passed => {
             if from < whole {
-                send_rest(
-                    part,
-                    chips,
-                    group,
-                    packed,
-                    kept,
-                    set,
-                    ram,
-                    bytes,
-                    bits,
-                    from,
-                    answer,
-                )
+                send_rest(bus, group, kept, set, ram, bytes, bits, from, answer)
             } else {
                 say(part, long::without_data(from), answer)
             }

@@ -1,8 +1,8 @@
 // The long account over registers and an answer that C lends as bytes and numbers, and columns that are a byte each or packed. A buffer of another size is answered 255 and nothing is written.
+use lent_group::Bus;
 use sheet::Addressed;
 use sheet::Answer;
 use sheet::Check;
-use sheet::Chips;
 use sheet::Pictured;
 ghost use mathlib.Core.Path.{_≡_};
 ghost use lib.ListN.{length};
@@ -14,13 +14,6 @@ ghost use Rattle.packed_sheet.specs.Packed.{columnsIn};
 ghost use Rattle.refused.specs.Fitting.{fitting};
 ghost use Rattle.wire.specs.Bytes.{registersIn, bothOf};
 ghost use Rattle.lent_long.specs.LongCalls.{Sendable, Hearable, lentAfter, numbered, sentTo, sentC, powerOnC, transferC, pictureC};
-
-// A bus as a call is told of it: the part, the chips of each group, and whether their columns are packed.
-pub struct Bus {
-    pub part: u8,
-    pub chips: Chips,
-    pub packed: bool,
-}
 
 // Power-on, taken or refused by 16, 3, 4, 5.
 pub fn power_on(bus: Bus, ram: &[u8], registers: &mut [u8], answer: &mut [usize]) -> u8
@@ -72,17 +65,8 @@ fn send_to(
     ensures { λ r. ⌜ record { number = r; registers = now (registers .exit); buffer = columnsIn (bus .packed) (now (ram .exit)); answer = now (answer .exit) } ≡ numbered (partOf (bus .part)) (sentTo (partOf (bus .part)) (bus .chips) group (now (registers .entry)) (columnsIn (bus .packed) (now (ram .entry))) (sent (now (bytes .entry)) bits)) ⌝ }
 {
     let at = 12 * (group as usize);
-    lent_group::send(
-        bus.part,
-        bus.chips,
-        group,
-        bus.packed,
-        &mut registers[at..at + 12],
-        ram,
-        bytes,
-        bits,
-        answer,
-    )
+    let set = &mut registers[at..at + 12];
+    lent_group::send(bus, group, set, ram, bytes, bits, answer)
 }
 
 // A transfer, of whose last byte so many bits came, taken or refused by 1, 2, 19, then 7, 17 and 18.

@@ -38,13 +38,13 @@ open-requires c κs = let s = c .before .before .before .before .before .before 
 abbrev opening : tie.After-open → Opening
 opening o = record { fault = o .«open» .result .fault; registers = registersIn (o .«open» .last .1 .0); at = o .«open» .result .at }
 
-told : (o : tie.After-open) → let a = o .before .before .before .before .before .before .before .before .before .before .args in opening o ≡ opened (partOf (a .part)) (registersIn (now (a .set))) 1 (drop 1 (wholeOf (sent (now (a .bytes)) (a .bits))))
-told o = let a = o .before .before .before .before .before .before .before .before .before .before .args in o .«open» .ensures .0 ∙ ap (λ (l : List ℕ). opened (partOf (a .part)) (registersIn (now (a .set))) 1 (drop 1 l)) (first (o .before .before .before))
+told : (o : tie.After-open) → let a = o .before .before .before .before .before .before .before .before .before .before .args in opening o ≡ opened (partOf (a .bus .part)) (registersIn (now (a .set))) 1 (drop 1 (wholeOf (sent (now (a .bytes)) (a .bits))))
+told o = let a = o .before .before .before .before .before .before .before .before .before .before .args in o .«open» .ensures .0 ∙ ap (λ (l : List ℕ). opened (partOf (a .bus .part)) (registersIn (now (a .set))) 1 (drop 1 l)) (first (o .before .before .before))
 
-opens : (o : tie.After-open) → let a = o .before .before .before .before .before .before .before .before .before .before .args in Opens (partOf (a .part)) (registersIn (now (a .set))) (sent (now (a .bytes)) (a .bits)) (opening o)
+opens : (o : tie.After-open) → let a = o .before .before .before .before .before .before .before .before .before .before .args in Opens (partOf (a .bus .part)) (registersIn (now (a .set))) (sent (now (a .bytes)) (a .bits)) (opening o)
 opens o = let s = o .before .before .before .before .before .before .before .before .before .before in
     let a = s .args in
-    opens-whole (partOf (a .part)) (registersIn (now (a .set))) (sent (now (a .bytes)) (a .bits)) (opening o) (s .pre .some) (told o)
+    opens-whole (partOf (a .bus .part)) (registersIn (now (a .set))) (sent (now (a .bytes)) (a .bits)) (opening o) (s .pre .some) (told o)
 
 send-rest-requires : tie.Need-send-rest-requires
 send-rest-requires c κs = let o = c .before .before .before .before .before .before .before .before in
@@ -53,12 +53,12 @@ send-rest-requires c κs = let o = c .before .before .before .before .before .be
     let held = o .before .before .before .before .keep .ensures in
     let t = sent (now (a .bytes)) (a .bits) in
     record {
-      asked = subst (λ (l : List ℕ). Asked (partOf (a .part)) (a .chips) l (columnsIn (a .packed) (now (a .ram))) t (now (a .answer))) (sym held) (s .pre);
+      asked = subst (λ (l : List ℕ). Asked (partOf (a .bus .part)) (a .bus .chips) l (columnsIn (a .bus .packed) (now (a .ram))) t (now (a .answer))) (sym held) (s .pre);
       twelve = o .«open» .ensures .1;
       opening =
           (λ j. record { fault = sym (c .before .before .before .before .enum-told .given .1) j; registers = registersIn (o .«open» .last .1 .0); at = o .«open» .result .at })
           ∙ told o
-          ∙ ap (λ (l : List ℕ). opened (partOf (a .part)) (registersIn l) 1 (drop 1 (wholeOf t))) (sym held);
+          ∙ ap (λ (l : List ℕ). opened (partOf (a .bus .part)) (registersIn l) 1 (drop 1 (wholeOf t))) (sym held);
       more = subst (λ (l : List ℕ). o .«open» .result .at < length l) (first (o .before .before .before)) (rw (← (slice-aggregate-open (o .before))) (c .before .before .before .if1 .taken));
     }
 
@@ -67,26 +67,26 @@ returns c = let back = c .before .before .before .before .before .before in
     let o = back .before .before .before .before .before .before .before in
     let s = o .before .before .before .before .before .before .before .before .before .before in
     let a = s .args in
-    let K = partOf (a .part) in
-    let ram = columnsIn (a .packed) (now (a .ram)) in
+    let K = partOf (a .bus .part) in
+    let ram = columnsIn (a .bus .packed) (now (a .ram)) in
     let x = back .before .before .before .fault .given .0 .0 in
     said-numbers K (record { answer = Answer.Refused x; set = back .take-back .last .1 .0; ram = ram }) _ (c .before .before .say .ensures)
     (_∙_ {A = SetAfter} (λ i. record { answer = Answer.Refused x; set = (back .take-back .ensures ∙ o .before .before .before .before .keep .ensures) i; ram = ram })
-    (opening-refused K (a .chips) (a .group) (now (a .set)) ram (sent (now (a .bytes)) (a .bits)) (opening o) (opens o) _ (back .before .before .before .fault .given .1)))
+    (opening-refused K (a .bus .chips) (a .group) (now (a .set)) ram (sent (now (a .bytes)) (a .bits)) (opening o) (opens o) _ (back .before .before .before .fault .given .1)))
 
 returns-2 : tie.Need-returns-2
 returns-2 c = let r = c .before .before .before .before .before .before in
     let o = r .before .before .before .before .before .before .before .before .before in
     let a = o .before .before .before .before .before .before .before .before .before .before .args in
-    let K = partOf (a .part) in
-    r .send-rest .ensures ∙ ap (λ (l : List ℕ). numberedSet K (setTo K (a .chips) (a .group) l (columnsIn (a .packed) (now (a .ram))) (sent (now (a .bytes)) (a .bits)))) (o .before .before .before .before .keep .ensures)
+    let K = partOf (a .bus .part) in
+    r .send-rest .ensures ∙ ap (λ (l : List ℕ). numberedSet K (setTo K (a .bus .chips) (a .group) l (columnsIn (a .bus .packed) (now (a .ram))) (sent (now (a .bytes)) (a .bits)))) (o .before .before .before .before .keep .ensures)
 
 returns-3 : tie.Need-returns-3
 returns-3 c = let o = c .before .before .before .before .before .before .before .before .before .before in
     let s = o .before .before .before .before .before .before .before .before .before .before in
     let a = s .args in
-    let K = partOf (a .part) in
-    let ram = columnsIn (a .packed) (now (a .ram)) in
+    let K = partOf (a .bus .part) in
+    let ram = columnsIn (a .bus .packed) (now (a .ram)) in
     let t = sent (now (a .bytes)) (a .bits) in
     let at = o .«open» .result .at in
     let after = o .«open» .last .1 .0 in
@@ -94,8 +94,8 @@ returns-3 c = let o = c .before .before .before .before .before .before .before 
     said-numbers K (record { answer = Answer.Taken (record { acknowledged = at; stored = 0; discarded = 0 }) Acknowledger.None; set = after; ram = ram }) _ (said-of K (c .before .before .say2 .ensures) (c .before .before .before .before .without-data .ensures))
     (_∙_ {A = SetAfter}
     (λ i. record { answer = Answer.Taken (record { acknowledged = at; stored = 0; discarded = 0 }) Acknowledger.None; set = sym (registers-back after (o .«open» .ensures .1) (λ j. c .before .before .before .before .before .before .before .before .slice-known4 .given j .fits)) i; ram = ram })
-    (ap heardSet (none-heard K (a .chips) (a .group) (now (a .set)) ram t (opening o) (opens o) all)
-    ∙ rest-heard K (a .chips) (a .group) (now (a .set)) ram t (opening o) (opens o) (c .before .before .before .before .before .before .enum-told .given .1) (none-looked K (a .chips) (a .group) (now (a .set)) ram t (opening o) (opens o) all)))
+    (ap heardSet (none-heard K (a .bus .chips) (a .group) (now (a .set)) ram t (opening o) (opens o) all)
+    ∙ rest-heard K (a .bus .chips) (a .group) (now (a .set)) ram t (opening o) (opens o) (c .before .before .before .before .before .before .enum-told .given .1) (none-looked K (a .bus .chips) (a .group) (now (a .set)) ram t (opening o) (opens o) all)))
 
 pub send-spec : {M : Type 1} → statement M
 send-spec =

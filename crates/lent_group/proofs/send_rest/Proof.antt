@@ -33,8 +33,8 @@ use Rattle.lent_group.proofs.send_rest.Tie as tie
 abbrev opening : tie.Start → Opening
 opening s = record { fault = Check.Passed; registers = registersIn (now (s .args .set)); at = s .args .from }
 
-opens : (s : tie.Start) → let a = s .args in Opens (partOf (a .part)) (registersIn (heldIn (a .kept))) (sent (now (a .bytes)) (a .bits)) (opening s)
-opens s = let a = s .args in opens-whole (partOf (a .part)) (registersIn (heldIn (a .kept))) (sent (now (a .bytes)) (a .bits)) (opening s) (s .pre .asked .some) (s .pre .opening)
+opens : (s : tie.Start) → let a = s .args in Opens (partOf (a .bus .part)) (registersIn (heldIn (a .kept))) (sent (now (a .bytes)) (a .bits)) (opening s)
+opens s = let a = s .args in opens-whole (partOf (a .bus .part)) (registersIn (heldIn (a .kept))) (sent (now (a .bytes)) (a .bits)) (opening s) (s .pre .asked .some) (s .pre .opening)
 
 -- the whole bytes are the first so many
 first : (w : tie.After-whole-count) → let a = w .before .before .before .before .before .before .before .args in take (w .whole-count .result) (now (a .bytes)) ≡ wholeOf (sent (now (a .bytes)) (a .bits))
@@ -51,21 +51,21 @@ fault-from-requires c κs = let s = c .before .before .before .before .before .b
 -- the first fault of what is left
 looked : (f : tie.After-fault-from) → let a = f .before .before .before .before .before .before .before .before .before .args in
     let t = sent (now (a .bytes)) (a .bits) in
-    faultIn (partOf (a .part)) (cut t) (registersIn (now (a .set)) .unknown) Control (a .from) (drop (a .from) (wholeOf t)) ≡ f .fault-from .result
+    faultIn (partOf (a .bus .part)) (cut t) (registersIn (now (a .set)) .unknown) Control (a .from) (drop (a .from) (wholeOf t)) ≡ f .fault-from .result
 looked f = let w = f .before .before in
     let a = w .before .before .before .before .before .before .before .args in
-    sym (f .fault-from .ensures ∙ (λ i. faultIn (partOf (a .part)) (ltb (a .bits) 8) (w .before .registers-of .ensures i .unknown) Control (a .from) (drop (a .from) (first w i))))
+    sym (f .fault-from .ensures ∙ (λ i. faultIn (partOf (a .bus .part)) (ltb (a .bits) 8) (w .before .registers-of .ensures i .unknown) Control (a .from) (drop (a .from) (first w i))))
 
 hear-rest-requires : tie.Need-hear-rest-requires
 hear-rest-requires c κs = let s = c .before .before .before .before .before .before .before .before .before .before .before .before .before .before in
     let a = s .args in
-    let K = partOf (a .part) in
+    let K = partOf (a .bus .part) in
     let t = sent (now (a .bytes)) (a .bits) in
     record {
       ready = record {
         both = s .pre .asked .both;
         state = s .pre .asked .state;
-        range = subst (λ (o : Opening). inRange K (o .registers) ≡ true) (sym (s .pre .opening)) (opened-kept K (part-keeps (a .part)) (registersIn (heldIn (a .kept))) 1 (drop 1 (wholeOf t)) (s .pre .asked .range));
+        range = subst (λ (o : Opening). inRange K (o .registers) ≡ true) (sym (s .pre .opening)) (opened-kept K (part-keeps (a .bus .part)) (registersIn (heldIn (a .kept))) 1 (drop 1 (wholeOf t)) (s .pre .asked .range));
         short = s .pre .asked .short;
         place = omega (arith, s .pre .more);
       };
@@ -78,21 +78,21 @@ returns c = let back = c .before .before .before .before .before .before in
     let f = back .before .before .before .before .before in
     let s = f .before .before .before .before .before .before .before .before .before in
     let a = s .args in
-    let K = partOf (a .part) in
-    let ram = columnsIn (a .packed) (now (a .ram)) in
+    let K = partOf (a .bus .part) in
+    let ram = columnsIn (a .bus .packed) (now (a .ram)) in
     let x = back .before .before .before .refusal .given .0 .0 in
     said-numbers K (record { answer = Answer.Refused x; set = back .take-back .last .1 .0; ram = ram }) _ (c .before .before .say .ensures)
     (_∙_ {A = SetAfter} (λ i. record { answer = Answer.Refused x; set = back .take-back .ensures i; ram = ram })
-    (rest-refused K (a .chips) (a .group) (heldIn (a .kept)) ram (sent (now (a .bytes)) (a .bits)) (opening s) (opens s) _ refl (looked f ∙ back .before .before .before .refusal .given .1)))
+    (rest-refused K (a .bus .chips) (a .group) (heldIn (a .kept)) ram (sent (now (a .bytes)) (a .bits)) (opening s) (opens s) _ refl (looked f ∙ back .before .before .before .refusal .given .1)))
 
 returns-2 : tie.Need-returns-2
 returns-2 c = let h = c .before .before .before .before .before .before in
     let f = h .before .before .before .before .before .before in
     let s = f .before .before .before .before .before .before .before .before .before in
     let a = s .args in
-    let K = partOf (a .part) in
+    let K = partOf (a .bus .part) in
     h .hear-rest .ensures
-    ∙ ap (numberedSet K) (rest-heard K (a .chips) (a .group) (heldIn (a .kept)) (columnsIn (a .packed) (now (a .ram))) (sent (now (a .bytes)) (a .bits)) (opening s) (opens s) refl (looked f ∙ h .before .before .before .before .enum-told .given .1))
+    ∙ ap (numberedSet K) (rest-heard K (a .bus .chips) (a .group) (heldIn (a .kept)) (columnsIn (a .bus .packed) (now (a .ram))) (sent (now (a .bytes)) (a .bits)) (opening s) (opens s) refl (looked f ∙ h .before .before .before .before .enum-told .given .1))
 
 pub send-rest-spec : {M : Type 1} → statement M
 send-rest-spec =

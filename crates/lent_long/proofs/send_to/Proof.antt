@@ -56,7 +56,7 @@ returns c = let h = c .before .before .before .before .before .before in
     let ram = columnsIn (a .bus .packed) (now (a .ram)) in
     let t = sent (now (a .bytes)) (a .bits) in
     let twelve = add-sub-cancel-left (12 * a .group) 12 in
-    _∙_ {A = Called} (λ i. record { number = h .send .result; registers = take (12 * a .group) l ++ (h .send .last .1 .1 .1 .1 .0 ++ drop (twelve i) (drop (12 * a .group) l)); buffer = columnsIn (a .bus .packed) (h .send .last .1 .1 .1 .1 .1 .0); answer = h .send .last .1 .1 .1 .1 .1 .1 .1 .1 .0 })
+    _∙_ {A = Called} (λ i. record { number = h .send .result; registers = take (12 * a .group) l ++ (h .send .last .1 .1 .0 ++ drop (twelve i) (drop (12 * a .group) l)); buffer = columnsIn (a .bus .packed) (h .send .last .1 .1 .1 .0); answer = h .send .last .1 .1 .1 .1 .1 .1 .0 })
     (own-numbered K (a .bus .chips) (a .group) (s .pre .small) l ram t (s .pre .bus .size) (λ i. h .before .before .before .before .before .before .before .slice-known .given i .fits) _
     (h .send .ensures ∙ ap (λ (n : ℕ). numberedSet K (setTo K (a .bus .chips) (a .group) (take n (drop (12 * a .group) l)) ram t)) twelve))
 
