@@ -171,7 +171,7 @@ pub fn picture(
     ensures { λ r. ⌜ pictureC (bus .part) (bus .chips) (now (registers .entry)) (columnsIn (bus .packed) (now (ram .entry))) group phase (now (out .entry)) (now (answer .entry)) ≡ record { number = r; buffer = now (out .exit); answer = now (answer .exit) } ⌝ }
 {
     if (registers.len() == 24) & (answer.len() == 6) {
-        let shown = pictured(bus, group, phase, registers, ram, out);
+        let shown = pictured(bus, group, phase, &registers[..], &ram[..], out);
         wire::put_numbers(answers::picture_numbers(shown), answer)
     } else {
         255

@@ -23,11 +23,11 @@ pub struct Listener {
 }
 
 // After so many bytes that are no data, all of them acknowledged.
-pub fn begun(registers: Registers, acknowledged: usize) -> Listener
-    ensures { λ r. ⌜ r ≡ listenerOf Expect.Control (openedAt acknowledged registers []) ⌝ }
+pub fn begun(expect: Expect, registers: Registers, acknowledged: usize) -> Listener
+    ensures { λ r. ⌜ r ≡ listenerOf expect (openedAt acknowledged registers []) ⌝ }
 {
     Listener {
-        expect: Expect::Control,
+        expect,
         registers,
         counts: Counts {
             acknowledged,
