@@ -141,19 +141,27 @@ fn four_from_odd(ram: &mut [u8], data: &[u8]) {
     put_low(&mut behind[0], 15, over);
 }
 
-/// Writes a byte a column and counts, 32 columns with a count in a byte.
+/// Writes a byte a column, 80 a turn, and counts those, with a count in a byte for some.
 #[inline(always)]
 pub fn show(ram: &[u8], shift: u8, rows: u64, out: &mut [u8]) -> usize {
     let rows = rows as u8;
     let mut lit = 0;
-    for (some, values) in ram.chunks(16).zip(out.chunks_mut(32)) {
-        let mut ones = 0;
-        for (pair, [even, odd]) in some.iter().zip(values.as_chunks_mut::<2>().0) {
+    for (turn, values) in ram
+        .as_chunks::<40>()
+        .0
+        .iter()
+        .zip(out.as_chunks_mut::<80>().0)
+    {
+        for (pair, [even, odd]) in turn.iter().zip(values.as_chunks_mut::<2>().0) {
             *even = (pair & 15) >> shift & rows;
             *odd = pair >> 4 >> shift & rows;
-            ones += (even.count_ones() + odd.count_ones()) as u8;
         }
-        lit += ones as usize;
+        let count = |some: &[u8]| {
+            some.iter()
+                .map(|value| value.count_ones() as u8)
+                .sum::<u8>()
+        };
+        lit += count(&values[..48]) as usize + count(&values[48..]) as usize;
     }
     lit
 }

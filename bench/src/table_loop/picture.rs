@@ -82,20 +82,32 @@ pub fn shown(set: &[u8; SET], phase: u8) -> (u8, u64) {
     }
 }
 
-/// A count a column, in a byte for each 32 columns, so that the compiler does many at once.
+/// A count a column, in a byte for some columns, so that the compiler does many at once; a chip of either part has whole turns of 80.
 #[inline(always)]
 fn show_columns(columns: &[u8], shift: u8, rows: u64, out: &mut [u8]) -> usize {
     let rows = rows as u8;
     let mut lit = 0;
-    for (some, values) in columns.chunks(32).zip(out.chunks_mut(32)) {
-        let mut ones = 0;
-        for (column, value) in some.iter().zip(values) {
-            *value = column >> shift & rows;
-            ones += value.count_ones() as u8;
-        }
-        lit += ones as usize;
+    for (turn, values) in columns
+        .as_chunks::<80>()
+        .0
+        .iter()
+        .zip(out.as_chunks_mut::<80>().0)
+    {
+        let (first, second) = values.split_at_mut(48);
+        lit += show_some(&turn[..48], shift, rows, first);
+        lit += show_some(&turn[48..], shift, rows, second);
     }
     lit
+}
+
+#[inline(always)]
+fn show_some(columns: &[u8], shift: u8, rows: u8, out: &mut [u8]) -> usize {
+    let mut ones = 0;
+    for (column, value) in columns.iter().zip(out) {
+        *value = column >> shift & rows;
+        ones += value.count_ones() as u8;
+    }
+    ones as usize
 }
 
 /// Writes the picture and counts the lit elements; the columns of a chip of either part are whole words.

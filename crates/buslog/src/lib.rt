@@ -1,5 +1,5 @@
 // Bus logs: a log's bytes in, the program's text out.
-use lent_long::Bus;
+use lent_group::Bus;
 use records::Cursor;
 use records::Record;
 use sheet::Both;

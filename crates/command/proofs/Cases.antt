@@ -15,16 +15,16 @@ use Rattle.sheet.specs.Registers.{known}
 use Rattle.sheet.specs.Commands.{restored}
 use Rattle.laws.proofs.Ranges.{by-range}
 use Rattle.laws.proofs.Named.{of-both}
-use Rattle.command.specs.Nibbles.{lowOf}
+use Rattle.command.specs.Nibbles.{nibbleOf}
 
--- a pointer low carries a nibble
-pub low-nibble : (part x : ℕ) → lowOf ((partOf part .command) x) < 16
-low-nibble part x =
-    of-both (λ K. lowOf ((K .command) x) < 16) part
-    (by-range (λ c. lowOf c < 16) x pcf8532Ranges
+-- a pointer high or low carries a nibble
+pub pointer-nibble : (part x : ℕ) → nibbleOf ((partOf part .command) x) < 16
+pointer-nibble part x =
+    of-both (λ K. nibbleOf ((K .command) x) < 16) part
+    (by-range (λ c. nibbleOf c < 16) x pcf8532Ranges
     ((λ l m. omega arith), ((λ l m. omega arith), ((λ l m. omega arith), ((λ l m. omega arith), ((λ l m. omega arith), ((λ l m. omega arith), ((λ l m. omega arith), tt)))))))
     (omega arith))
-    (by-range (λ c. lowOf c < 16) x pca85133Ranges
+    (by-range (λ c. nibbleOf c < 16) x pca85133Ranges
     ((λ l m. omega arith), ((λ l m. omega arith), ((λ l m. omega arith), ((λ l m. omega arith), ((λ l m. omega arith), tt)))))
     (omega arith))
 

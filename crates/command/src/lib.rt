@@ -6,7 +6,7 @@ ghost use mathlib.Core.Path.{_≡_};
 ghost use Prim.Native.Nat.{_<_};
 ghost use Rattle.sheet.specs.Parts.{partOf};
 ghost use Rattle.sheet.specs.Commands.{restored, obeyed};
-ghost use Rattle.command.specs.Nibbles.{lowOf};
+ghost use Rattle.command.specs.Nibbles.{nibbleOf};
 
 // The marks after a command byte, which restores its own.
 fn restore_own(part: u8, mut marks: Marks, byte: u8) -> Marks
@@ -51,7 +51,7 @@ pub fn restore(part: u8, marks: Marks, byte: u8) -> Marks
 
 // The registers after a command: what it sets, and the marks that it restores.
 pub fn obey(mut registers: Registers, command: Command) -> Registers
-    requires { ⌜ lowOf command < 16 ⌝ }
+    requires { ⌜ nibbleOf command < 16 ⌝ }
     ensures { λ r. ⌜ r ≡ obeyed registers command ⌝ }
 {
     let mut unknown = registers.unknown;

@@ -74,5 +74,9 @@ position-small part r h = of-both (λ K. (r : Registers) → InRange K r → pos
 pub by-sixteen : (part n : ℕ) → partOf part .columns * n % 16 ≡ 0
 by-sixteen part n = of-both (λ K. K .columns * n % 16 ≡ 0) part (omega arith) (omega arith)
 
+-- and by 80
+pub by-eighty : (part n : ℕ) → partOf part .columns * n % 80 ≡ 0
+by-eighty part n = of-both (λ K. K .columns * n % 80 ≡ 0) part (omega arith) (omega arith)
+
 pub columns-most : (part n : ℕ) → partOf part .columns * n ≤ 160 * n
 columns-most part n = of-both (λ K. K .columns * n ≤ 160 * n) part (omega arith) (omega arith)

@@ -4,8 +4,7 @@ use mathlib.Core.Path.{_≡_}
 use mathlib.Core.Bool.{Bool, cond, _&&_}
 use mathlib.Core.List.{List}
 use lib.Dec.{eqb}
-use lib.ListN.{length, getD, drop}
-use Rattle.sheet.specs.declared.Registers.{Registers}
+use lib.ListN.{length, getD}
 use Rattle.sheet.specs.declared.Chips.{Chips}
 use Rattle.sheet.specs.declared.Answer.{Answer}
 use Rattle.sheet.specs.declared.PowerOn.{PowerOn}
@@ -13,12 +12,10 @@ use Rattle.sheet.specs.declared.Addressed.the-variants.{To}
 use Rattle.sheet.specs.declared.Check.the-variants.{Passed}
 use Rattle.sheet.specs.Refusals.{numbers, pictureNumbers, checkNumbers}
 use Rattle.sheet.specs.Parts.{Part, partOf}
-use Rattle.sheet.specs.Registers.{registersOf}
 use Rattle.sheet.specs.Protocol.{heardBy, Sent, wholeOf, addressByte}
 use Rattle.sheet.specs.Checks.{orElse, checkSent, checkBytes, checkState}
 use Rattle.sheet.specs.Pictures.{Seen}
 use Rattle.sheet.specs.Long.{After, answered, taken, powerOnPart, transferPart, picturePart}
-use Rattle.opening.specs.Opened.{opened}
 use Rattle.wire.specs.Bytes.{bothOf, bothBytes}
 
 -- ---- a transfer over lent registers
@@ -56,12 +53,6 @@ pub record Hearable (K : Part) (n : Chips) (g : ℕ) (registers ram : List ℕ) 
   pub short : length (t .bytes) < 4097
   pub some : 0 < length (wholeOf t)
   pub six : length answer ≡ 6
-
--- and what is left of it after the commands that open it
-pub record Left (K : Part) (n : Chips) (g : ℕ) (registers ram : List ℕ) (t : Sent) (answer : List ℕ) (after : Registers) (from : ℕ) : Type 0 where
-  pub hearable : Hearable K n g registers ram t answer
-  pub opening : record { fault = Passed; registers = after; at = from } ≡ opened K (registersOf g (bothOf registers)) 1 (drop 1 (wholeOf t))
-  pub more : from < length (wholeOf t)
 
 -- ---- calls that lend registers and the RAM. Each gives the number returned and what each lent buffer holds after it
 

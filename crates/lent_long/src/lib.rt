@@ -1,28 +1,19 @@
 // The long account over registers and an answer that C lends as bytes and numbers, and columns that are a byte each or packed. A buffer of another size is answered 255 and nothing is written.
+use lent_group::Bus;
 use sheet::Addressed;
 use sheet::Answer;
 use sheet::Check;
-use sheet::Chips;
 use sheet::Pictured;
-use sheet::Registers;
 ghost use mathlib.Core.Path.{_≡_};
-ghost use lib.ListN.{length, getD};
+ghost use lib.ListN.{length};
 ghost use Rattle.sheet.specs.Parts.{partOf};
-ghost use Rattle.sheet.specs.Refusals.{numbers};
 ghost use Rattle.sheet.specs.Registers.{inRange};
 ghost use Rattle.sheet.specs.Protocol.{sent};
 ghost use Rattle.sheet.specs.Long.{transferPart, picturePart};
 ghost use Rattle.packed_sheet.specs.Packed.{columnsIn};
 ghost use Rattle.refused.specs.Fitting.{fitting};
 ghost use Rattle.wire.specs.Bytes.{registersIn, bothOf};
-ghost use Rattle.lent_long.specs.LongCalls.{Sendable, Hearable, Left, lentAfter, numbered, sentTo, sentC, powerOnC, transferC, pictureC};
-
-// A bus as a call is told of it: the part, the chips of each group, and whether their columns are packed.
-pub struct Bus {
-    pub part: u8,
-    pub chips: Chips,
-    pub packed: bool,
-}
+ghost use Rattle.lent_long.specs.LongCalls.{Sendable, Hearable, lentAfter, numbered, sentTo, sentC, powerOnC, transferC, pictureC};
 
 // Power-on, taken or refused by 16, 3, 4, 5.
 pub fn power_on(bus: Bus, ram: &[u8], registers: &mut [u8], answer: &mut [usize]) -> u8
@@ -60,49 +51,7 @@ fn fits(part: u8, registers: &[u8]) -> bool
     in_range(part, &registers[..12]) & in_range(part, &registers[12..])
 }
 
-// What is said of a transfer, in the numbers of the lent answer; the first is returned too.
-fn say(part: u8, said: Answer, answer: &mut [usize]) -> u8
-    requires { ⌜ length (now answer) ≡ 6 ⌝ }
-    ensures { λ r. ⌜ r ≡ getD (numbers (partOf part) said) 0 0 ⌝ }
-    ensures { λ _. ⌜ now (answer .exit) ≡ numbers (partOf part) said ⌝ }
-{
-    wire::put_numbers(answers::numbers(part, said), answer)
-}
-
-// To a group that has obeyed the commands that open the transfer and hears what is left of it: 7, 17 and 18. Its registers are written if it is taken.
-fn send_rest(
-    bus: Bus,
-    group: u8,
-    opened: Registers,
-    from: usize,
-    registers: &mut [u8],
-    ram: &mut [u8],
-    bytes: &[u8],
-    bits: u8,
-    answer: &mut [usize],
-) -> u8
-    requires { ⌜ Left (partOf (bus .part)) (bus .chips) group (now registers) (columnsIn (bus .packed) (now ram)) (sent (now bytes) bits) (now answer) opened from ⌝ }
-    ensures { λ r. ⌜ record { number = r; registers = now (registers .exit); buffer = columnsIn (bus .packed) (now (ram .exit)); answer = now (answer .exit) } ≡ numbered (partOf (bus .part)) (sentTo (partOf (bus .part)) (bus .chips) group (now (registers .entry)) (columnsIn (bus .packed) (now (ram .entry))) (sent (now (bytes .entry)) bits)) ⌝ }
-{
-    let part = bus.part;
-    let chips = bus.chips;
-    let packed = bus.packed;
-    let whole = checks::whole_count(bytes.len(), bits);
-    match protocol::fault_from(part, bits < 8, opened.unknown, &bytes[..whole], from) {
-        Check::Refused(refusal) => say(part, Answer::Refused(refusal), answer),
-        Check::Passed => {
-            let heard = long::hear_in(part, chips, group, opened, ram, packed, bytes, bits, from);
-            let after = heard.registers;
-            let counts = heard.counts;
-            let last = heard.last;
-            let at = 12 * (group as usize);
-            wire::put_registers(after, &mut registers[at..at + 12]);
-            say(part, Answer::Taken { counts, last }, answer)
-        }
-    }
-}
-
-// To the group that hears it: 7, 17 and 18. Only its registers are read, and written if it is taken.
+// To the group that hears it: 7, 17 and 18. Of the registers only its own are read and written.
 fn send_to(
     bus: Bus,
     group: u8,
@@ -115,35 +64,9 @@ fn send_to(
     requires { ⌜ Hearable (partOf (bus .part)) (bus .chips) group (now registers) (columnsIn (bus .packed) (now ram)) (sent (now bytes) bits) (now answer) ⌝ }
     ensures { λ r. ⌜ record { number = r; registers = now (registers .exit); buffer = columnsIn (bus .packed) (now (ram .exit)); answer = now (answer .exit) } ≡ numbered (partOf (bus .part)) (sentTo (partOf (bus .part)) (bus .chips) group (now (registers .entry)) (columnsIn (bus .packed) (now (ram .entry))) (sent (now (bytes .entry)) bits)) ⌝ }
 {
-    let part = bus.part;
     let at = 12 * (group as usize);
-    let before = wire::registers_of(&registers[at..at + 12]);
-    let whole = checks::whole_count(bytes.len(), bits);
-    let opening = opening::open(part, before, &bytes[..whole]);
-    let fault = opening.fault;
-    let opened = opening.registers;
-    let from = opening.at;
-    match fault {
-        Check::Refused(refusal) => say(part, Answer::Refused(refusal), answer),
-        Check::Passed => {
-            if from < whole {
-                send_rest(
-                    bus,
-                    group,
-                    opened,
-                    from,
-                    registers,
-                    ram,
-                    bytes,
-                    bits,
-                    answer,
-                )
-            } else {
-                wire::put_registers(opened, &mut registers[at..at + 12]);
-                say(part, long::without_data(from), answer)
-            }
-        }
-    }
+    let set = &mut registers[at..at + 12];
+    lent_group::send(bus, group, set, ram, bytes, bits, answer)
 }
 
 // A transfer, of whose last byte so many bits came, taken or refused by 1, 2, 19, then 7, 17 and 18.
@@ -161,10 +84,10 @@ pub fn send(
     // read once, so that pointer and length are handed on and not where they lie
     let all = &bytes[..];
     match checks::check_sent(all.len(), bits) {
-        Check::Refused(refusal) => say(bus.part, Answer::Refused(refusal), answer),
+        Check::Refused(refusal) => lent_group::say(bus.part, Answer::Refused(refusal), answer),
         Check::Passed => match groups::heard_by(bus.chips, checks::address_byte(all, bits)) {
             Addressed::To(group) => send_to(bus, group, registers, ram, all, bits, answer),
-            Addressed::Nobody => say(bus.part, long::without_data(0), answer),
+            Addressed::Nobody => lent_group::say(bus.part, long::without_data(0), answer),
         },
     }
 }
@@ -185,7 +108,7 @@ fn answered(
 {
     let fit = fits(bus.part, registers);
     match refused::check_state(bus.part, bus.chips, fit, ram, bus.packed) {
-        Check::Refused(refusal) => say(bus.part, Answer::Refused(refusal), answer),
+        Check::Refused(refusal) => lent_group::say(bus.part, Answer::Refused(refusal), answer),
         Check::Passed => send(bus, registers, ram, bytes, bits, answer),
     }
 }
@@ -248,7 +171,7 @@ pub fn picture(
     ensures { λ r. ⌜ pictureC (bus .part) (bus .chips) (now (registers .entry)) (columnsIn (bus .packed) (now (ram .entry))) group phase (now (out .entry)) (now (answer .entry)) ≡ record { number = r; buffer = now (out .exit); answer = now (answer .exit) } ⌝ }
 {
     if (registers.len() == 24) & (answer.len() == 6) {
-        let shown = pictured(bus, group, phase, registers, ram, out);
+        let shown = pictured(bus, group, phase, &registers[..], &ram[..], out);
         wire::put_numbers(answers::picture_numbers(shown), answer)
     } else {
         255

@@ -3,7 +3,7 @@
 use mathlib.Core.Path.{_≡_, ap, ap₂, _∙_, subst, sym}
 use mathlib.Core.Bool.{Bool, true, false, cond}
 use mathlib.Core.List.{List, _++_}
-use Prim.Native.Nat.{ℕ, _-_, _*_, _/_, _<_, _≤_}
+use Prim.Native.Nat.{ℕ, _-_, _*_, _/_, _%_, _<_, _≤_}
 use native.Mathlib.Nat.{add-sub-cancel-left}
 use native.Mathlib.Omega.{arith}
 use lib.ListN.{length, take, drop}
@@ -18,7 +18,7 @@ use Rattle.sheet.specs.Protocol.{chipsIn}
 use Rattle.sheet.specs.Checks.{checkState}
 use Rattle.sheet.specs.Long.{startOf, endOf, columnsOf, withColumns}
 use Rattle.packed_sheet.specs.Packed.{unpacked, columnsIn}
-use Rattle.laws.proofs.Named.{columns-even, ram-small}
+use Rattle.laws.proofs.Named.{columns-even, ram-small, by-eighty}
 use Rattle.laws.proofs.Ranges.{InRange}
 use Rattle.laws.proofs.Fits.{Fits, fits-of}
 use Rattle.laws.proofs.Lens.{ends-in-ram, range-of-group, few-chips-in, length-columns}
@@ -72,13 +72,14 @@ cut part n both g packed ram start end e es ee = let K = partOf part in
 -- it can be shown in a buffer of its length by the group's own registers
 pub showable : (part : ℕ) (n : Chips) (both : Both) (g : ℕ) (packed : Bool) (ram : List ℕ) (start end : ℕ) (own : Registers) (size : ℕ) → let K = partOf part in
     Cut K n both g packed ram start end → registersOf g both ≡ own → size ≡ K .columns * chipsIn g n
-    → (size ≡ length (columnsIn packed (take (end - start) (drop start ram)))) × (size ≤ 1280) × (own .m < 4) × (own .o < 2)
+    → (size ≡ length (columnsIn packed (take (end - start) (drop start ram)))) × (size ≤ 1280) × (size % 80 ≡ 0) × (own .m < 4) × (own .o < 2)
 showable part n both g packed ram start end own size c e es = let K = partOf part in
     let columns = columnsIn packed ram in
     let f = c .fits in
     let range = subst (InRange K) e (range-of-group K n both columns f g) in (
       es ∙ sym (ap length (c .part) ∙ length-columns K n both columns f g),
       omega (arith, es, ram-small part (chipsIn g n) (few-chips-in K n both columns f g)),
+      ap (λ (k : ℕ). k % 80) es ∙ by-eighty part (chipsIn g n),
       range .m-in,
       range .o-in,
     )

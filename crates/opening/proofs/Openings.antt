@@ -26,8 +26,7 @@ use Rattle.sheet.specs.Protocol.{heardBy, addressByte, controlOf, nextAfter, Se
 use Rattle.sheet.specs.Checks.{orElse, faultIn, faultOfSent}
 use Rattle.sheet.specs.Long.{begun, heard, heardWhole}
 use Rattle.sheet.specs.Agree.{Keeps}
-use Rattle.opening.specs.declared.Opening.{Opening}
-use Rattle.opening.specs.Opened.{opens, opened, openedAt, heardFrom}
+use Rattle.opening.specs.Opened.{Opening, opens, opened, openedAt, heardFrom}
 
 -- ---- from place i on
 

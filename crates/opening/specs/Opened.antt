@@ -8,13 +8,19 @@ use Rattle.sheet.specs.declared.Registers.{Registers}
 use Rattle.sheet.specs.declared.Acknowledger.{Acknowledger}
 use Rattle.sheet.specs.declared.Expect.the-variants.{Control}
 use Rattle.sheet.specs.declared.Refusal.the-variants.{UndefinedCommand}
+use Rattle.sheet.specs.declared.Check.{Check}
 use Rattle.sheet.specs.declared.Check.the-variants.{Passed, Refused}
 use Rattle.sheet.specs.Parts.{Part}
 use Rattle.sheet.specs.Registers.{lostBy}
 use Rattle.sheet.specs.Commands.{defined, obeyed}
 use Rattle.sheet.specs.Protocol.{nextAfter, isData, Sent, cut, wholeOf}
 use Rattle.sheet.specs.Long.{Group, heard}
-use Rattle.opening.specs.declared.Opening.{Opening}
+
+-- the registers after these commands and the place of the byte after them; or, of one that is undefined, the fault
+pub record Opening : Type 0 where
+  pub fault : Check
+  pub registers : Registers
+  pub at : ℕ
 
 abbrev pub opens : Registers → ℕ → Opening
 opens r i = record { fault = Passed; registers = r; at = i }

@@ -11,7 +11,7 @@ ghost use Rattle.ram.specs.Writes.{Whole, Cut};
 ghost use Rattle.runs.specs.Asks.{Run, Writable};
 
 // Bytes whose columns are all there.
-fn whole_bytes(ram: &mut [u8], packed: bool, v: usize, m: usize, bank: u8, bytes: &[u8])
+pub fn whole_bytes(ram: &mut [u8], packed: bool, v: usize, m: usize, bank: u8, bytes: &[u8])
     requires { ⌜ Whole (columnsIn packed (now ram)) v m bank (now bytes) × (length (now ram) < 65536) ⌝ }
     ensures { λ _. ⌜ columnsIn packed (now (ram .exit)) ≡ putRun m (bankRow m bank) v (now (bytes .entry)) (columnsIn packed (now (ram .entry))) ⌝ }
 {

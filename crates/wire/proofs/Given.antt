@@ -29,7 +29,7 @@ drop-bytes n l w i = rw (getD-drop n l i 0) (w (n + i))
 
 -- ---- registers
 
-registers-back : (l : List ℕ) → length l ≡ 12 → Bytes l → bytesOf (registersIn l) ≡ l
+pub registers-back : (l : List ℕ) → length l ≡ 12 → Bytes l → bytesOf (registersIn l) ≡ l
 registers-back l e w =
     rw (mod-eq-of-lt (w 3), mod-eq-of-lt (w 4)) (firsts-all 12 l e)
 

@@ -6,7 +6,7 @@ use native.Mathlib.Omega.{arith}
 use lib.ListN.{length, take}
 use lib.Seq.{length-take-le}
 use Rattle.sheet.specs.Pictures.{pictureOf, litIn}
-use Rattle.laws.proofs.Named.{columns-small}
+use Rattle.laws.proofs.Named.{columns-small, by-eighty}
 use borrow.Author.Needs.{needs}
 use Rattle.chip.proofs.show_own.Statement.{statement}
 use Rattle.chip.proofs.show_own.Tie as tie
@@ -21,7 +21,7 @@ slice-aggregate-show c = sym (length-take-le _ _ (array-share-prefix-columns (c 
 
 show-requires : tie.Need-show-requires
 show-requires c κs = let s = c .before .before .before .before in
-    (s .pre .0 ∙ sym (c .before .before .columns .ensures) ∙ slice-aggregate-show (c .before), omega (arith, s .pre .0, columns-small (s .args .part)), s .pre .1, s .pre .2)
+    (s .pre .0 ∙ sym (c .before .before .columns .ensures) ∙ slice-aggregate-show (c .before), omega (arith, s .pre .0, columns-small (s .args .part)), omega (arith, s .pre .0, by-eighty (s .args .part) 1), s .pre .1, s .pre .2)
 
 returns : tie.Need-returns
 returns c = let a = c .before .before .before .before .before .before .before .args in

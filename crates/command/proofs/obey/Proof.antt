@@ -5,13 +5,13 @@ use Prim.Native.Nat.{_<_}
 use native.Mathlib.Omega.{arith}
 use Rattle.sheet.specs.declared.Command.{Command}
 use Rattle.sheet.specs.Commands.{obeyed}
-use Rattle.command.specs.Nibbles.{lowOf}
+use Rattle.command.specs.Nibbles.{nibbleOf}
 use borrow.Author.Needs.{needs}
 use Rattle.command.proofs.obey.Statement.{statement}
 use Rattle.command.proofs.obey.Tie as tie
 
 add-registers-2 : tie.Need-add-registers-2
-add-registers-2 c = let t = c .before .before .before in let h = subst (λ (k : Command). lowOf k < 16) (t .command2 .given .1) (t .before .before .before .pre) in omega arith
+add-registers-2 c = let t = c .before .before .before in let h = subst (λ (k : Command). nibbleOf k < 16) (t .command2 .given .1) (t .before .before .before .pre) in omega arith
 
 enum-told : tie.Need-enum-told
 enum-told c = search needs

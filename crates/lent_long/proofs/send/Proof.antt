@@ -17,7 +17,8 @@ use Rattle.opening.proofs.Openings.{hearer-some}
 use Rattle.wire.specs.Bytes.{bothOf}
 use Rattle.wire.proofs.Given.{both-back}
 use Rattle.lent_long.specs.LongCalls.{LentAfter, lentAfter, numbered, sentC}
-use Rattle.lent_long.proofs.Sending.{nothing-written, hearer-small, said-of, said-numbers}
+use Rattle.lent_group.proofs.Sets.{said-of}
+use Rattle.lent_long.proofs.Sending.{nothing-written, hearer-small, said-numbers}
 use borrow.Author.Needs.{needs}
 use Rattle.lent_long.proofs.send.Statement.{statement}
 use Rattle.lent_long.proofs.send.Tie as tie

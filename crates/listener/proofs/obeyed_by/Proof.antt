@@ -4,8 +4,8 @@ use mathlib.Core.Path.{refl, sym, ap, subst, _∙_}
 use Prim.Native.Nat.{_<_}
 use Rattle.sheet.specs.declared.Command.{Command}
 use Rattle.sheet.specs.Commands.{obeyed}
-use Rattle.command.specs.Nibbles.{lowOf}
-use Rattle.command.proofs.Cases.{low-nibble}
+use Rattle.command.specs.Nibbles.{nibbleOf}
+use Rattle.command.proofs.Cases.{pointer-nibble}
 use borrow.Author.Needs.{needs}
 use Rattle.listener.proofs.obeyed_by.Statement.{statement}
 use Rattle.listener.proofs.obeyed_by.Tie as tie
@@ -14,7 +14,7 @@ returns : tie.Need-returns
 returns c = rw (sym (c .before .is-control .ensures) ∙ c .if1 .taken) refl
 
 obey-requires : tie.Need-obey-requires
-obey-requires c κs = let a = c .before .before .before .args in subst (λ (k : Command). lowOf k < 16) (sym (c .decode .ensures)) (low-nibble (a .part) (a .byte))
+obey-requires c κs = let a = c .before .before .before .args in subst (λ (k : Command). nibbleOf k < 16) (sym (c .decode .ensures)) (pointer-nibble (a .part) (a .byte))
 
 returns-2 : tie.Need-returns-2
 returns-2 c = let d = c .before in

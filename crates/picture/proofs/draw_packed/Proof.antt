@@ -1,21 +1,24 @@
--- `picture::draw_packed` meets its contract: as `draw`, over the columns that the bytes hold.
+-- `picture::draw_packed` meets its contract: as `draw`, over the columns that the bytes hold; a turn's columns are written before they are counted.
 -- Assumes nothing.
-use mathlib.Core.Path.{_≡_, sym, ap, _∙_}
-use mathlib.Core.List.{List}
-use Prim.Native.Nat.{ℕ, _+_, _-_, _*_, _≤_}
+use mathlib.Core.Path.{_≡_, refl, sym, ap, _∙_}
+use mathlib.Core.List.{List, _++_}
+use Prim.Native.Nat.{ℕ, _+_, _-_, _*_, _%_, _≤_}
 use native.Mathlib.Omega.{arith}
 use lib.ListN.{length, take, drop, length-take, length-drop}
 use denote.Ref.{now}
+use Rattle.lemmas.proofs.Mapped.{Mapped}
+use Rattle.sheet.specs.declared.Shown.the-variants.{Rows}
+use Rattle.sheet.specs.Pictures.{lit}
 use Rattle.packed_sheet.specs.Packed.{unpacked}
 use Rattle.laws.proofs.Packed.{length-unpacked, unpacked-part}
-use Rattle.picture.specs.Drawn.{drawn}
-use Rattle.picture.proofs.Drawing.{Drawing, begun, few, part-turn, done}
+use Rattle.picture.specs.Drawn.{rowsOf}
+use Rattle.picture.proofs.Drawing.{Drawing, written-turn, written-part, rows-low, begun, few, parts-turn, done}
 use borrow.Author.Needs.{needs}
 use Rattle.picture.proofs.draw_packed.Statement.{statement}
 use Rattle.picture.proofs.draw_packed.Tie as tie
 
 abbrev Inv-loop : tie.InvT-loop
-Inv-loop ram first height out₀ n lit₀ start₀ out lit start = Drawing first height (unpacked ram) out lit (2 * start) × (start ≤ length ram)
+Inv-loop ram first height out₀ n lit₀ start₀ out lit start = Drawing first height (unpacked ram) out lit (2 * start) × (start ≤ length ram) × (start % 40 ≡ 0)
 
 abbrev μ-loop : tie.MeasureT-loop
 μ-loop ram first height out₀ n lit₀ start₀ out lit start = length ram - start
@@ -24,65 +27,55 @@ abbrev μ-loop : tie.MeasureT-loop
 sized : (c : tie.At-loop Inv-loop μ-loop) → let s = c .before .before .before in (length (unpacked (now (s .args .ram))) ≡ 2 * length (now (s .args .ram))) × (length (now (s .args .ram)) ≤ 640)
 sized c = let s = c .before .before .before in (length-unpacked (now (s .args .ram)), omega (arith, length-unpacked (now (s .args .ram)), s .pre .most))
 
--- 16 bytes more are there
-within : (c : tie.In-loop Inv-loop μ-loop) → c .before .loop .start + 16 ≤ length (now (c .before .before .before .before .args .ram))
-within c = omega (arith, c .loop-test .taken, c .before .loop .inv .1)
+-- 40 bytes more are there
+within : (l : tie.In-loop Inv-loop μ-loop) → l .before .loop .start + 40 ≤ length (now (l .before .before .before .before .args .ram))
+within l = omega (arith, l .loop-test .taken, l .before .loop .inv .1)
+
+-- a turn's columns are written
+written : (d : tie.After-draw-pairs Inv-loop μ-loop) → let p = d .before .before .before .before in
+    let a = p .before .before .before .args in
+    let start = p .loop .start in
+    Mapped (lit (a .height) (Rows (a .first))) (unpacked (now (a .ram))) (take (2 * start) (p .loop .out) ++ (d .draw-pairs .last .1 .1 .1 .0 ++ drop (2 * (start + 40) - 2 * start) (drop (2 * start) (p .loop .out)))) (2 * (start + 40))
+written d = let l = d .before .before .before in
+    let p = l .before in
+    let a = p .before .before .before .args in
+    let start = p .loop .start in
+    written-turn (2 * start) (2 * (start + 40)) (p .loop .inv .0 .mapped) (omega arith) (omega (arith, within l, sized p .0))
+    (d .draw-pairs .ensures ∙ ap (λ (r : List ℕ). rowsOf (a .first) (a .height) r) (unpacked-part start (start + 40) (now (a .ram))))
 
 draw-pairs-requires : tie.Need-draw-pairs-requires Inv-loop μ-loop
 draw-pairs-requires c κs = let p = c .before .before .before in
     let pre = p .before .before .before .pre in
-    record {
-      size = simp (length-take, length-drop, length-unpacked) (omega (arith, p .loop .inv .0 .mapped .size, sized p .0, within (c .before .before)));
-      below = pre .below;
-      rows = pre .rows;
-      most = simp (length-take, length-drop, length-unpacked) (omega arith);
-    }
+    (simp (length-take, length-drop, length-unpacked) (omega (arith, p .loop .inv .0 .mapped .size, sized p .0, within (c .before .before))), pre .below, omega (arith, pre .rows))
 
-loop-again : tie.Need-loop-again Inv-loop μ-loop
-loop-again c = let l = c .before .before .before .before .before in
-    let p = l .before in
-    let a = p .before .before .before .args in (
-      part-turn (p .loop .inv .0) (omega arith) (omega (arith, within l, sized p .0))
-          (c .before .before .draw-pairs .ensures ∙ ap (λ (l : List ℕ). drawn (a .first) (a .height) l) (unpacked-part (p .loop .start) (p .loop .start + 16) (now (a .ram)))),
-      within l,
-    )
+count-some-requires : tie.Need-count-some-requires Inv-loop μ-loop
+count-some-requires c κs = let d = c .before .before .before .before in
+    let p = d .before .before .before .before in
+    let s = p .before .before .before in
+    let start = p .loop .start in
+    (simp (length-take, length-drop) (omega arith), rw (written-part (2 * start) (2 * start + 48) (written d) (omega arith) (omega arith)) (rows-low (s .args .first) (s .args .height) (take (2 * start + 48 - 2 * start) (drop (2 * start) (unpacked (now (s .args .ram))))) (s .pre .rows)))
 
-add-lit : tie.Need-add-lit Inv-loop μ-loop
-add-lit c = let l = c .before .before .before .before .before in
+count-some-requires-2 : tie.Need-count-some-requires-2 Inv-loop μ-loop
+count-some-requires-2 c κs = let d = c .before .before .before .before .before .before .before in
+    let p = d .before .before .before .before in
+    let s = p .before .before .before in
+    let start = p .loop .start in
+    (simp (length-take, length-drop) (omega arith), rw (written-part (2 * start + 48) (2 * (start + 40)) (written d) (omega arith) (omega arith)) (rows-low (s .args .first) (s .args .height) (take (2 * (start + 40) - (2 * start + 48)) (drop (2 * start + 48) (unpacked (now (s .args .ram))))) (s .pre .rows)))
+
+add-lit-2 : tie.Need-add-lit-2 Inv-loop μ-loop
+add-lit-2 c = let l = c .before .before .before .before .before .before .before .before .before .before .before in
     omega (arith, few (l .before .loop .inv .0) (l .before .before .before .before .pre .rows), within l, sized (l .before) .1)
 
-draw-pairs-requires-2 : tie.Need-draw-pairs-requires-2 Inv-loop μ-loop
-draw-pairs-requires-2 c κs = let l = c .before .before in
+loop-again : tie.Need-loop-again Inv-loop μ-loop
+loop-again c = let d = c .before .before .before .before .before .before .before .before in
+    let l = d .before .before .before in
     let p = l .before in
-    let pre = p .before .before .before .pre in
-    record {
-      size = simp (length-take, length-drop, length-unpacked) (omega (arith, p .loop .inv .0 .mapped .size, p .loop .inv .1, sized p .0));
-      below = pre .below;
-      rows = pre .rows;
-      most = simp (length-take, length-drop, length-unpacked) (omega (arith, l .loop-test .left));
-    }
-
--- the bytes that are left, too
-rest-drawn : (d : tie.After-draw-pairs2 Inv-loop μ-loop) → let p = d .before .before .before .before in
-    let a = p .before .before .before .args in
-    record { lit = d .draw-pairs2 .result; out = d .draw-pairs2 .last .1 .1 .1 .0 } ≡ drawn (a .first) (a .height) (take (2 * length (now (a .ram)) - 2 * p .loop .start) (drop (2 * p .loop .start) (unpacked (now (a .ram)))))
-rest-drawn d = let p = d .before .before .before .before in
-    let a = p .before .before .before .args in
-    d .draw-pairs2 .ensures ∙ ap (λ (l : List ℕ). drawn (a .first) (a .height) l) (unpacked-part (p .loop .start) (length (now (a .ram))) (now (a .ram)))
-
-same-length : tie.Need-same-length Inv-loop μ-loop
-same-length c = let d = c .before .before in
-    let p = d .before .before .before .before in
-    part-turn (p .loop .inv .0) (omega (arith, p .loop .inv .1)) (omega (arith, sized p .0)) (rest-drawn d) .mapped .size ∙ sym (p .before .before .before .pre .size)
+    let start = p .loop .start in
+    (parts-turn (p .loop .inv .0) (2 * start + 48) (omega arith) (omega arith) (written d) (c .before .before .before .count-some .ensures) (c .count-some2 .ensures), within l, omega (arith, p .loop .inv .2))
 
 returns : tie.Need-returns Inv-loop μ-loop
-returns c = let d = c .before .before in
-    let p = d .before .before .before .before in
-    done (part-turn (p .loop .inv .0) (omega (arith, p .loop .inv .1)) (omega (arith, sized p .0)) (rest-drawn d)) (omega (arith, sized p .0))
-
-add-result : tie.Need-add-result Inv-loop μ-loop
-add-result c = let p = c .before .before .before .before .before .before in
-    omega (arith, few (p .loop .inv .0) (p .before .before .before .pre .rows), p .loop .inv .1, sized p .1)
+returns c = let p = c .before in
+    done (p .loop .inv .0) (omega (arith, c .loop-test .left, p .loop .inv .1, p .loop .inv .2, sized p .0, p .before .before .before .pre .turns))
 
 pub draw-packed-spec : {M : Type 1} → statement M
 draw-packed-spec =
@@ -90,9 +83,9 @@ draw-packed-spec =
     (tie.spec
     Inv-loop
     μ-loop
-    (λ c. (begun (c .before .before .pre .size), omega arith))
+    (λ c. (begun (c .before .before .pre .size), omega arith, refl))
     (λ c. c .loop .inv .1)
-    (λ c. omega (arith, within c, sized (c .before) .1))
+    (λ c. omega (arith, within c))
     (λ c. omega arith)
     (λ c. omega arith)
     (λ c. within c)
@@ -102,20 +95,25 @@ draw-packed-spec =
     (λ c. omega arith)
     (λ c. omega (arith, within (c .before), sized (c .before .before) .0, c .before .before .loop .inv .0 .mapped .size))
     draw-pairs-requires
-    (λ c. search needs)
-    add-lit
-    (λ c. omega (arith, within (c .before .before .before .before .before)))
-    loop-again
-    (λ c. c .before .loop .inv .1)
-    (λ c. c .before .loop .inv .1)
+    (λ c. omega (arith, within (c .before .before .before .before .before), sized (c .before .before .before .before .before .before) .1))
+    (λ c. omega (arith, within (c .before .before .before .before .before), sized (c .before .before .before .before .before .before) .1))
+    (λ c. omega (arith, within (c .before .before .before .before .before), sized (c .before .before .before .before .before .before) .1))
     (λ c. omega arith)
-    (λ c. omega (arith, c .before .before .loop .inv .1, sized (c .before .before) .1))
-    (λ c. omega (arith, sized (c .before .before) .1))
-    (λ c. omega (arith, c .before .before .loop .inv .1))
-    (λ c. omega (arith, c .before .before .loop .inv .1))
-    (λ c. omega (arith, sized (c .before .before) .0, c .before .before .loop .inv .0 .mapped .size))
-    draw-pairs-requires-2
+    (λ c. omega arith)
+    (λ c. omega (arith, within (c .before .before .before .before .before .before), sized (c .before .before .before .before .before .before .before) .0, written (c .before .before .before) .size))
+    count-some-requires
+    (λ c. omega (arith, within (c .before .before .before .before .before .before .before .before), sized (c .before .before .before .before .before .before .before .before .before) .1))
+    (λ c. omega (arith, within (c .before .before .before .before .before .before .before .before), sized (c .before .before .before .before .before .before .before .before .before) .1))
+    (λ c. omega (arith, within (c .before .before .before .before .before .before .before .before), sized (c .before .before .before .before .before .before .before .before .before) .1))
+    (λ c. omega arith)
+    (λ c. omega arith)
+    (λ c. omega (arith, within (c .before .before .before .before .before .before .before .before .before), sized (c .before .before .before .before .before .before .before .before .before .before) .0, written (c .before .before .before .before .before .before) .size))
+    count-some-requires-2
     (λ c. search needs)
-    add-result
-    same-length
+    (λ c. search needs)
+    (λ c. omega arith)
+    add-lit-2
+    (λ c. omega (arith, within (c .before .before .before .before .before .before .before .before .before .before .before)))
+    loop-again
+    (λ c. c .before .loop .inv .0 .mapped .size ∙ sym (c .before .before .before .before .pre .size))
     returns)

@@ -23,8 +23,8 @@ told c = sym (c .before .before .shown .ensures) ∙ c .first .given .1
 draw-in-requires-2 : tie.Need-draw-in-requires-2
 draw-in-requires-2 c κs = let f = c .before .before .before in
     let s = f .before .before .before .before .before in
-    let rows = rows-in _ _ _ (s .pre .2) (s .pre .3) (told f) in
-    record { size = s .pre .0; below = omega (arith, rows); rows = omega (arith, rows, c .before .backplanes .ensures); most = omega (arith, s .pre .0, s .pre .1) }
+    let rows = rows-in _ _ _ (s .pre .3) (s .pre .4) (told f) in
+    record { size = s .pre .0; below = omega (arith, rows); rows = omega (arith, rows, c .before .backplanes .ensures); turns = omega (arith, s .pre .0, s .pre .2); most = omega (arith, s .pre .0, s .pre .1) }
 
 returns : tie.Need-returns
 returns c = let t = c .before .before .before .before in
@@ -41,7 +41,7 @@ show-spec =
     (tie.spec
     (λ c κs. search needs)
     (λ c. search needs)
-    (λ c κs. let s = c .before .before .before .before .before .before in record { size = s .pre .0; below = omega arith; rows = omega arith; most = omega (arith, s .pre .0, s .pre .1) })
+    (λ c κs. let s = c .before .before .before .before .before .before in record { size = s .pre .0; below = omega arith; rows = omega arith; turns = omega (arith, s .pre .0, s .pre .2); most = omega (arith, s .pre .0, s .pre .1) })
     (λ c. search needs)
     (λ c κs. search needs)
     draw-in-requires-2

@@ -1,4 +1,4 @@
--- `lent_long::say` meets its contract: the numbers of what is said.
+-- `lent_group::say` meets its contract: the numbers of what is said.
 -- Assumes nothing.
 use mathlib.Core.Path.{ap, _∙_}
 use mathlib.Core.List.{List}
@@ -6,8 +6,8 @@ use Prim.Native.Nat.{ℕ}
 use lib.ListN.{getD}
 use Rattle.answers.proofs.Small.{answer-small}
 use borrow.Author.Needs.{needs}
-use Rattle.lent_long.proofs.say.Statement.{statement}
-use Rattle.lent_long.proofs.say.Tie as tie
+use Rattle.lent_group.proofs.say.Statement.{statement}
+use Rattle.lent_group.proofs.say.Tie as tie
 
 returns : tie.Need-returns
 returns c = let put = c .before .before in
