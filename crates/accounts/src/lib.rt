@@ -1,4 +1,6 @@
 // DEMAND 3 OVER THE RUNNING CODE: both accounts take the same transfer, and their contracts say that they agree.
+#![tactic(auto)]
+
 ghost use Rattle.std.specs.Prelude.{◌≡◌};
 ghost use Rattle.sheet.specs.Protocol.{sent};
 ghost use Rattle.sheet.specs.Long.{transfer_part};
@@ -8,7 +10,7 @@ ghost use Rattle.accounts.specs.Alike.{Alike, Agreed};
 use plain::{Bench, BenchTransferred};
 use sheet::{Both, Chips, Transferred};
 
-#[derive(Drop)]
+#[derive(Clone, Copy)]
 pub struct Sides {
     pub long: Transferred,
     pub plain: BenchTransferred,

@@ -1,4 +1,6 @@
 // The numbers of an answer, by value: answer, place, counts, and of a transfer who acknowledged its last data byte. Answer 0 is taken; a refusal has its number, its place and zero counts.
+#![tactic(auto)]
+
 ghost use Rattle.std.specs.Prelude.{◌≡◌};
 ghost use Rattle.sheet.specs.Parts.{part_of};
 ghost use Rattle.sheet.specs.Refusals.{number_of, place_of, last_number, refusal_numbers, numbers, plain_numbers, picture_numbers, rescued_numbers, check_numbers, written_numbers};

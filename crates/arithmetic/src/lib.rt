@@ -1,4 +1,6 @@
 // The small arithmetic that several rooms share: the numbers of a part, modes and banks, places, bits and rows.
+#![tactic(auto)]
+
 ghost use Rattle.std.specs.Prelude.{true, cond, ◌≡◌, ◌-◌, ◌*◌, ◌/◌, ◌%◌, ◌<◌, min, length};
 ghost use Rattle.sheet.specs.Parts.{part_of};
 ghost use Rattle.sheet.specs.Registers.{in_range, backplanes, bank_row};

@@ -1,4 +1,6 @@
 // Bus logs: a log's bytes in, the program's text out.
+#![tactic(auto)]
+
 ghost use Rattle.std.specs.Prelude.{◌≡◌, ◌+◌, ◌≤◌, length, replicate};
 ghost use Rattle.sheet.specs.Parts.{pcf8532};
 ghost use Rattle.sheet.specs.Pictures.{lit_in};
@@ -66,7 +68,7 @@ fn put_transfers(
 }
 
 // Where the text has come to after a group's columns, and what the group has lit.
-#[derive(Drop)]
+#[derive(Clone, Copy)]
 struct Listed {
     at: usize,
     lit: usize,
@@ -159,7 +161,7 @@ fn put_log(log: &[u8], out: &mut [u8]) -> usize
 // Room for the text of any log.
 pub const TEXT: usize = 700000;
 
-#[derive(Drop)]
+#[derive(Clone, Copy)]
 pub enum Replayed {
     Written(usize),
     SmallBuffer,

@@ -1,5 +1,7 @@
 // The model for C and Rust: numbers and lent buffers only. A part is its number, 0 the PCF8532 and 1 the PCA85133. Registers are 24 bytes, group 0's twelve and then group 1's, in the order E B M P A I O AB BF and the marks of pointer high, pointer low and device-select;
 // a chip is 174 bytes (`wire`); an answer is six numbers: answer, place, acknowledged, stored, discarded, and who acknowledged the last data byte, or what the call counts. A buffer of another size is answered 255 and nothing is written.
+#![tactic(auto)]
+
 ghost use Rattle.std.specs.Prelude.{◌≡◌};
 ghost use Rattle.sheet.specs.Protocol.{sent};
 ghost use Rattle.buslog.specs.Replays.{replay_call};

@@ -1,4 +1,6 @@
 // Replays many logs and writes each one's text. Standard input: for each log a four-byte big-endian length and the log.
+#![tactic(auto)]
+
 ghost use Rattle.std.specs.Prelude.{◌≡◌, ◌+◌, ◌≤◌, ◌<◌, ◌^◌, length};
 
 use buslog::Replayed;

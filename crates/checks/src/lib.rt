@@ -1,4 +1,6 @@
 // The checks that several calls share, each with its refusal. A check is looked at only if the earlier ones passed.
+#![tactic(auto)]
+
 ghost use Rattle.std.specs.Prelude.{◌≡◌, ◌+◌, ◌%◌, ◌≤◌, max, length, get_or, drop, true};
 ghost use Rattle.laws.proofs.Nibbles.{Nibbles};
 ghost use Rattle.checks.specs.Highest.{highest_of, first_over};

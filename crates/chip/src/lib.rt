@@ -1,4 +1,6 @@
 // One chip of the plain account: it follows every byte by itself, over its own registers and columns.
+#![tactic(auto)]
+
 ghost use Rattle.std.specs.Prelude.{◌≡◌, true, ◌+◌, ◌*◌, ◌<◌, length, take};
 ghost use Rattle.sheet.specs.Refusals.{picture_numbers, check_numbers};
 ghost use Rattle.sheet.specs.Parts.{part_of};

@@ -1,4 +1,6 @@
 // A data byte in one chip of the plain account: column by column, stored where A is the chip's subaddress, P and A moving on.
+#![tactic(auto)]
+
 ghost use Rattle.std.specs.Prelude.{◌≡◌, cond, true, ◌+◌, ◌-◌, ◌*◌, ◌/◌, ◌%◌, ◌^◌, ◌≤◌, ◌<◌, min, ltb, length};
 ghost use Rattle.sheet.specs.Parts.{part_of};
 ghost use Rattle.sheet.specs.Registers.{in_range, backplanes};

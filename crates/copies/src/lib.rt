@@ -1,4 +1,6 @@
 // Bytes from one buffer to another.
+#![tactic(auto)]
+
 ghost use Rattle.std.specs.Prelude.{◌≡◌, length};
 
 pub fn copy(from: &[u8], to: &mut [u8])

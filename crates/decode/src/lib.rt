@@ -1,4 +1,6 @@
 // The command of a byte, of each part.
+#![tactic(auto)]
+
 ghost use Rattle.std.specs.Prelude.{◌≡◌, cond, ◌≤◌, eqb};
 ghost use Rattle.sheet.specs.Parts.{part_of, pcf8532, pca85133, mode_set, blink_select, bank_select};
 ghost use Rattle.sheet.specs.Commands.{defined};

@@ -1,5 +1,7 @@
 // Wanted rows into data bytes, each mode with its own literal arithmetic: `words` and `ram` backwards.
 // Columns are taken four at a time as a word, and in 1:3 so are the data bytes; in 1:4 two columns are a byte. The compiler takes several at a time.
+#![tactic(auto)]
+
 ghost use Rattle.std.specs.Prelude.{◌≡◌, ◌+◌, ◌*◌, ◌≤◌, ◌<◌, ◌^◌, [], ◌∷◌, map, length};
 ghost use Rattle.sheet.specs.Registers.{bank_row};
 ghost use Rattle.sheet.specs.Data.{width_of};

@@ -1,4 +1,6 @@
 // What each symbol lights, and its data byte in each mode, by tables; and back (paper 02, request 1).
+#![tactic(auto)]
+
 ghost use Rattle.std.specs.Prelude.{◌≡◌, ◌<◌};
 ghost use Rattle.glyphs.specs.Tables.{order_of, pushed, bytes_in, byte_at, number_with, byte_in, byte_by, Slot, Picked, Entry};
 
@@ -60,7 +62,7 @@ fn order_of(mode: u8) -> [u8; 8]
 // ---- the data bytes of a mode
 
 // A byte each, the first lowest, in two numbers: digits 0 to 7; then 8, 9, a space, a minus and the point.
-#[derive(Drop)]
+#[derive(Clone, Copy)]
 pub struct Bytes {
     pub first: u64,
     pub second: u64,

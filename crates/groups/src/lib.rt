@@ -1,4 +1,6 @@
 // The two groups on the bus: who hears a transfer, and a group's chips, registers and part of the RAM.
+#![tactic(auto)]
+
 ghost use Rattle.std.specs.Prelude.{◌≡◌, cond, ◌/◌};
 ghost use Rattle.sheet.specs.Parts.{part_of};
 ghost use Rattle.sheet.specs.Registers.{registers_of};

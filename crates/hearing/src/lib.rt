@@ -1,4 +1,6 @@
 // One group hears a transfer: the listener goes over the bytes, and each run of data is handed to the writer of its columns, a byte each or packed.
+#![tactic(auto)]
+
 ghost use Rattle.std.specs.Prelude.{◌≡◌, ◌+◌, ◌<◌, length, get_or, drop};
 ghost use Rattle.sheet.specs.declared.Expect.TheVariants.{Control};
 ghost use Rattle.sheet.specs.Parts.{part_of};

@@ -1,5 +1,7 @@
 // Reads a bus log from standard input and writes the RAM that it leaves in a group, its one argument, as Intel HEX to standard output.
 // Standard error says why the log is refused, `X number place`, or what is wrong with the argument, the input or the output.
+#![tactic(auto)]
+
 ghost use Rattle.std.specs.Prelude.{◌≡◌, length};
 ghost use Rattle.log_sheet.specs.Logs.{check_log};
 

@@ -1,4 +1,6 @@
 // Bytes as text, two capital hexadecimal digits each, and back; and their sum.
+#![tactic(auto)]
+
 ghost use Rattle.std.specs.Prelude.{true, ◌≡◌, ◌+◌, ◌*◌, ◌%◌, ◌≤◌, ◌<◌, length};
 ghost use Rattle.image_sheet.specs.Hex.{digit_of, text_of, sum_of};
 ghost use Rattle.image_sheet.specs.Images.{value_of, pair_of, are_digits, bytes_of};

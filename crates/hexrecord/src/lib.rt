@@ -1,4 +1,6 @@
 // A record of a RAM image: its line written; found, checked and stored (paper 02, request 13).
+#![tactic(auto)]
+
 ghost use Rattle.std.specs.Prelude.{true, ◌≡◌, ◌++◌, ◌+◌, ◌≤◌, ◌<◌, length, drop};
 ghost use Rattle.image_sheet.specs.Hex.{checksum_of, record_of, line_of};
 ghost use Rattle.image_sheet.specs.Images.{line_end, address_of, kind_of, inside, none_given, head_fault, data_fault, fault_of, stored, fault_in, size_in, bytes_of, digits_in};
@@ -39,7 +41,7 @@ pub fn put_record(out: &mut [u8], at: usize, kind: u8, address: usize, columns: 
 // ---- a line is found
 
 // What stands at a place of a file: a line, what its record's length says and where the next line begins; or none.
-#[derive(Drop)]
+#[derive(Clone, Copy)]
 pub enum Line {
     Of { count: usize, next: usize },
     None,
@@ -171,7 +173,7 @@ fn store(bytes: &[u8], given: &mut [u8])
 }
 
 // What a record is, and the place after it: one of data, the end record, or a refused one.
-#[derive(Drop)]
+#[derive(Clone, Copy)]
 pub enum Step {
     Next(usize),
     Last(usize),

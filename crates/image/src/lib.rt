@@ -1,4 +1,6 @@
 // RAM images for the glass maker: a group's RAM to Intel HEX, and back (paper 02, request 13).
+#![tactic(auto)]
+
 ghost use Rattle.std.specs.Prelude.{◌≡◌, ◌+◌, ◌*◌, ◌/◌, ◌≤◌, ◌<◌, length, drop, replicate};
 ghost use Rattle.sheet.specs.Refusals.{written_numbers};
 ghost use Rattle.image_sheet.specs.Hex.{data_lines, file_of, one_group, hex_write_part};

@@ -1,4 +1,6 @@
 // A program's bus log from standard input, and what it writes to standard output.
+#![tactic(auto)]
+
 ghost use Rattle.std.specs.Prelude.{◌≡◌, length};
 ghost use Rattle.input.specs.Reads.{Within};
 
@@ -12,7 +14,7 @@ pub fn log_buffer() -> [u8; 65537]
 }
 
 // How far the input was read: to its end or until the buffer was full, so many bytes; or to a read that failed.
-#[derive(Drop)]
+#[derive(Clone, Copy)]
 pub enum Input {
     Whole(usize),
     Failed,

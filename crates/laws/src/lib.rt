@@ -1,1 +1,2 @@
 // What follows from the definitions of `sheet` alone. No code.
+#![tactic(auto)]

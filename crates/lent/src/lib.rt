@@ -1,4 +1,6 @@
 // A transfer to chips that C lends as bytes, 174 a chip.
+#![tactic(auto)]
+
 ghost use Rattle.std.specs.Prelude.{◌≡◌, ◌%◌, length};
 ghost use Rattle.sheet.specs.Protocol.{sent};
 ghost use Rattle.lent.specs.Lent.{Few, lent_call};

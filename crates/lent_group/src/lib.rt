@@ -1,4 +1,6 @@
 // One group hears a transfer: its registers are twelve bytes that C lends, and what is said of the transfer goes into the numbers of a lent answer. A refused one leaves all as it was.
+#![tactic(auto)]
+
 ghost use Rattle.std.specs.Prelude.{◌≡◌, true, ◌<◌, length, get_or};
 ghost use Rattle.sheet.specs.Parts.{part_of};
 ghost use Rattle.sheet.specs.Refusals.{numbers};
@@ -15,7 +17,7 @@ use lent_opening::Kept;
 use sheet::{Acknowledger, Answer, Check, Chips, Counts, Registers};
 
 // A bus as a call is told of it: the part, the chips of each group, and whether their columns are packed.
-#[derive(Drop)]
+#[derive(Clone, Copy)]
 pub struct Bus {
     pub part: u8,
     pub chips: Chips,

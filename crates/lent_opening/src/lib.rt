@@ -1,4 +1,6 @@
 // The commands that open a transfer, each after a control byte of its own, obeyed where the registers lie: in the twelve bytes that C lends. What these were is kept, so that a fault takes it back.
+#![tactic(auto)]
+
 ghost use Rattle.std.specs.Prelude.{◌≡◌, ◌<◌, length, drop};
 ghost use Rattle.sheet.specs.Parts.{part_of};
 ghost use Rattle.sheet.specs.Commands.{defined, obeyed};
@@ -12,7 +14,7 @@ use sheet::{Check, Command, Refusal};
 // ---- the registers as they were
 
 // Four bytes a word.
-#[derive(Drop)]
+#[derive(Clone, Copy)]
 pub struct Kept {
     pub first: u32,
     pub second: u32,
@@ -42,7 +44,7 @@ pub fn take_back(kept: Kept, set: &mut [u8])
 // ---- the commands
 
 // The place of the byte after them; or, of one that is undefined, the fault.
-#[derive(Drop)]
+#[derive(Clone, Copy)]
 pub struct Opening {
     pub fault: Check,
     pub at: usize,

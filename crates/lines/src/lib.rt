@@ -1,4 +1,6 @@
 // The lines of a replay's text, each written into a lent buffer at a place.
+#![tactic(auto)]
+
 ghost use Rattle.std.specs.Prelude.{◌+◌, ◌≤◌, length};
 ghost use Rattle.log_sheet.specs.Logs.{seen_line, column_line, column_lines, refusal_line};
 ghost use Rattle.lines.specs.Numbered.{numbered_line, numbered_lines};

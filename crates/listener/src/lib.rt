@@ -1,4 +1,6 @@
 // A group as it follows a transfer: position, registers, counts and who acknowledged last, by value and without the RAM.
+#![tactic(auto)]
+
 ghost use Rattle.std.specs.Prelude.{◌≡◌, [], ◌<◌, ◌^◌};
 ghost use Rattle.sheet.specs.Parts.{part_of};
 ghost use Rattle.sheet.specs.Data.{acknowledger};
@@ -10,7 +12,7 @@ ghost use Rattle.listener.specs.Listeners.{listener_of, is_control, obeyed_by, d
 use sheet::{Acknowledger, Counts, Expect, Kind, Registers};
 
 // The protocol position, with the registers, the counts, and who acknowledged the last data byte.
-#[derive(Drop)]
+#[derive(Clone, Copy)]
 pub struct Listener {
     pub expect: Expect,
     pub registers: Registers,

@@ -1,4 +1,6 @@
 // THE LONG ACCOUNT: one register set a group and one long RAM, a byte a column or packed. Every input gets an answer; a refused call changes nothing.
+#![tactic(auto)]
+
 ghost use Rattle.std.specs.Prelude.{◌≡◌, ◌*◌, ◌<◌, length};
 ghost use Rattle.sheet.specs.Refusals.{numbers, picture_numbers, check_numbers};
 ghost use Rattle.sheet.specs.Parts.{part_of};

@@ -1,1 +1,2 @@
 // The commands that open a transfer, and what is left of it after them. No code.
+#![tactic(auto)]

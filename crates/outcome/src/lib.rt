@@ -1,4 +1,6 @@
 // The RAM that a bus log leaves: its transfers carried out from power-on, with RAM all 0.
+#![tactic(auto)]
+
 ghost use Rattle.std.specs.Prelude.{◌≡◌};
 ghost use Rattle.sheet.specs.Parts.{pcf8532};
 ghost use Rattle.sheet.specs.Long.{both_on, state_of, state_after_all};

@@ -1,4 +1,6 @@
 // Data bytes into a group's packed columns, two a byte (paper 02, request 6). Every run goes from an even column on: from an odd one its bits are a stream that begins one column earlier.
+#![tactic(auto)]
+
 ghost use Rattle.std.specs.Prelude.{◌≡◌, ◌≢◌, ◌+◌, ◌-◌, ◌*◌, ◌%◌, ◌≤◌, ◌<◌, length};
 ghost use Rattle.sheet.specs.Registers.{bank_row};
 ghost use Rattle.sheet.specs.Data.{put_bits, width_of};

@@ -1,4 +1,6 @@
 // A data byte's packed columns as a word, four bits each, and words into packed columns: two columns a byte, the even one in the low four bits (paper 02, request 6).
+#![tactic(auto)]
+
 ghost use Rattle.std.specs.Prelude.{◌≡◌, ℕ, ◌+◌, ◌*◌, ◌≤◌, ◌<◌, ◌^◌, length};
 ghost use Rattle.sheet.specs.Data.{changed};
 ghost use Rattle.packed_sheet.specs.Packed.{unpacked};

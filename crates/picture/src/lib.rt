@@ -1,4 +1,6 @@
 // What a group shows.
+#![tactic(auto)]
+
 ghost use Rattle.std.specs.Prelude.{◌≡◌, ◌≤◌, ◌<◌, ◌%◌, length};
 ghost use Rattle.sheet.specs.Pictures.{lit, picture_of, lit_in};
 ghost use Rattle.packed_sheet.specs.Packed.{unpacked, columns_in};

@@ -1,5 +1,7 @@
 // THE PLAIN ACCOUNT: a lent list of chips of one part, each of which follows every byte by itself. Every input gets an answer; a refused call changes nothing.
 // What is decided and done is decided and done by value, in `turns` and `starts`. The functions over the list only go along it, and are proved by hand.
+#![tactic(auto)]
+
 ghost use Rattle.std.specs.Prelude.{◌≡◌, map, ◌+◌, ◌≤◌, length};
 ghost use Rattle.sheet.specs.Refusals.{plain_numbers};
 ghost use Rattle.sheet.specs.Parts.{part_of};
@@ -100,13 +102,13 @@ pub fn transfer(chips: &mut [Chip], bytes: &[u8], part: u8, bits: u8) -> PlainAn
 // ---- by value, for a caller that has its chips in a local
 
 // As many chips as the smaller part can have on a bus.
-#[derive(Drop)]
+#[derive(Clone, Copy)]
 pub struct Bench {
     pub chips: [Chip; 16],
     pub count: usize,
 }
 
-#[derive(Drop)]
+#[derive(Clone, Copy)]
 pub struct BenchTransferred {
     pub answer: PlainAnswer,
     pub bench: Bench,

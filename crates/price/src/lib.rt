@@ -1,4 +1,6 @@
 // Write a price on the glass: a text to 7-segment data bytes, and back to text (paper 02, request 1).
+#![tactic(auto)]
+
 ghost use Rattle.std.specs.Prelude.{◌≡◌, map, ◌≤◌, ◌<◌, length, take};
 ghost use Rattle.sheet.specs.Refusals.{written_numbers};
 ghost use Rattle.price_sheet.specs.Price.{text_of, texts_of, byte_of, begun_at, spelled, read_from, check_price, Sizes, price_write, price_read};

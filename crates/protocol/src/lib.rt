@@ -1,4 +1,6 @@
 // The bytes of a transfer after its address: what each is, and the first that is refused.
+#![tactic(auto)]
+
 ghost use Rattle.std.specs.Prelude.{◌≡◌, cond, ◌≤◌, ◌<◌, length, drop};
 ghost use Rattle.sheet.specs.Parts.{part_of};
 ghost use Rattle.sheet.specs.Protocol.{kind_of, control_of, next, sent, is_data_of, is_data};

@@ -1,5 +1,7 @@
 // Data bytes into a group's columns, each mode with its own literal arithmetic.
 // Bytes whose columns are all there go in without a test a column; only the byte at the edge is tested.
+#![tactic(auto)]
+
 ghost use Rattle.std.specs.Prelude.{◌≡◌, ◌+◌, ◌-◌, ◌*◌, ◌%◌, ◌≤◌, ◌<◌, ◌^◌, length};
 ghost use Rattle.sheet.specs.declared.Check.TheVariants.{Passed};
 ghost use Rattle.sheet.specs.Registers.{bank_row};

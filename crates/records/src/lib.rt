@@ -1,4 +1,6 @@
 // A log's head and records: whether the head is one, what stands at a place, and whether all records are whole.
+#![tactic(auto)]
+
 ghost use Rattle.std.specs.Prelude.{◌≡◌, ◌<◌, drop};
 ghost use Rattle.log_sheet.specs.Records.{length_of};
 ghost use Rattle.log_sheet.specs.Logs.{log_chips, seen_bytes, log_records, check_head, seen_in};
@@ -57,14 +59,14 @@ pub fn seen_bytes(log: &[u8]) -> usize
 }
 
 // A place in a log, at a record's length field; each body has `seen` bytes at least.
-#[derive(Drop)]
+#[derive(Clone, Copy)]
 pub struct Cursor {
     pub at: usize,
     pub seen: usize,
 }
 
 // What stands there: a whole record, the log's end, a record that is cut short, or one with too short a body.
-#[derive(Drop)]
+#[derive(Clone, Copy)]
 pub enum Record {
     Body {
         start: usize,

@@ -1,4 +1,6 @@
 // Why a call of the long account is refused: its checks in the order of their numbers; a later one is looked at only if the earlier ones passed.
+#![tactic(auto)]
+
 ghost use Rattle.std.specs.Prelude.{◌≡◌, ◌*◌, ◌/◌, ltb};
 ghost use Rattle.sheet.specs.declared.Refusal.TheVariants.{Register, GroupOrPhase};
 ghost use Rattle.sheet.specs.Parts.{part_of};

@@ -1,4 +1,6 @@
 // A group's registers: their ranges, their power-on values, and what is unknown of them.
+#![tactic(auto)]
+
 ghost use Rattle.std.specs.Prelude.{◌≡◌, ◌&&◌, ltb};
 ghost use Rattle.sheet.specs.Parts.{part_of};
 ghost use Rattle.sheet.specs.Registers.{known, power_on, lost_by, in_range};

@@ -1,5 +1,7 @@
 // Reads a bus log from standard input and writes its text to standard output.
 // Standard error says if the log is refused, or what could not be read or written.
+#![tactic(auto)]
+
 ghost use Rattle.std.specs.Prelude.{◌≡◌, length};
 ghost use Rattle.buslog.specs.Replays.{room};
 

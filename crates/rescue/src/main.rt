@@ -1,5 +1,7 @@
 // Reads a torn bus log from standard input and writes what is whole of it to standard output.
 // Standard error has the report, `R records kept dropped tear`; or why the log is refused, `X number place`; or what could not be read or written.
+#![tactic(auto)]
+
 use input::Input;
 use libc::STDERR_FILENO;
 use sheet::Rescued;

@@ -1,4 +1,6 @@
 // A run of data bytes into a group's columns, a byte each or packed: the bytes whose columns are all there, and the one that is cut.
+#![tactic(auto)]
+
 ghost use Rattle.std.specs.Prelude.{◌≡◌, ◌<◌, length};
 ghost use Rattle.sheet.specs.Parts.{part_of};
 ghost use Rattle.sheet.specs.Registers.{bank_row};

@@ -1,4 +1,5 @@
 // The types of the bus and its chips. Letters are the registers' of the paper: E, B, M, P, A, I, O, AB, BF.
+#![tactic(auto)]
 
 // The parts by their numbers (paper 02, request 5).
 pub const PCF8532: u8 = 0;
@@ -6,7 +7,7 @@ pub const PCF8532: u8 = 0;
 pub const PCA85133: u8 = 1;
 
 // What a mode-set carries, as one record (sheet 003, table 6).
-#[derive(Drop)]
+#[derive(Clone, Copy)]
 pub struct Settings {
     pub e: u8,
     pub b: u8,
@@ -14,7 +15,7 @@ pub struct Settings {
 }
 
 // The commands of sheet 003, table 5, with the one pointer command of sheet 002, table 11; and the bytes that are none.
-#[derive(Drop)]
+#[derive(Clone, Copy)]
 pub enum Command {
     PointerHigh(u8),
     PointerLow(u8),
@@ -28,14 +29,14 @@ pub enum Command {
 }
 
 // What a cut data byte makes unknown until its command comes: 1 where the number is unknown (paper 02, request 8).
-#[derive(Drop)]
+#[derive(Clone, Copy)]
 pub struct Marks {
     pub high: u8,
     pub low: u8,
     pub device: u8,
 }
 
-#[derive(Drop)]
+#[derive(Clone, Copy)]
 pub struct Registers {
     pub e: u8,
     pub b: u8,
@@ -50,21 +51,21 @@ pub struct Registers {
 }
 
 // A register set a group.
-#[derive(Drop)]
+#[derive(Clone, Copy)]
 pub struct Both {
     pub zero: Registers,
     pub one: Registers,
 }
 
 // The chips in group 0 and in group 1.
-#[derive(Drop)]
+#[derive(Clone, Copy)]
 pub struct Chips {
     pub zero: u8,
     pub one: u8,
 }
 
 // Why a call is refused; what is held is the place.
-#[derive(Drop)]
+#[derive(Clone, Copy)]
 pub enum Refusal {
     EmptyTransfer,
     LongTransfer,
@@ -95,27 +96,27 @@ pub enum Refusal {
     NoEnd,
 }
 
-#[derive(Drop)]
+#[derive(Clone, Copy)]
 pub enum Check {
     Passed,
     Refused(Refusal),
 }
 
-#[derive(Drop)]
+#[derive(Clone, Copy)]
 pub struct PowerOn {
     pub check: Check,
     pub registers: Both,
 }
 
 // What follows a control byte: commands or display data, by its RS.
-#[derive(Drop)]
+#[derive(Clone, Copy)]
 pub enum Kind {
     Command,
     Data,
 }
 
 // What the next byte of a transfer is: a control byte; the one byte after a control byte with Co = 1; or one of all that are left.
-#[derive(Drop)]
+#[derive(Clone, Copy)]
 pub enum Expect {
     Control,
     One(Kind),
@@ -123,14 +124,14 @@ pub enum Expect {
 }
 
 // The group that hears an address byte.
-#[derive(Drop)]
+#[derive(Clone, Copy)]
 pub enum Addressed {
     To(u8),
     Nobody,
 }
 
 // Stored and discarded bits do not stand side by side, so that they are not read as one word right after they are written as two.
-#[derive(Drop)]
+#[derive(Clone, Copy)]
 pub struct Counts {
     pub stored: usize,
     pub acknowledged: usize,
@@ -138,40 +139,40 @@ pub struct Counts {
 }
 
 // Who acknowledged a data byte: the chip of a subaddress, or none.
-#[derive(Drop)]
+#[derive(Clone, Copy)]
 pub enum Acknowledger {
     Subaddress(usize),
     None,
 }
 
 // What is taken holds its counts and who acknowledged its last data byte.
-#[derive(Drop)]
+#[derive(Clone, Copy)]
 pub enum Answer {
     Taken { counts: Counts, last: Acknowledger },
     Refused(Refusal),
 }
 
-#[derive(Drop)]
+#[derive(Clone, Copy)]
 pub struct Transferred {
     pub answer: Answer,
     pub registers: Both,
 }
 
 // What a group shows: nothing, or the rows from a first one on.
-#[derive(Drop)]
+#[derive(Clone, Copy)]
 pub enum Shown {
     Dark,
     Rows(usize),
 }
 
-#[derive(Drop)]
+#[derive(Clone, Copy)]
 pub enum Pictured {
     Lit(usize),
     Refused(Refusal),
 }
 
 // What a rescue keeps of a log, drops, and where the tear is.
-#[derive(Drop)]
+#[derive(Clone, Copy)]
 pub enum Rescued {
     Kept {
         records: usize,
@@ -183,14 +184,14 @@ pub enum Rescued {
 }
 
 // A transfer that was written: its bytes.
-#[derive(Drop)]
+#[derive(Clone, Copy)]
 pub enum Written {
     Bytes(usize),
     Refused(Refusal),
 }
 
 // A chip of the plain account, with its own columns, identity and registers. A part with fewer columns has the first of them.
-#[derive(Drop)]
+#[derive(Clone, Copy)]
 pub struct Chip {
     pub columns: [u8; 160],
     pub sa0: u8,
@@ -198,14 +199,14 @@ pub struct Chip {
     pub registers: Registers,
 }
 
-#[derive(Drop)]
+#[derive(Clone, Copy)]
 pub struct ChipPowerOn {
     pub check: Check,
     pub chip: Chip,
 }
 
 // The plain account reports the bytes acknowledged, and who acknowledged the last data byte.
-#[derive(Drop)]
+#[derive(Clone, Copy)]
 pub enum PlainAnswer {
     Acknowledged { bytes: usize, last: Acknowledger },
     Refused(Refusal),

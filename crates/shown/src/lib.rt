@@ -1,4 +1,6 @@
 // What a group shows at a blink phase: nothing, or the rows of a bank.
+#![tactic(auto)]
+
 ghost use Rattle.std.specs.Prelude.{◌≡◌, cond, ◌-◌};
 ghost use Rattle.sheet.specs.Pictures.{shown};
 

@@ -1,4 +1,6 @@
 // How a transfer of the plain account begins, from what the list of chips is found to hold, and what is answered. By value: `plain` goes along the list.
+#![tactic(auto)]
+
 ghost use Rattle.std.specs.Prelude.{◌≡◌, cond, ◌+◌, ◌≤◌, length};
 ghost use Rattle.sheet.specs.Parts.{part_of};
 ghost use Rattle.sheet.specs.Protocol.{sent, address_byte};
@@ -10,7 +12,7 @@ use sheet::{Acknowledger, Check, Chip, Expect, Marks, PlainAnswer, Refusal};
 use turns::{BusByte, Tally, Turn};
 
 // What a chip is asked: whether it is no chip of a part, or hears an address, or hears it and has a mark that is unknown.
-#[derive(Drop)]
+#[derive(Clone, Copy)]
 pub enum Question {
     Misfit(u8),
     Hears(u8),
@@ -60,7 +62,7 @@ fn check_bench(part: u8, count: usize) -> Check
 }
 
 // What the list was found to hold: how many chips, and where the first misfit, the first that hears, and the first that hears and has each mark unknown stand, or else the count.
-#[derive(Drop)]
+#[derive(Clone, Copy)]
 pub struct Found {
     pub count: usize,
     pub misfit: usize,
@@ -135,7 +137,7 @@ fn turn_at(part: u8, bytes: &[u8], bits: u8, at: usize, acknowledged: usize) -> 
 }
 
 // Refused or taken, and the turn from which the chips follow.
-#[derive(Drop)]
+#[derive(Clone, Copy)]
 pub struct Start {
     pub check: Check,
     pub turn: Turn,

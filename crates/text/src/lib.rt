@@ -1,4 +1,6 @@
 // Lines of text into a lent buffer: each writer writes at a place and returns the place after what it wrote.
+#![tactic(auto)]
+
 ghost use Rattle.std.specs.Prelude.{[], ◌∷◌, ◌+◌, ◌≤◌, ◌<◌, length};
 ghost use Rattle.log_sheet.specs.Logs.{decimal, spaced, line};
 ghost use Rattle.text.specs.Texts.{Puts};

@@ -1,4 +1,6 @@
 // Every element of a three-backplane glass: the transfer that sets rows 0 to 2 of every column of a group, a data byte at each even column (paper 02, request 12).
+#![tactic(auto)]
+
 ghost use Rattle.std.specs.Prelude.{◌≡◌, [], ◌∷◌, ◌++◌, ◌+◌, ◌*◌, ◌/◌, ◌%◌, ◌<◌, length};
 ghost use Rattle.sheet.specs.Parts.{part_of};
 ghost use Rattle.sheet.specs.Refusals.{written_numbers};

@@ -1,4 +1,6 @@
 // A torn log: what of it is whole, and its rescue.
+#![tactic(auto)]
+
 ghost use Rattle.std.specs.Prelude.{◌≡◌, length};
 ghost use Rattle.sheet.specs.Refusals.{rescued_numbers};
 ghost use Rattle.log_sheet.specs.Logs.{log_records};
@@ -8,7 +10,7 @@ use records::{Cursor, Record};
 use sheet::{Check, Refusal, Rescued};
 
 // The whole records of a log before the first tear, and where they end.
-#[derive(Drop)]
+#[derive(Clone, Copy)]
 struct Whole {
     records: usize,
     end: usize,

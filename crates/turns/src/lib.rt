@@ -1,4 +1,6 @@
 // The plain account by value: what a chip answers and takes, and how a transfer is gone along by turns. `plain` goes along the list of chips.
+#![tactic(auto)]
+
 ghost use Rattle.std.specs.Prelude.{◌≡◌, cond, ◌+◌, ◌≤◌, ◌<◌, ◌^◌, length};
 ghost use Rattle.sheet.specs.Plain.{lower, last_of, last_after};
 ghost use Rattle.turns.specs.Asking.{answers, one_or, alike_of, nothing_said, said_with, taken, ran_by};
@@ -9,7 +11,7 @@ use sheet::{Acknowledger, Chip, Expect, Kind};
 // ---- one chip, by value
 
 // A byte after the address: the part of the chips, to whom it goes, what it is, its value, and whether it is cut.
-#[derive(Drop)]
+#[derive(Clone, Copy)]
 pub struct BusByte {
     pub part: u8,
     pub address: u8,
@@ -74,7 +76,7 @@ fn alike(chip: Chip, heard: BusByte, most: usize) -> usize
 }
 
 // What the chips say of a byte: who acknowledges it, and how many bytes from it on they all answer alike.
-#[derive(Drop)]
+#[derive(Clone, Copy)]
 pub struct Said {
     pub who: Acknowledger,
     pub count: usize,
@@ -131,14 +133,14 @@ fn take_run(bytes: &[u8], chip: Chip, heard: BusByte) -> Chip
 // ---- a transfer, by turns
 
 // The bytes acknowledged so far, and who acknowledged the last data byte.
-#[derive(Drop)]
+#[derive(Clone, Copy)]
 pub struct Tally {
     pub acknowledged: usize,
     pub last: Acknowledger,
 }
 
 // The byte that comes next, its place, whether the transfer's last is cut, and what is acknowledged so far.
-#[derive(Drop)]
+#[derive(Clone, Copy)]
 pub struct Turn {
     pub at: usize,
     pub cut: bool,

@@ -1,5 +1,7 @@
 // Registers, chips and answers in the buffers that C lends. Registers are twelve bytes a group, in the order E B M P A I O AB BF and the marks of pointer high, pointer low and device-select;
 // a chip is 174 bytes: its 160 columns, SA0, subaddress and twelve registers; an answer is six numbers.
+#![tactic(auto)]
+
 ghost use Rattle.std.specs.Prelude.{◌≡◌, ◌*◌, ◌≤◌, ◌<◌, length, get_or, take};
 ghost use Rattle.wire.specs.Benches.{Holds};
 ghost use Rattle.wire.specs.Bytes.{registers_in, both_of, bytes_of, both_bytes, chip_in, chip_bytes, list_in, list_bytes};

@@ -1,4 +1,6 @@
 // A data byte into columns that are all there: whole columns at a time, and in static and 1:2 four of them as one word.
+#![tactic(auto)]
+
 ghost use Rattle.std.specs.Prelude.{◌≡◌, ◌+◌, ◌*◌, ◌/◌, ◌%◌, ◌≤◌, ◌<◌, length, get_or};
 ghost use Rattle.sheet.specs.declared.Check.TheVariants.{Passed};
 ghost use Rattle.sheet.specs.Checks.{over_in};

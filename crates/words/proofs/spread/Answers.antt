@@ -9,8 +9,7 @@ use Rattle.lemmas.proofs.Tests.{all-at, and_left, and_right}
 use Rattle.words.specs.Fields.{field, column_of, Spread}
 use Rattle.words.proofs.Words.{is_spread, tested}
 use borrow.Author.Rules.{rules}
-use Rattle.words.proofs.spread.Statement.{statement}
-use Rattle.words.proofs.spread.Tie as tie
+use Rattle.words.proofs.spread.Goals as goal
 
 unfoldable word : ℕ → ℕ
 word x = bit_and (x * 1074791425 / 128) 16843009 + bit_and (x * 1074791425 / 32) 33686018
@@ -30,21 +29,18 @@ word-spread : (x : ℕ) → x < 256 → Spread 2 x 0 (5 * word x)
 unfolding right
 word-spread x h = tested 2 x 0 (5 * word x) (and_right (ltb (5 * word x) 4294967296) (is_spread 2 x 0 (5 * word x)) (all_right x h))
 
-add-word : tie.Need-overflow-add-word
+pub overflow_add-word : goal.overflow_add-word
 unfolding word
-add-word c = omega (arith, word_lt c.args.x c.ranges.x.fits)
+overflow_add-word c = omega (arith, word_lt c.args.x c.ranges.x.fits)
 
-mul-result : tie.Need-overflow-mul-result
+pub overflow_mul-result : goal.overflow_mul-result
 unfolding word
-mul-result c = omega (arith, word_lt c.args.x c.ranges.x.fits)
+overflow_mul-result c = omega (arith, word_lt c.args.x c.ranges.x.fits)
 
-cast-result : tie.Need-overflow-cast-result
+pub overflow_cast-result : goal.overflow_cast-result
 unfolding word
-cast-result c = omega (arith, word_lt c.args.x c.ranges.x.fits)
+overflow_cast-result c = omega (arith, word_lt c.args.x c.ranges.x.fits)
 
-returns : tie.Need-returns
+pub returns : goal.returns
 unfolding word
 returns c = word-spread c.args.x c.ranges.x.fits
-
-pub spread-spec : {M : Type 1} → statement M
-spread-spec = tie.close (tie.spec (λ c. search rules) add-word mul-result cast-result returns)

@@ -10,8 +10,7 @@ use Rattle.sheet.specs.Commands.{defined}
 use Rattle.laws.proofs.Named.{is-pca85133, is-pcf8532}
 use Rattle.decode.proofs.Ends.{told-alike}
 use borrow.Author.Rules.{rules}
-use Rattle.decode.proofs.is_defined.Statement.{statement}
-use Rattle.decode.proofs.is_defined.Tie as tie
+use Rattle.decode.proofs.is_defined.Goals as goal
 
 abbrev told : ℕ → ℕ → ℕ → ℕ → Bool
 told pointer device rest x = (((leb x pointer || (leb 64 x && leb x 79)) || (leb 192 x && leb x 207)) || (leb 224 x && leb x device)) || (leb rest x && leb x 251)
@@ -21,9 +20,5 @@ unfolding within command_in
 by_part part x true e h = rw (is-pca85133 part (eqb-true part 1 e)) (told-alike (told 79 231 240) (λ x. defined (pca85133.command x)) tt x h)
 by_part part x false e h = rw (is-pcf8532 part (eqb-false part 1 e)) (told-alike (told 9 227 232) (λ x. defined (pcf8532.command x)) tt x h)
 
-returns : tie.Need-returns
-returns c = let s = c.before.before.before in
-    rw (c.before.before.of_part.ensures, c.before.of-part2.ensures, c.of-part3.ensures) (by_part s.args.part s.args.byte (eqb s.args.part 1) refl s.ranges.byte.fits)
-
-pub is-defined-spec : {M : Type 1} → statement M
-is-defined-spec = tie.close (tie.spec (λ c κs. search rules) (λ c κs. search rules) (λ c κs. search rules) returns)
+pub returns : goal.returns
+returns c = rw (c.of_part.ensures, c.of_part-2.ensures, c.of_part-3.ensures) (by_part c.args.part c.args.byte (eqb c.args.part 1) refl c.ranges.byte.fits)

@@ -7,11 +7,8 @@ use native.Mathlib.Nat.{mod-lt, div-add-mod', div-lt_iff_lt-mul}
 use lib.Arith.{digits_lt}
 use lib.ListN.{get_or}
 use Rattle.sheet.specs.Data.{changed}
-use Rattle.words.proofs.put.Reads as reads
-use Rattle.words.proofs.put.Lts as lts
 use borrow.Author.Rules.{rules}
-use Rattle.words.proofs.put.Statement.{statement}
-use Rattle.words.proofs.put.Tie as tie
+use Rattle.words.proofs.put.Goals as goal
 
 new-lt : (q low high f : ℕ) → q < 256 → 0 < low → f * low + low ≤ high → 256 % high ≡ 0 → q / high * high + (f * low + q % low) < 256
 new-lt q low high f hq hl hh hd =
@@ -20,38 +17,23 @@ new-lt q low high f hq hl hh hd =
     let l : f * low + q % low < high = omega (arith, mod-lt q hl) in
     omega (arith, e, hd, digits_lt d l)
 
-whole : (c : lts.After-slice-known reads.Pre reads.Post) →
-    let a = c.before.args in
+whole : (c : goal.After-slice_known-1) →
+    let a = c.args in
     let q = get_or a.ram.now a.at 0 in
     q / a.high * a.high + (a.f * a.low + q % a.low) < 256
 whole c =
-    let s = c.before in
-    new-lt (get_or s.args.ram.now s.args.at 0) s.args.low s.args.high s.args.f (c.slice-known.given s.args.at).fits s.requires.1 s.requires.2 s.requires.3
+    let s = c in
+    new-lt (get_or s.args.ram.now s.args.at 0) s.args.low s.args.high s.args.f (c.slice_known-1.given s.args.at).fits s.requires.1 s.requires.2 s.requires.3
 
-mul-ram : tie.Need-overflow-mul-ram
-mul-ram c = omega (arith, whole c)
+pub overflow_mul-ram : goal.overflow_mul-ram
+overflow_mul-ram c = omega (arith, whole c)
 
-add-ram : tie.Need-overflow-add-ram
-add-ram c = omega (arith, whole c)
+pub overflow_add-ram : goal.overflow_add-ram
+overflow_add-ram c = omega (arith, whole c)
 
-add-ram-2 : tie.Need-overflow-add-ram-2
-add-ram-2 c = omega (arith, whole c)
+pub overflow_add-ram-2 : goal.overflow_add-ram-2
+overflow_add-ram-2 c = omega (arith, whole c)
 
-returns : tie.Need-returns
+pub returns : goal.returns
 unfolding changed
 returns c = search rules
-
-pub put_spec : {M : Type 1} → statement M
-put_spec =
-    tie.close
-    (tie.spec
-    (λ c. search rules)
-    (λ c. search rules)
-    mul-ram
-    (λ c. search rules)
-    (λ c. search rules)
-    add-ram
-    add-ram-2
-    (λ c. search rules)
-    (λ c. search rules)
-    returns)

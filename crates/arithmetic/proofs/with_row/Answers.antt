@@ -5,8 +5,7 @@ use Prim.Native.Nat.{ℕ, zero, suc, ◌+◌, ◌*◌, ◌/◌, ◌%◌, ◌^◌
 use native.Mathlib.Omega.{arith}
 use borrow.Author.Rules.{rules}
 use Rattle.sheet.specs.Data.{with_row}
-use Rattle.arithmetic.proofs.with_row.Statement.{statement}
-use Rattle.arithmetic.proofs.with_row.Tie as tie
+use Rattle.arithmetic.proofs.with_row.Goals as goal
 
 -- what the code makes of a row that is worth low
 record Made (row bit q low : ℕ) : Type 0 where
@@ -25,44 +24,29 @@ made (suc (suc (suc zero))) bit q h t l = record { some = omega arith; room = om
 made (suc (suc (suc (suc row)))) bit q h t l = omega arith
 
 -- of this call
-made-here : (c : tie.Start) → Made c.args.row c.args.bit c.args.column (1 * 2 ^ c.args.row % 256)
+made-here : (c : goal.Start) → Made c.args.row c.args.bit c.args.column (1 * 2 ^ c.args.row % 256)
 made-here c = made _ _ _ c.requires.0 c.requires.1 c.ranges.column.fits
 
-mul-high : tie.Need-overflow-mul-high
-mul-high c = omega (arith, (made-here c).room)
+pub overflow_mul-high : goal.overflow_mul-high
+overflow_mul-high c = omega (arith, (made-here c).room)
 
-div-result : tie.Need-nonzero-div-result
-div-result c = omega (arith, (made-here c).some)
+pub nonzero_div-result : goal.nonzero_div-result
+nonzero_div-result c = omega (arith, (made-here c).some)
 
-mul-result : tie.Need-overflow-mul-result
-mul-result c = omega (arith, (made-here c).small)
+pub overflow_mul-result : goal.overflow_mul-result
+overflow_mul-result c = omega (arith, (made-here c).small)
 
-mul-result-2 : tie.Need-overflow-mul-result-2
-mul-result-2 c = omega (arith, (made-here c).small)
+pub overflow_mul-result-2 : goal.overflow_mul-result-2
+overflow_mul-result-2 c = omega (arith, (made-here c).small)
 
-add-result : tie.Need-overflow-add-result
-add-result c = omega (arith, (made-here c).small)
+pub overflow_add-result : goal.overflow_add-result
+overflow_add-result c = omega (arith, (made-here c).small)
 
-rem-result : tie.Need-nonzero-rem-result
-rem-result c = (made-here c).some
+pub nonzero_rem-result : goal.nonzero_rem-result
+nonzero_rem-result c = (made-here c).some
 
-add-result-2 : tie.Need-overflow-add-result-2
-add-result-2 c = omega (arith, (made-here c).small)
+pub overflow_add-result-2 : goal.overflow_add-result-2
+overflow_add-result-2 c = omega (arith, (made-here c).small)
 
-returns : tie.Need-returns
+pub returns : goal.returns
 returns c = (made-here c).same
-
-pub with-row-spec : {M : Type 1} → statement M
-with-row-spec =
-    tie.close
-    (tie.spec
-    (λ c. search rules)
-    (λ c. search rules)
-    mul-high
-    div-result
-    mul-result
-    mul-result-2
-    add-result
-    rem-result
-    add-result-2
-    returns)

@@ -9,8 +9,7 @@ use lib.Dec.{eqb, eqb→eq, ltb, ltb→lt}
 use Rattle.lemmas.proofs.Tests.{all-at, and_left, and_right}
 use Rattle.words.specs.Fields.{field}
 use borrow.Author.Rules.{rules}
-use Rattle.words.proofs.reversed.Statement.{statement}
-use Rattle.words.proofs.reversed.Tie as tie
+use Rattle.words.proofs.reversed.Goals as goal
 
 unfoldable pairs : ℕ → ℕ
 pairs x = bit_and x 51 * 4 + bit_and (x / 4) 51
@@ -33,30 +32,26 @@ others x h =
       eqb→eq (nibbles x % 16 * 16 + nibbles x / 16) (field x 0 8) (and_right (ltb (nibbles x) 256) (eqb (nibbles x % 16 * 16 + nibbles x / 16) (field x 0 8)) e),
     )
 
-mul-pairs : tie.Need-overflow-mul-pairs
+pub overflow_mul-pairs : goal.overflow_mul-pairs
 unfolding pairs
-mul-pairs c = omega (arith, pairs_lt c.args.x c.ranges.x.fits)
+overflow_mul-pairs c = omega (arith, pairs_lt c.args.x c.ranges.x.fits)
 
-add-pairs : tie.Need-overflow-add-pairs
+pub overflow_add-pairs : goal.overflow_add-pairs
 unfolding pairs
-add-pairs c = omega (arith, pairs_lt c.args.x c.ranges.x.fits)
+overflow_add-pairs c = omega (arith, pairs_lt c.args.x c.ranges.x.fits)
 
-mul-nibbles : tie.Need-overflow-mul-nibbles
+pub overflow_mul-nibbles : goal.overflow_mul-nibbles
 unfolding pairs nibbles
-mul-nibbles c = omega (arith, (others c.args.x c.ranges.x.fits).0)
+overflow_mul-nibbles c = omega (arith, (others c.args.x c.ranges.x.fits).0)
 
-add-nibbles : tie.Need-overflow-add-nibbles
+pub overflow_add-nibbles : goal.overflow_add-nibbles
 unfolding pairs nibbles
-add-nibbles c = omega (arith, (others c.args.x c.ranges.x.fits).0)
+overflow_add-nibbles c = omega (arith, (others c.args.x c.ranges.x.fits).0)
 
-add-result : tie.Need-overflow-add-result
+pub overflow_add-result : goal.overflow_add-result
 unfolding pairs nibbles
-add-result c = omega (arith, (others c.args.x c.ranges.x.fits).0)
+overflow_add-result c = omega (arith, (others c.args.x c.ranges.x.fits).0)
 
-returns : tie.Need-returns
+pub returns : goal.returns
 unfolding pairs nibbles
 returns c = (others c.args.x c.ranges.x.fits).1
-
-pub reversed-spec : {M : Type 1} → statement M
-reversed-spec =
-    tie.close (tie.spec mul-pairs add-pairs mul-nibbles add-nibbles (λ c. search rules) add-result returns)

@@ -1,0 +1,11 @@
+-- `arithmetic::columns_in` meets its contract for either part.
+-- Assumes nothing.
+use Rattle.laws.proofs.Named.{is-pca85133, is-pcf8532}
+use borrow.Author.Rules.{rules}
+use Rattle.arithmetic.proofs.columns_in.Goals as goal
+
+pub returns-then-part-eq-PCA85133 : goal.returns-then-part-eq-PCA85133
+returns-then-part-eq-PCA85133 c = rw (is-pca85133 _ c.if-part-eq-PCA85133.true)
+
+pub returns-else-part-eq-PCA85133 : goal.returns-else-part-eq-PCA85133
+returns-else-part-eq-PCA85133 c = rw (is-pcf8532 _ c.if-part-eq-PCA85133.false)
