@@ -10,9 +10,7 @@ use lib.ListN.{get_or}
 use Rattle.lemmas.proofs.Tests.{all-at, and_left, and_right}
 use Rattle.words.specs.Fields.{field, three_columns}
 use Rattle.ram.specs.Tables.{first_bits, last_bits}
-use borrow.Author.Rules.{rules}
-use Rattle.ram.proofs.three_columns.Statement.{statement}
-use Rattle.ram.proofs.three_columns.Tie as tie
+use Rattle.ram.proofs.three_columns.Goals as goal
 
 unfoldable word : ℕ → ℕ
 word x = get_or first_bits (x / 16) 0 + get_or last_bits (x % 16) 0
@@ -33,17 +31,13 @@ unfolding right
 word-is x h = eqb→eq (word x) (three_columns x) (and_right (ltb (word x) 16777216) (eqb (word x) (three_columns x)) (all_right x h))
 
 -- what is looked up in the tables
-looked-up : (s : tie.Start) → let a = s.args in let x = a.x in get_or a.first.now (x / 16) 0 + get_or a.last.now (x % 16) 0 ≡ word x
+looked-up : (x : ℕ) {first last : List ℕ} → first ≡ first_bits → last ≡ last_bits → get_or first (x / 16) 0 + get_or last (x % 16) 0 ≡ word x
 unfolding word
-looked-up s = let x = s.args.x in ap₂ (λ (f l : List ℕ). get_or f (x / 16) 0 + get_or l (x % 16) 0) s.requires.0 s.requires.1
+looked-up x f l = ap₂ (λ (f l : List ℕ). get_or f (x / 16) 0 + get_or l (x % 16) 0) f l
 
-add-result : tie.Need-overflow-add-result
-add-result c = let s = c.before.before in omega (arith, looked-up s, word_lt s.args.x s.ranges.x.fits)
+pub overflow_add-result : goal.overflow_add-result
+overflow_add-result c = omega (arith, looked-up c.args.x c.requires.0 c.requires.1, word_lt c.args.x c.ranges.x.fits)
 
-returns : tie.Need-returns
-returns c = let s = c.before.before in
-    let x = s.args.x in
-    (looked-up s ∙ word-is x s.ranges.x.fits, omega (arith, looked-up s, word_lt x s.ranges.x.fits))
-
-pub three-columns-spec : {M : Type 1} → statement M
-three-columns-spec = tie.close (tie.spec (λ c. search rules) (λ c. search rules) (λ c. search rules) (λ c. search rules) (λ c. search rules) (λ c. search rules) add-result returns)
+pub returns : goal.returns
+returns c = let x = c.args.x in
+    (looked-up x c.requires.0 c.requires.1 ∙ word-is x c.ranges.x.fits, omega (arith, looked-up c.args.x c.requires.0 c.requires.1, word_lt x c.ranges.x.fits))
