@@ -6,9 +6,7 @@ use Prim.Native.Nat.{ℕ, ◌+◌, ◌/◌, ◌%◌}
 use native.Mathlib.Omega.{arith}
 use Rattle.sheet.specs.Data.{changed}
 use Rattle.words.specs.Fields.{column_of, mixed, merged}
-use borrow.Author.Rules.{rules}
-use Rattle.packed_words.proofs.put_twelve.Statement.{statement}
-use Rattle.packed_words.proofs.put_twelve.Tie as tie
+use Rattle.packed_words.proofs.put_twelve.Goals as goal
 
 -- a byte of the word at its own place, the rows computed
 at_byte : (r : ℕ) (a b i j : ℕ) {l m : List ℕ} → a ≡ b → i ≡ j → l ≡ m → changed (mixed r a) i l ≡ changed (mixed r b) j m
@@ -24,20 +22,9 @@ both_words t at ram =
     (at_byte 0x73 (t % 4294967296 / 256 % 256) (t / 256 % 256) (at + 1) (at + 1) (omega arith) (omega arith)
     (at_byte 0x77 (t % 4294967296 / 1 % 256) (t / 1 % 256) (at + 0) (at + 0) (omega arith) (omega arith) refl)))))
 
-returns : tie.Need-returns
-returns c = let f = c.before.before in
-    let g = f.before.before.before.before in
-    let a = g.before.before.before.args in
-    f.put_two.ensures ∙ ap (merged 2 0x3773 (a.t / 4294967296) (a.at + 4)) g.put_four.ensures ∙ both_words a.t a.at a.ram.now
+pub returns : goal.returns
+returns c = let a = c.args in
+    c.put_two.ensures ∙ ap (merged 2 0x3773 (a.t / 4294967296) (a.at + 4)) c.put_four.ensures ∙ both_words a.t a.at a.ram.now
 
-pub put-twelve-spec : {M : Type 1} → statement M
-put-twelve-spec =
-    tie.close
-    (tie.spec
-    (λ c. search rules)
-    (λ c κs. search rules)
-    (λ c. search rules)
-    (λ c. omega (arith, c.before.before.before.before.before.before.requires.1))
-    (λ c κs. search rules)
-    (λ c. search rules)
-    returns)
+pub overflow_cast-t-2 : goal.overflow_cast-t-2
+overflow_cast-t-2 c = omega (arith, c.requires.1)

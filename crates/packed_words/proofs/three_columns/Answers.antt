@@ -6,9 +6,7 @@ use lib.Bits.{bit_and, and_le_r}
 use Rattle.words.specs.Fields.{field}
 use Rattle.packed_words.specs.Placed.{nibble_of}
 use Rattle.packed_words.proofs.Tested.{word-tested}
-use borrow.Author.Rules.{rules}
-use Rattle.packed_words.proofs.three_columns.Statement.{statement}
-use Rattle.packed_words.proofs.three_columns.Tie as tie
+use Rattle.packed_words.proofs.three_columns.Goals as goal
 
 unfoldable rows : ℕ → ℕ
 rows x = bit_and (x % 128 * 16513 / 128) 272 + bit_and (x % 128 * 16513 / 32) 546 + bit_and (x % 128 * 16513 / 8) 68
@@ -21,19 +19,18 @@ small : (x : ℕ) → rows x ≤ 886
 unfolding rows
 small x = omega (arith, and_le_r (x % 128 * 16513 / 128) 272, and_le_r (x % 128 * 16513 / 32) 546, and_le_r (x % 128 * 16513 / 8) 68)
 
-returns : tie.Need-returns
+pub returns : goal.returns
 unfolding word rows field nibble_of
 returns c = word-tested 3 word tt c.args.x c.ranges.x.fits
 
-pub three-columns-spec : {M : Type 1} → statement M
+pub overflow_add-rows : goal.overflow_add-rows
 unfolding rows
-three-columns-spec =
-    tie.close
-    (tie.spec
-    (λ c. search rules)
-    (λ c. search rules)
-    (λ c. omega (arith, small c.args.x))
-    (λ c. omega (arith, small c.args.x))
-    (λ c. search rules)
-    (λ c. omega (arith, small c.args.x, c.ranges.x.fits))
-    returns)
+overflow_add-rows c = omega (arith, small c.args.x)
+
+pub overflow_add-rows-2 : goal.overflow_add-rows-2
+unfolding rows
+overflow_add-rows-2 c = omega (arith, small c.args.x)
+
+pub overflow_add-result : goal.overflow_add-result
+unfolding rows
+overflow_add-result c = omega (arith, small c.args.x, c.ranges.x.fits)
