@@ -6,7 +6,6 @@ use native.Mathlib.Omega.{arith}
 use Rattle.sheet.specs.declared.Command.{Command}
 use Rattle.sheet.specs.Commands.{obeyed}
 use Rattle.command.specs.Nibbles.{nibble_of}
-use borrow.Author.Rules.{rules}
 use Rattle.command.proofs.obey.Goals as goal
 
 pub overflow_add-registers-in-PointerLow : goal.overflow_add-registers-in-PointerLow

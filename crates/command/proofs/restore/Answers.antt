@@ -3,7 +3,6 @@
 use mathlib.Core.Path.{sym, ◌∙◌}
 use Rattle.sheet.specs.Parts.{part_of}
 use Rattle.command.proofs.Cases.{known-stays}
-use borrow.Author.Rules.{rules}
 use Rattle.command.proofs.restore.Goals as goal
 
 pub returns-then-all_known : goal.returns-then-all_known

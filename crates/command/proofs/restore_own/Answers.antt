@@ -3,9 +3,7 @@
 use mathlib.Core.Path.{◌≡◌, sym, ap, ◌∙◌}
 use Rattle.sheet.specs.declared.Command.{Command}
 use Rattle.sheet.specs.declared.Marks.{Marks}
-use Rattle.sheet.specs.Parts.{part_of}
 use Rattle.sheet.specs.Commands.{restored}
-use borrow.Author.Rules.{rules}
 use Rattle.command.proofs.restore_own.Goals as goal
 
 -- what a case restores
