@@ -6,11 +6,9 @@ use native.Mathlib.Nat.{mod-lt}
 use native.Mathlib.Omega.{arith}
 use lib.Arith.{digits_lt}
 use lib.Pow.{pow_pos, pow-add}
-use borrow.Author.Rules.{rules}
 use Rattle.words.specs.Fields.{with_rows}
 use Rattle.columns.proofs.Powers.{worth}
-use Rattle.columns.proofs.with_rows.Statement.{statement}
-use Rattle.columns.proofs.with_rows.Tie as tie
+use Rattle.columns.proofs.with_rows.Goals as goal
 
 -- what the code makes of rows worth low to below high
 record Made (b h f q low high : ℕ) : Type 0 where
@@ -32,43 +30,26 @@ made b h f q l s t =
       same = refl;
     })
 
-made-here : (c : tie.Start) → Made c.args.b c.args.h c.args.f c.args.column (1 * 2 ^ c.args.b % 256) (1 * 2 ^ (c.args.b + c.args.h) % 256)
+made-here : (c : goal.Start) → Made c.args.b c.args.h c.args.f c.args.column (1 * 2 ^ c.args.b % 256) (1 * 2 ^ (c.args.b + c.args.h) % 256)
 made-here c = made _ _ _ _ c.requires.0 c.requires.1 c.ranges.column.fits
 
-div-result : tie.Need-nonzero-div-result
-div-result c = omega (arith, (made-here c).high-some)
+pub nonzero_div-result : goal.nonzero_div-result
+nonzero_div-result c = omega (arith, (made-here c).high-some)
 
-mul-result : tie.Need-overflow-mul-result
-mul-result c = omega (arith, (made-here c).small)
+pub overflow_mul-result : goal.overflow_mul-result
+overflow_mul-result c = omega (arith, (made-here c).small)
 
-mul-result-2 : tie.Need-overflow-mul-result-2
-mul-result-2 c = omega (arith, (made-here c).small)
+pub overflow_mul-result-2 : goal.overflow_mul-result-2
+overflow_mul-result-2 c = omega (arith, (made-here c).small)
 
-rem-result : tie.Need-nonzero-rem-result
-rem-result c = (made-here c).low-some
+pub nonzero_rem-result : goal.nonzero_rem-result
+nonzero_rem-result c = (made-here c).low-some
 
-add-result : tie.Need-overflow-add-result
-add-result c = omega (arith, (made-here c).small)
+pub overflow_add-result : goal.overflow_add-result
+overflow_add-result c = omega (arith, (made-here c).small)
 
-add-result-2 : tie.Need-overflow-add-result-2
-add-result-2 c = omega (arith, (made-here c).small)
+pub overflow_add-result-2 : goal.overflow_add-result-2
+overflow_add-result-2 c = omega (arith, (made-here c).small)
 
-returns : tie.Need-returns
+pub returns : goal.returns
 returns c = (made-here c).same
-
-pub with-rows-spec : {M : Type 1} → statement M
-with-rows-spec =
-    tie.close
-    (tie.spec
-    (λ c. search rules)
-    (λ c. search rules)
-    (λ c. search rules)
-    (λ c. search rules)
-    (λ c. search rules)
-    div-result
-    mul-result
-    mul-result-2
-    rem-result
-    add-result
-    add-result-2
-    returns)
