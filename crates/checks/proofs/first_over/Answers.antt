@@ -13,9 +13,7 @@ use Rattle.sheet.specs.declared.Check.TheVariants.{Refused}
 use Rattle.sheet.specs.Checks.{unless, over_in}
 use Rattle.laws.proofs.Nibbles.{check-nibbles}
 use Rattle.checks.specs.Highest.{first_over}
-use borrow.Author.Rules.{rules}
-use Rattle.checks.proofs.first_over.Statement.{statement}
-use Rattle.checks.proofs.first_over.Tie as tie
+use Rattle.checks.proofs.first_over.Goals as goal
 
 -- the place that the search finds is a column's, or past the last
 found : (i : ℕ) (l : List ℕ) → unless (leb (length l) (first_over l)) (RamByte (i + first_over l)) ≡ over_in i l
@@ -30,13 +28,10 @@ found i (q ∷ qs) = by-column (ltb 15 q) (found (suc i) qs)
         let next : i + suc (first_over qs) ≡ suc i + first_over qs = omega arith in
         ap₂ (λ (past : Bool) (k : ℕ). unless past (RamByte k)) (leb-suc-suc (length qs) (first_over qs)) next ∙ later
 
-returns : tie.Need-returns
-returns c = let l = c.before.before.before.args.columns.now in sym (check-nibbles 0 l (c.before.words-low.ensures.0 c.if1.true))
+pub returns-then-words_low : goal.returns-then-words_low
+returns-then-words_low c = let l = c.args.columns.now in sym (check-nibbles 0 l (c.words_low.ensures.nibbles c.if-words_low.true))
 
-returns-2 : tie.Need-returns-2
-returns-2 c = let l = c.before.before.before.before.before.args.columns.now in
-    let at = c.before.search-over.ensures in
+pub returns-else-words_low : goal.returns-else-words_low
+returns-else-words_low c = let l = c.args.columns.now in
+    let at = c.search_over-at.ensures in
     c.unless.ensures ∙ ap (λ (k : ℕ). unless (leb (length l) k) (RamByte k)) at ∙ ap (λ (k : ℕ). unless (leb (length l) (first_over l)) (RamByte k)) (sym (zero-add (first_over l))) ∙ found 0 l
-
-pub first-over-spec : {M : Type 1} → statement M
-first-over-spec = tie.close (tie.spec (λ c κs. search rules) (λ c κs. search rules) (λ c κs. search rules) returns returns-2)

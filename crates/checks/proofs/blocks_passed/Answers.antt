@@ -8,10 +8,8 @@ use native.Mathlib.Omega.{arith}
 use lib.ListN.{length, length-drop, take, drop}
 use lib.Seq.{drop-drop}
 use borrow.Author.Tests.{le-ltb}
-use borrow.Author.Rules.{rules}
 use Rattle.checks.specs.Highest.{highest_of, first_over}
-use Rattle.checks.proofs.blocks_passed.Statement.{statement}
-use Rattle.checks.proofs.blocks_passed.Tie as tie
+use Rattle.checks.proofs.blocks_passed.Goals as goal
 
 -- the first n columns, none of them over 15, decide nothing
 passed_over : (n : ℕ) (l : List ℕ) → n ≤ length l → highest_of (take n l) ≤ 15 → n + first_over (drop n l) ≡ first_over l
@@ -25,33 +23,24 @@ block l i le h =
     let e : 32 + first_over (drop 32 (drop i l)) ≡ first_over (drop i l) = passed_over 32 (drop i l) (omega (arith, length-drop i l)) (rw (← add-sub_cancel_left i 32) h) in
     omega (arith, e, ap first_over (drop-drop 32 i l))
 
-abbrev invariant-loop : tie.invariant-loop
-invariant-loop columns i₀ i = (i + first_over (drop i columns) ≡ first_over columns) × (i ≤ length columns)
+pub loop-i-preserved : goal.loop-i-preserved
+loop-i-preserved c = let columns = c.args.columns.now in
+    (block columns c.loop-i.i c.loop-i-test.true (omega (arith, c.highest.ensures, c.if-highest-gt15.false)) ∙ c.loop-i.invariant.0, omega (arith, c.loop-i-test.true, c.loop-i.invariant.1))
 
-abbrev decreases-loop : tie.decreases-loop
-decreases-loop columns i₀ i = length columns - i
+pub loop-i-init : goal.loop-i-init
+loop-i-init c = (omega arith, omega arith)
 
-loop-again : tie.Need-loop-preserved invariant-loop decreases-loop
-loop-again c = let l = c.before.before.before in
-    let p = l.before in
-    let columns = p.before.before.args.columns.now in
-    (block columns p.loop.i l.loop-test.true (omega (arith, c.before.highest.ensures, c.if1.false)) ∙ p.loop.invariant.0, omega (arith, l.loop-test.true, p.loop.invariant.1))
+pub overflow_sub-columns : goal.overflow_sub-columns
+overflow_sub-columns c = omega (arith, c.loop-i.invariant.1)
 
-pub blocks-passed-spec : {M : Type 1} → statement M
-blocks-passed-spec =
-    tie.close
-    (tie.spec
-    invariant-loop
-    decreases-loop
-    (λ c. (omega arith, omega arith))
-    (λ c. omega (arith, c.loop.invariant.1))
-    (λ c. search rules)
-    (λ c. search rules)
-    (λ c. omega arith)
-    (λ c. omega (arith, c.before.loop.invariant.1, c.loop-test.true))
-    (λ c κs. search rules)
-    (λ c. c.before.before.before.before.loop.invariant)
-    (λ c. search rules)
-    (λ c. search rules)
-    loop-again
-    (λ c. c.before.loop.invariant))
+pub slice_bounds-highest-start : goal.slice_bounds-highest-start
+slice_bounds-highest-start c = omega arith
+
+pub slice_bounds-highest-end : goal.slice_bounds-highest-end
+slice_bounds-highest-end c = omega (arith, c.loop-i.invariant.1, c.loop-i-test.true)
+
+pub returns-then-highest-gt15 : goal.returns-then-highest-gt15
+returns-then-highest-gt15 c = c.loop-i.invariant
+
+pub returns : goal.returns
+returns c = c.loop-i.invariant
