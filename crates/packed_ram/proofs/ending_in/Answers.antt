@@ -9,9 +9,7 @@ use Rattle.sheet.specs.Registers.{bank_row}
 use Rattle.laws.proofs.Ranges.{bank-rows-fit}
 use Rattle.words.specs.Fields.{with_rows, field}
 use Rattle.packed_ram.specs.Stream.{ending}
-use borrow.Author.Rules.{rules}
-use Rattle.packed_ram.proofs.ending_in.Statement.{statement}
-use Rattle.packed_ram.proofs.ending_in.Tie as tie
+use Rattle.packed_ram.proofs.ending_in.Goals as goal
 
 -- the bits of a column's rows in the other order, as the last of a byte
 unfoldable byte : ℕ → ℕ → ℕ → ℕ
@@ -29,23 +27,24 @@ kept m bank q lm lb lq =
 low : (m bank : ℕ) → m < 5 → bank < 2 → bank_row m bank < 8
 low m bank lm lb = omega (arith, bank-rows-fit m bank lm lb)
 
-returns : tie.Need-returns
+pub returns : goal.returns
 unfolding byte
-returns c = let s = c.before.before in
-    let a = s.args in
+returns c = let a = c.args in
     let b = bank_row a.m a.bank in
-    ap (λ (y : ℕ). ending a.m b (y / 2 ^ (8 - a.m)) a.q) (c.reversed.ensures ∙ ap (λ (k : ℕ). field (a.q / 2 ^ k) 0 8) c.before.bank-row.ensures)
-    ∙ kept a.m a.bank a.q s.requires.1 s.requires.2 s.requires.3
+    ap (λ (y : ℕ). ending a.m b (y / 2 ^ (8 - a.m)) a.q) (c.reversed.ensures ∙ ap (λ (k : ℕ). field (a.q / 2 ^ k) 0 8) c.bank_row-b.ensures)
+    ∙ kept a.m a.bank a.q c.requires.1 c.requires.2 c.requires.3
 
-pub ending-in-spec : {M : Type 1} → statement M
-ending-in-spec =
-    tie.close
-    (tie.spec
-    (λ c κs. search rules)
-    (λ c. omega (arith, c.bank-row.ensures, low c.before.args.m c.before.args.bank c.before.requires.1 c.before.requires.2))
-    (λ c. omega (arith, c.bank-row.ensures, low c.before.args.m c.before.args.bank c.before.requires.1 c.before.requires.2))
-    (λ c κs. search rules)
-    (λ c. omega (arith, c.before.before.requires.1))
-    (λ c. omega arith)
-    (λ c. omega (arith, c.before.before.requires.0))
-    returns)
+pub overflow_cast-b : goal.overflow_cast-b
+overflow_cast-b c = omega (arith, c.bank_row-b.ensures, low c.args.m c.args.bank c.requires.1 c.requires.2)
+
+pub overflow_shr-q : goal.overflow_shr-q
+overflow_shr-q c = omega (arith, c.bank_row-b.ensures, low c.args.m c.args.bank c.requires.1 c.requires.2)
+
+pub overflow_sub-result : goal.overflow_sub-result
+overflow_sub-result c = omega (arith, c.requires.1)
+
+pub overflow_cast-result : goal.overflow_cast-result
+overflow_cast-result c = omega arith
+
+pub overflow_shr-result : goal.overflow_shr-result
+overflow_shr-result c = omega (arith, c.requires.0)
