@@ -8,8 +8,7 @@ use lib.ListN.{length, get_or}
 use Rattle.log_sheet.specs.Logs.{transfer_letter, line}
 use Rattle.text.specs.Texts.{Puts}
 use borrow.Author.Rules.{rules}
-use Rattle.lines.proofs.put_transfer.Statement.{statement}
-use Rattle.lines.proofs.put_transfer.Tie as tie
+use Rattle.lines.proofs.put_transfer.Goals as goal
 
 abbrev first_six : List ℕ → List ℕ
 first_six ns = get_or ns 0 0 ∷ get_or ns 1 0 ∷ get_or ns 2 0 ∷ get_or ns 3 0 ∷ get_or ns 4 0 ∷ get_or ns 5 0 ∷ []
@@ -24,18 +23,8 @@ six (a ∷ (b ∷ (c ∷ (d ∷ [])))) h = absurd (omega arith)
 six (a ∷ (b ∷ (c ∷ (d ∷ (e ∷ []))))) h = absurd (omega arith)
 six (a ∷ (b ∷ (c ∷ (d ∷ (e ∷ (f ∷ (g ∷ gs))))))) h = absurd (omega arith)
 
-told : (s : tie.Start) → length s.args.t4 ≡ 6
-told s = search rules
+pub put_line-requires : goal.put_line-requires
+put_line-requires c = subst (λ (ns : List ℕ). c.args.at + length (line transfer_letter (c.args.index ∷ ns)) ≤ length c.args.out.now) (sym (six c.args.said (search rules))) c.requires
 
-put-line-requires : tie.Need-put-line-requires
-put-line-requires c κs = let s = c.before.before.before in subst (λ (ns : List ℕ). s.args.at + length (line transfer_letter (s.args.index ∷ ns)) ≤ length s.args.out.now) (sym (six s.args.t4 (told s))) s.requires
-
-returns : tie.Need-returns
-returns c = let s = c.before.before.before.before.before.before in subst (λ (ns : List ℕ). Puts s.args.at (line transfer_letter (s.args.index ∷ ns)) s.args.out.now c.before.before.put-line.new.0 c.before.before.put-line.result) (six s.args.t4 (told s)) c.before.before.put-line.ensures
-
-pub put-transfer-spec : {M : Type 1} → statement M
-put-transfer-spec =
-    tie.close
-    (tie.spec
-    (λ c. search rules) (λ c. search rules) (λ c. search rules) (λ c. search rules) (λ c. search rules) (λ c. search rules) (λ c. search rules)
-    put-line-requires (λ c. search rules) returns)
+pub returns : goal.returns
+returns c = subst (λ (ns : List ℕ). Puts c.args.at (line transfer_letter (c.args.index ∷ ns)) c.args.out.now c.put_line.new.out c.put_line.result) (six c.args.said (search rules)) c.put_line.ensures
