@@ -4,7 +4,11 @@
 ghost use Rattle.std.specs.Prelude.{◌≡◌, ◌+◌, ◌≤◌, ◌<◌, ◌^◌, length};
 
 use buslog::Replayed;
-use libc::{STDIN_FILENO, STDOUT_FILENO};
+
+// The descriptors of standard input and standard output.
+const STDIN_FILENO: i32 = 0;
+
+const STDOUT_FILENO: i32 = 1;
 
 fn input_buffer() -> [u8; 700000]
     ensures { 700000 ≡ length result }

@@ -7,4 +7,4 @@ use Rattle.input.specs.declared.Input.TheVariants.{Whole, Failed}
 -- a whole input is so many of the buffer's first bytes
 abbrev pub Within : Input → List ℕ → Type 0
 Within (Whole n) buffer = IsPrefixLen n buffer
-Within Failed buffer = Unit {0}
+Within (Failed _) buffer = Unit {0}

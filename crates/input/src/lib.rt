@@ -1,10 +1,12 @@
-// A program's bus log from standard input, and what it writes to standard output.
+// A program's bus log from standard input, what it writes to standard output, and what it says of a failure on standard error.
 #![tactic(auto)]
 
 ghost use Rattle.std.specs.Prelude.{◌≡◌, length};
 ghost use Rattle.input.specs.Reads.{Within};
 
-use libc::{STDIN_FILENO, STDOUT_FILENO};
+use std::fs::OpenOptions;
+use std::io::{Error, Read, Write};
+use std::{fs, io};
 
 // A byte more than a log may have, so that a longer one is seen.
 pub fn log_buffer() -> [u8; 65537]
@@ -14,31 +16,56 @@ pub fn log_buffer() -> [u8; 65537]
 }
 
 // How far the input was read: to its end or until the buffer was full, so many bytes; or to a read that failed.
-#[derive(Clone, Copy)]
+#[derive(Drop)]
 pub enum Input {
     Whole(usize),
-    Failed,
+    Failed(Error),
 }
 
-pub fn read_input(buffer: &mut [u8]) -> Input
+pub fn read_input<R: Read>(input: &mut R, buffer: &mut [u8]) -> Input
     ensures { Within result buffer.new }
 {
     let mut done = 0;
     while done < buffer.len() {
-        let got = libc::read(STDIN_FILENO, &mut buffer[done..]);
-        if got < 0 {
-            return Input::Failed;
+        match input.read(&mut buffer[done..]) {
+            Ok(0) => break,
+            Ok(more) => done += more,
+            Err(error) => return Input::Failed(error),
         }
-        let more = io::count(got, &buffer[done..]);
-        if more == 0 {
-            break;
-        }
-        done += more;
     }
     Input::Whole(done)
 }
 
-// Whether all is written. Some file systems say only at the close that what was written is lost.
-pub fn write_output(bytes: &[u8]) -> bool {
-    io::write_all(STDOUT_FILENO, bytes) && libc::close(STDOUT_FILENO) >= 0
+// Some file systems say only at the end that what was written is lost, so a file is asked for it.
+fn settled(rt: &HostRuntime) -> io::Result<()> {
+    let path = "/dev/stdout";
+    let is_file = match fs::metadata(rt, path) {
+        Ok(found) => found.is_file(),
+        Err(_) => false,
+    };
+    if !is_file {
+        return Ok(());
+    }
+    match OpenOptions::new().write(true).open(rt, path) {
+        Ok(file) => file.sync_all(),
+        Err(_) => Ok(()),
+    }
+}
+
+// Whether all is written.
+pub fn write_output(rt: &HostRuntime, bytes: &[u8]) -> io::Result<()> {
+    rt.stdout().write_all(bytes)?;
+    settled(rt)
+}
+
+// A line of standard error: what failed, and why, in the system's words alone.
+pub fn fail(rt: &HostRuntime, message: &str, error: &Error) {
+    let said = match format!(in rt.alloc(); "{error}") {
+        Ok(text) => match text.as_str().split_once(" (os error") {
+            Some((words, _)) => eprintln!(rt; "{message}: {words}"),
+            None => eprintln!(rt; "{message}: {text}"),
+        },
+        Err(_) => eprintln!(rt; "{message}: {error}"),
+    };
+    let _ = said;
 }

@@ -7,7 +7,6 @@ ghost use Rattle.buslog.specs.Replays.{room};
 
 use buslog::{Replayed, TEXT};
 use input::Input;
-use libc::STDERR_FILENO;
 
 fn text_buffer() -> [u8; TEXT]
     ensures { room ≡ length result }
@@ -15,26 +14,31 @@ fn text_buffer() -> [u8; TEXT]
     [0; TEXT]
 }
 
-fn write_text(text: &[u8]) {
-    if !input::write_output(text) {
-        os::fail(b"replay: standard output could not be written");
-    } else if text.len() > 0 && text[0] == b'X' {
-        io::write_all(STDERR_FILENO, b"replay: the log is refused\n");
+fn write_text(rt: &HostRuntime, text: &[u8]) {
+    match input::write_output(rt, text) {
+        Err(error) => input::fail(rt, "replay: standard output could not be written", &error),
+        Ok(()) => {
+            if text.len() > 0 && text[0] == b'X' {
+                let _ = eprintln!(rt; "replay: the log is refused");
+            }
+        }
     }
 }
 
-fn replay_log(log: &[u8]) {
+fn replay_log(rt: &HostRuntime, log: &[u8]) {
     let mut out = text_buffer();
     match buslog::replay(log, &mut out) {
-        Replayed::Written(count) => write_text(&out[..count]),
+        Replayed::Written(count) => write_text(rt, &out[..count]),
         Replayed::SmallBuffer => {}
     }
 }
 
-fn main() {
+fn main(rt: HostRuntime) {
     let mut log = input::log_buffer();
-    match input::read_input(&mut log) {
-        Input::Whole(count) => replay_log(&log[..count]),
-        Input::Failed => os::fail(b"replay: standard input could not be read"),
+    match input::read_input(&mut rt.stdin(), &mut log) {
+        Input::Whole(count) => replay_log(&rt, &log[..count]),
+        Input::Failed(error) => {
+            input::fail(&rt, "replay: standard input could not be read", &error)
+        }
     }
 }

@@ -3,31 +3,26 @@
 #![tactic(auto)]
 
 use input::Input;
-use libc::STDERR_FILENO;
 use sheet::Rescued;
 
 // A line of standard error: a letter, the numbers, and LF.
-fn report(letter: &[u8], numbers: &[usize]) {
-    io::write_all(STDERR_FILENO, letter);
-    let mut i = 0;
-    while i < numbers.len() {
-        io::write_all(STDERR_FILENO, b" ");
-        io::print_decimal(STDERR_FILENO, numbers[i] as u64);
-        i += 1;
+fn report(rt: &HostRuntime, letter: &str, numbers: &[usize]) {
+    let _ = eprint!(rt; "{letter}");
+    for number in numbers {
+        let _ = eprint!(rt; " {number}");
     }
-    io::write_all(STDERR_FILENO, b"\n");
+    let _ = eprintln!(rt);
 }
 
 // What is kept, and then the report: nothing is reported of a log that is not written.
-fn write_kept(kept: &[u8], numbers: &[usize]) {
-    if input::write_output(kept) {
-        report(b"R", numbers);
-    } else {
-        os::fail(b"rescue: standard output could not be written");
+fn write_kept(rt: &HostRuntime, kept: &[u8], numbers: &[usize]) {
+    match input::write_output(rt, kept) {
+        Ok(()) => report(rt, "R", numbers),
+        Err(error) => input::fail(rt, "rescue: standard output could not be written", &error),
     }
 }
 
-fn rescue_log(log: &[u8]) {
+fn rescue_log(rt: &HostRuntime, log: &[u8]) {
     let mut out = input::log_buffer();
     match torn::rescue(log, &mut out) {
         Rescued::Kept {
@@ -35,18 +30,21 @@ fn rescue_log(log: &[u8]) {
             bytes,
             dropped,
             tear,
-        } => write_kept(&out[..bytes], &[records, bytes, dropped, tear]),
+        } => write_kept(rt, &out[..bytes], &[records, bytes, dropped, tear]),
         Rescued::Refused(refusal) => report(
-            b"X",
+            rt,
+            "X",
             &[answers::number_of(refusal), answers::place_of(refusal)],
         ),
     }
 }
 
-fn main() {
+fn main(rt: HostRuntime) {
     let mut log = input::log_buffer();
-    match input::read_input(&mut log) {
-        Input::Whole(count) => rescue_log(&log[..count]),
-        Input::Failed => os::fail(b"rescue: standard input could not be read"),
+    match input::read_input(&mut rt.stdin(), &mut log) {
+        Input::Whole(count) => rescue_log(&rt, &log[..count]),
+        Input::Failed(error) => {
+            input::fail(&rt, "rescue: standard input could not be read", &error)
+        }
     }
 }
