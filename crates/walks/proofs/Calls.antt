@@ -8,7 +8,7 @@ use mathlib.Core.List.{List, [], ◌∷◌}
 use Prim.Native.Nat.{ℕ, zero}
 use lib.Dec.{T}
 use seplogic.Ra.Ura.{Ura}
-use mir.Syntax.{Ty, Name, Place, place, Opd as Operand, Body, seq, call}
+use mir.Syntax.{Ty, Callee, Place, place, Opd as Operand, Body, seq, call}
 use mir.Val.{Val, WT, has_ty}
 use base.Logic.{SProp, ent, sep, emp, id⊢, via}
 use base.Fml.{Lft, Share, ftrue, flft}
@@ -64,12 +64,12 @@ module _ {M : Type 1} {𝓤 : Ura M} {𝓛 : Logic 𝓤} {K : Type 0} {Γ : List
     lands_in t last d wr = land_last t (from t (stop t)) wr
     lands_in t (then rest) d wr = land t (from t (stop t)) wr
 
-    calls-with : K → (u : Tail) {f : Name} {xs : List Operand} (d : Place) (i : Item 𝓤) (vs : List Val) (Q : Val → SProp 𝓤) → ent 𝓤 (⋆ 𝓛 (i ∷ [])) (𝓣.C f vs Q) → Opds K 𝓛 (i ∷ Γ) E xs vs
+    calls-with : K → (u : Tail) {f : Callee} {xs : List Operand} (d : Place) (i : Item 𝓤) (vs : List Val) (Q : Val → SProp 𝓤) → ent 𝓤 (⋆ 𝓛 (i ∷ [])) (𝓣.C f vs Q) → Opds K 𝓛 (i ∷ Γ) E xs vs
         → ((w : Val) → Seq K 𝓛 (raw (Q w) ∷ Γ) (landing 𝓣.C 𝓣.Λ E q d w u)) → Seq K 𝓛 (i ∷ Γ) (runs 𝓣.C 𝓣.Λ E (with (call f xs d) u) q)
     calls-with t last d i vs Q met os k = calls_from_last t (fm_of 𝓤 H 𝓛.laws 𝓣) i vs Q met os k
     calls-with t (then rest) d i vs Q met os k = calls_from t (fm_of 𝓤 H 𝓛.laws 𝓣) i vs Q met os k
 
-module _ {M : Type 1} {𝓤 : Ura M} {𝓛 : Logic 𝓤} {K : Type 0} {Γ : List (Item 𝓤)} {E : Env 𝓤 𝓛.H} {σ : List Cell} {q : Post 𝓤 𝓛.H} {f : Name} {xs : List Operand} where
+module _ {M : Type 1} {𝓤 : Ura M} {𝓛 : Logic 𝓤} {K : Type 0} {Γ : List (Item 𝓤)} {E : Env 𝓤 𝓛.H} {σ : List Cell} {q : Post 𝓤 𝓛.H} {f : Callee} {xs : List Operand} where
   open 𝓛 use {H}
 
   module _ (t : K) (u : Tail) (d : ℕ) (𝓣 : Tables 𝓤 H) (g : Ended) (cl : Clauses 𝓤 g) (met : Meets 𝓛 g.signature (𝓣.C f) (closing 𝓛 g cl)) where

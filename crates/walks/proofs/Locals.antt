@@ -12,7 +12,7 @@ use Prim.Native.Nat.{ℕ, zero, suc, ◌+◌}
 use lib.Dec.{T}
 use lib.ListN.{get_or}
 use seplogic.Ra.Ura.{Ura}
-use seplogic.Ra.TreeShare.{full_share}
+use base.Fraction.{full_share}
 use mir.Syntax.{Ty, Tys, Sym, ty_struct, place, deref, field as at_field, copy, Rv as RValue, addr_of, Body, seq, assign, return, Local, local, Fn}
 use mir.Fields.{get_v, set_v}
 use mir.Val.{Val, vptr, vstruct, Vals, WT, has_ty}

@@ -32,7 +32,7 @@ use denote.Triple.Spec.{Meets}
 use denote.Triple.Walked.{says, Fit, Ending, on_exit, Stays, stay_none, stay_slice, stay_none_slice, fits_of, has_of, AllGo, Goes-none, Goes-slice, Goes-none_slice, ends_at, walk_of, walked, walk_Meets}
 use Rattle.walks.proofs.Data.{Data, Datas, spells, vals_of, tellss}
 use Rattle.walks.proofs.Locals.{frame, env, at_entry, Passable, starts}
-use Rattle.walks.proofs.Slices.{slice, lent, shared}
+use Rattle.walks.proofs.Slices.{slice, view, lent, shared}
 use Rattle.walks.proofs.Callees.{of-shared, of_mut, of_mut_shared, GivenData}
 
 -- ---- parameters that are plain data: they are still owned at exit, as they were passed
@@ -134,9 +134,9 @@ module _ {M : Type 1} {𝓤 : Ura M} (𝓛 : Logic 𝓤) (𝓣 : Tables 𝓤 �
 
     module _ (cl : Clauses 𝓤 (of-shared R ps Q)) (ψ : (κs : Lfts 1) → Args (of-shared R ps Q).signature κs → Type 0) (φ : (κs : Lfts 1) → Args (of-shared R ps Q).signature κs → Q.Denot → Type 0) where
       abbrev pub SharedWalk : Type 2
-      SharedWalk = (κ : Lft) (s : Share) (b o : ℕ) (γ : GName) (xs : List R.Denot) (a : Denots (types_at ps (κ, tt))) → Room R (length xs) → Are (types_at ps (κ, tt)) (Ises (types_at ps (κ, tt))) a (vals_of (types_at ps (κ, tt)) (Ds (κ, tt)) a) → ψ (κ, tt) (slice R b o γ xs, a)
-          → (post : Val → SProp 𝓤) → ((y : Q.Denot) → Is Q y (D.val y ∷ []) → φ (κ, tt) (slice R b o γ xs, a) y → Sq 𝓛 (shared R (slice R b o γ xs) κ s ∷ []) (prop (post (D.val y))))
-          → (l : ℕ → ℕ) → Sq 𝓛 (frame (env fn.locals l) (at_entry fn.locals (slice_val (b, o) (length xs) ∷ flat (types_at ps (κ, tt)) (vals_of (types_at ps (κ, tt)) (Ds (κ, tt)) a))) ∷ shared R (slice R b o γ xs) κ s ∷ []) (body-runs l post)
+      SharedWalk = (κ : Lft) (s : Share) (b o : ℕ) (xs : List R.Denot) (a : Denots (types_at ps (κ, tt))) → Room R (length xs) → Are (types_at ps (κ, tt)) (Ises (types_at ps (κ, tt))) a (vals_of (types_at ps (κ, tt)) (Ds (κ, tt)) a) → ψ (κ, tt) (view R b o xs, a)
+          → (post : Val → SProp 𝓤) → ((y : Q.Denot) → Is Q y (D.val y ∷ []) → φ (κ, tt) (view R b o xs, a) y → Sq 𝓛 (shared R (view R b o xs) κ s ∷ []) (prop (post (D.val y))))
+          → (l : ℕ → ℕ) → Sq 𝓛 (frame (env fn.locals l) (at_entry fn.locals (slice_val (b, o) (length xs) ∷ flat (types_at ps (κ, tt)) (vals_of (types_at ps (κ, tt)) (Ds (κ, tt)) a))) ∷ shared R (view R b o xs) κ s ∷ []) (body-runs l post)
 
       pub shared_meets : TypedOne → Asks 𝓤 (of-shared R ps Q) cl ψ → Ensures 𝓤 (of-shared R ps Q) cl (λ κs a ws r. φ κs a r) → SharedWalk → Meets 𝓛 (of-shared R ps Q).signature (WpFn 𝓤 H 𝓣.C 𝓣.Λ fn) (closing 𝓛 (of-shared R ps Q) cl)
       shared_meets typed asks ens walk =
@@ -147,7 +147,7 @@ module _ {M : Type 1} {𝓤 : Ura M} (𝓛 : Logic 𝓤) (𝓣 : Tables 𝓤 �
           (λ κs. D) (λ κs qs a ws. shared R a.0 κs.0 qs.0 ∷ [])
           (λ κs qs a ws are y is. qed 𝓛 (shared R a.0 κs.0 qs.0 ∷ []) ∵ nothing ! $ move ! (1 ∷ []) $ split ! $ move ! (1 ∷ 2 ∷ []) $ join ! $ framing ! $
           has_data 1 ! κs ps (Ds κs) a.1 ws.1 are.1 $ move ! (1 ∷ 0 ∷ []) $ fjoin ! $ framing ! $ by ! (D.makes 𝓛 y _ is))
-          (λ κs qs a are p post k. starts ! fn _ (typed κs.0 a.0.ref_ptr.0 a.0.ref_ptr.1 a.0.now a.1 are.0.0.1 are.1) (walk κs.0 qs.0 a.0.ref_ptr.0 a.0.ref_ptr.1 a.0.ghost_name a.0.now a.1 are.0.0.1 are.1 p post (λ y is f. k y (tt, lasts-of 1 κs ps (Ds κs) a.1) (tt, fit 1 κs ps a.1 _) is f)))
+          (λ κs qs a are p post k. starts ! fn _ (typed κs.0 a.0.ref_ptr.0 a.0.ref_ptr.1 a.0.now a.1 are.0.0.1 are.1) (walk κs.0 qs.0 a.0.ref_ptr.0 a.0.ref_ptr.1 a.0.now a.1 are.0.0.1 are.1 p post (λ y is f. k y (tt, lasts-of 1 κs ps (Ds κs) a.1) (tt, fit 1 κs ps a.1 _) is f)))
 
     -- it ends with a last list, as long as the one that was lent
     module _ (cl : Clauses 𝓤 (of_mut R ps Q)) (ψ : (κs : Lfts 1) → Args (of_mut R ps Q).signature κs → Type 0) (φ : (κs : Lfts 1) → Args (of_mut R ps Q).signature κs → List R.Denot → Q.Denot → Type 0) where
@@ -170,12 +170,12 @@ module _ {M : Type 1} {𝓤 : Ura M} (𝓛 : Logic 𝓤) (𝓣 : Tables 𝓤 �
   module _ (R R₂ : RattleType) (ps : List (Slot 2)) (Ds : GivenData 2 ps) (cl : Clauses 𝓤 (of_mut_shared R R₂ ps Q)) (ψ : (κs : Lfts 2) → Args (of_mut_shared R R₂ ps Q).signature κs → Type 0)
       (φ : (κs : Lfts 2) → Args (of_mut_shared R R₂ ps Q).signature κs → List R.Denot → Q.Denot → Type 0) where
     abbrev pub MutSharedWalk : Type 2
-    MutSharedWalk = (κ κ₂ : Lft) (s s₂ : Share) (b o b₂ o₂ : ℕ) (γ γ₂ : GName) (xs : List R.Denot) (xs₂ : List R₂.Denot) (a : Denots (types_at ps (κ, (κ₂, tt)))) → Room R (length xs) → Room R₂ (length xs₂)
-        → Are (types_at ps (κ, (κ₂, tt))) (Ises (types_at ps (κ, (κ₂, tt)))) a (vals_of (types_at ps (κ, (κ₂, tt))) (Ds (κ, (κ₂, tt))) a) → ψ (κ, (κ₂, tt)) (slice R b o γ xs, (slice R₂ b₂ o₂ γ₂ xs₂, a))
-        → (post : Val → SProp 𝓤) → ((y : Q.Denot) (zs : List R.Denot) → length zs ≡ length xs → Is Q y (D.val y ∷ []) → φ (κ, (κ₂, tt)) (slice R b o γ xs, (slice R₂ b₂ o₂ γ₂ xs₂, a)) zs y
-        → Sq 𝓛 (lent R (slice R b o γ zs) (length xs) κ s ∷ shared R₂ (slice R₂ b₂ o₂ γ₂ xs₂) κ₂ s₂ ∷ []) (prop (post (D.val y))))
+    MutSharedWalk = (κ κ₂ : Lft) (s s₂ : Share) (b o b₂ o₂ : ℕ) (γ : GName) (xs : List R.Denot) (xs₂ : List R₂.Denot) (a : Denots (types_at ps (κ, (κ₂, tt)))) → Room R (length xs) → Room R₂ (length xs₂)
+        → Are (types_at ps (κ, (κ₂, tt))) (Ises (types_at ps (κ, (κ₂, tt)))) a (vals_of (types_at ps (κ, (κ₂, tt))) (Ds (κ, (κ₂, tt))) a) → ψ (κ, (κ₂, tt)) (slice R b o γ xs, (view R₂ b₂ o₂ xs₂, a))
+        → (post : Val → SProp 𝓤) → ((y : Q.Denot) (zs : List R.Denot) → length zs ≡ length xs → Is Q y (D.val y ∷ []) → φ (κ, (κ₂, tt)) (slice R b o γ xs, (view R₂ b₂ o₂ xs₂, a)) zs y
+        → Sq 𝓛 (lent R (slice R b o γ zs) (length xs) κ s ∷ shared R₂ (view R₂ b₂ o₂ xs₂) κ₂ s₂ ∷ []) (prop (post (D.val y))))
         → (l : ℕ → ℕ) → Sq 𝓛 (frame (env fn.locals l) (at_entry fn.locals (slice_val (b, o) (length xs) ∷ slice_val (b₂, o₂) (length xs₂) ∷ flat (types_at ps (κ, (κ₂, tt))) (vals_of (types_at ps (κ, (κ₂, tt))) (Ds (κ, (κ₂, tt))) a)))
-        ∷ lent R (slice R b o γ xs) (length xs) κ s ∷ shared R₂ (slice R₂ b₂ o₂ γ₂ xs₂) κ₂ s₂ ∷ []) (body-runs l post)
+        ∷ lent R (slice R b o γ xs) (length xs) κ s ∷ shared R₂ (view R₂ b₂ o₂ xs₂) κ₂ s₂ ∷ []) (body-runs l post)
 
     abbrev TypedTwo : Type 0
     TypedTwo = (κ κ₂ : Lft) (b o b₂ o₂ : ℕ) (xs : List R.Denot) (xs₂ : List R₂.Denot) (a : Denots (types_at ps (κ, (κ₂, tt)))) → Room R (length xs) → Room R₂ (length xs₂) → Are (types_at ps (κ, (κ₂, tt))) (Ises (types_at ps (κ, (κ₂, tt)))) a (vals_of (types_at ps (κ, (κ₂, tt))) (Ds (κ, (κ₂, tt))) a)
@@ -186,7 +186,7 @@ module _ {M : Type 1} {𝓤 : Ura M} (𝓛 : Logic 𝓤) (𝓣 : Tables 𝓤 �
         by-walk 𝓛 𝓣 fn (of_mut_shared R R₂ ps Q) (stay_slice (0 ∷ []) tt (plain (λ _. R)), (stay_none_slice (1 ∷ []) tt (plain (λ _. R₂)) yes, stays 2 ps)) (Goes-slice 𝓛 2 0 tt (plain (λ _. R)), (Goes-none_slice 𝓛 2 (1 ∷ []) tt (plain (λ _. R₂)) yes, go 2 𝓛 ps Ds))
         (λ κs. (mut_slice_vals, (shr_slice_vals, spells (types_at ps κs) (Ds κs)))) (λ κs. (mut_slice_Tells (named 0) κs.0 R, (shr_slice_Tells (named 1) κs.1.0 R₂, tellss (types_at ps κs) (Ds κs)))) cl ψ (λ κs a ws r. φ κs a ws.0 r) asks ens
         (λ κs qs a. lent R a.0 (length a.0.now) κs.0 qs.0 ∷ shared R₂ a.1.0 κs.1.0 qs.1.0 ∷ [])
-        (λ κs qs a. qed 𝓛 ((‵ (flft κs.0 qs.0) ⊛ (‵ (flft κs.1.0 qs.1.0) ⊛ ‵ ftrue)) ∷ ‵ (owns (types_at (of_mut_shared R R₂ ps Q).signature.params κs) a (shr_slice_vals a.0, (shr_slice_vals a.1.0, vals_of (types_at ps κs) (Ds κs) a.1.1))) ∷ []) ∵
+        (λ κs qs a. qed 𝓛 ((‵ (flft κs.0 qs.0) ⊛ (‵ (flft κs.1.0 qs.1.0) ⊛ ‵ ftrue)) ∷ ‵ (owns (types_at (of_mut_shared R R₂ ps Q).signature.params κs) a (mut_slice_vals a.0, (shr_slice_vals a.1.0, vals_of (types_at ps κs) (Ds κs) a.1.1))) ∷ []) ∵
         split ! $ move ! (1 ∷ []) $ split ! $ move ! (3 ∷ []) $ fsplit ! $ move ! (1 ∷ []) $ fsplit ! $
         -- [the shared slice; data; the lent slice; the shared one's token; nothing; the lent one's token]
         move ! (0 ∷ 3 ∷ []) $ join ! $ move ! (2 ∷ 4 ∷ []) $ join ! $ keep ! (0 ∷ 1 ∷ []) $ done !)
@@ -195,5 +195,5 @@ module _ {M : Type 1} {𝓤 : Ura M} (𝓛 : Logic 𝓤) (𝓣 : Tables 𝓤 �
         -- [the shared slice; its token; the lent slice; its token; nothing]
         move ! (1 ∷ 4 ∷ []) $ join ! $ move ! (3 ∷ 0 ∷ []) $ join ! $ framing ! $
         has_data 2 ! κs ps (Ds κs) a.1.1 ws.1.1 are.1.1 $ move ! (1 ∷ 0 ∷ []) $ fjoin ! $ move ! (1 ∷ 0 ∷ []) $ fjoin ! $ framing ! $ by ! (D.makes 𝓛 y _ is))
-        (λ κs qs a are p post k. starts ! fn _ (typed κs.0 κs.1.0 a.0.ref_ptr.0 a.0.ref_ptr.1 a.1.0.ref_ptr.0 a.1.0.ref_ptr.1 a.0.now a.1.0.now a.1.1 are.0.0.1 are.1.0.0.1 are.1.1) (walk κs.0 κs.1.0 qs.0 qs.1.0 a.0.ref_ptr.0 a.0.ref_ptr.1 a.1.0.ref_ptr.0 a.1.0.ref_ptr.1 a.0.ghost_name a.1.0.ghost_name a.0.now a.1.0.now a.1.1 are.0.0.1 are.1.0.0.1 are.1.1 p post
+        (λ κs qs a are p post k. starts ! fn _ (typed κs.0 κs.1.0 a.0.ref_ptr.0 a.0.ref_ptr.1 a.1.0.ref_ptr.0 a.1.0.ref_ptr.1 a.0.now a.1.0.now a.1.1 are.0.0.1 are.1.0.0.1 are.1.1) (walk κs.0 κs.1.0 qs.0 qs.1.0 a.0.ref_ptr.0 a.0.ref_ptr.1 a.1.0.ref_ptr.0 a.1.0.ref_ptr.1 a.0.ghost_name a.0.now a.1.0.now a.1.1 are.0.0.1 are.1.0.0.1 are.1.1 p post
         (λ y zs len is f. k y (zs, (tt, lasts-of 2 κs ps (Ds κs) a.1.1)) (len, (tt, fit 2 κs ps a.1.1 _)) is f)))

@@ -8,7 +8,7 @@ pub use native.Mathlib.Omega.{arith}
 pub use lib.Dec.{lit<, ltb→lt, nltb→le}
 pub use lib.ListN.{length, get_or, set}
 pub use seplogic.Ra.Ura.{Ura}
-pub use seplogic.Ra.TreeShare.{full_share}
+pub use base.Fraction.{full_share}
 pub use mir.Syntax.{w64}
 pub use mir.Val.{Val, vint}
 pub use base.Logic.{SProp, emp, id⊢}
@@ -19,9 +19,9 @@ pub use prog.Wp.{Heap, Tables}
 pub use ghost.Atoms.{Atoms}
 pub use contract.Lifetimes.{Lfts}
 pub use contract.Monad.{Fun, fact_i}
-pub use contract.Running.{given_of, tables}
+pub use contract.Running.{tables}
 unfoldable pub use contract.Running.{tables_of}
-pub use types.Kit.{Given, ‵, ◌⊛◌, Sq, runs, ◌$◌, !, move, split, use1, use2, rewrite}
+pub use types.Kit.{given, ‵, ◌⊛◌, Sq, runs, ◌$◌, !, move, split, use1, use2, rewrite}
 pub use types.Run.{lit, unit_lit, stop, from, of_opd, bin, addr, and_then, no_more}
 pub use types.Part.{agg}
 pub use denote.Laws.{Is, shows}
@@ -35,7 +35,7 @@ pub use denote.Triple.Table.{entered, cited}
 pub use Rattle.walks.proofs.Locals.{Cell, room, holds, rooms, frame, env, get, field, sets, sets_last, forgets, takes-away, puts_back, leaves}
 pub use Rattle.walks.proofs.Data.{number, truth, nothing}
 pub use Rattle.walks.proofs.Elements.{reads_element, writes_element}
-pub use Rattle.walks.proofs.Slices.{opened, looked-into, opens, shuts, looks, looked, shared, slice, reslices}
+pub use Rattle.walks.proofs.Slices.{opened, looked-into, opens, shuts, looks, looked, shared, slice, view, reslices}
 pub use Rattle.walks.proofs.Arrays.{opens_array, shuts_array, cuts, joins}
 pub use Rattle.walks.proofs.Loops.{Loop, Turned, tests, turned, goes_on, next-turn, returned}
 pub use Rattle.walks.proofs.Calls.{last, then}
