@@ -1,0 +1,12 @@
+use mathlib.Core.Path.{◌≡◌}
+use Prim.Native.Nat.{◌-◌, ◌≤◌}
+use lib.ListN.{length, drop}
+use Rattle.sheet.specs.Parts.{part_of}
+use Rattle.protocol.specs.Left.{undefined_in}
+use Rattle.protocol.proofs.after_defined.Given as goal
+
+abbrev pub invariant-loop-i : goal.invariant-loop-i
+invariant-loop-i l = (undefined_in (part_of l.part) l.i (drop l.i l.bytes) ≡ undefined_in (part_of l.part) l.from (drop l.from l.bytes)) × (l.i ≤ length l.bytes)
+
+abbrev pub decreases-loop-i : goal.decreases-loop-i
+decreases-loop-i l = length l.bytes - l.i

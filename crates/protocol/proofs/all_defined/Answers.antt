@@ -1,0 +1,34 @@
+-- `protocol::all_defined` meets its contract: what is found and what is left give the whole.
+-- Assumes nothing.
+use mathlib.Core.Path.{◌≡◌, refl, sym, ap, ◌∙◌}
+use mathlib.Core.Bool.{Bool, true, false, ◌&&◌}
+use Prim.Native.Nat.{◌+◌}
+use lib.ListN.{drop}
+use Rattle.sheet.specs.Parts.{part_of}
+use Rattle.protocol.specs.Left.{all_defined}
+use Rattle.protocol.proofs.Commands.{all-next, all-of-none}
+use Rattle.protocol.proofs.all_defined.Goals as goal
+
+-- one more is looked at
+regroup : (a b c : Bool) → ((a && b) && c) ≡ (a && (b && c))
+regroup true b c = refl
+regroup false b c = refl
+
+pub loop-i-preserved : goal.loop-i-preserved
+loop-i-preserved c = let a = c.args in
+    let K = part_of a.part in
+    let i = c.loop-i.i in
+    ap (λ (t : Bool). (c.loop-i.found && t) && all_defined K (drop (i + 1) a.commands.now)) c.is_defined-found.ensures
+    ∙ regroup c.loop-i.found _ _ ∙ ap (λ (t : Bool). c.loop-i.found && t) (sym (all-next K a.commands.now i c.loop-i-test.true)) ∙ c.loop-i.invariant
+
+-- nothing is left
+all_found : (t : Bool) → t ≡ (t && true)
+all_found true = refl
+all_found false = refl
+
+pub returns : goal.returns
+returns c = let a = c.args in
+    all_found c.loop-i.found ∙ ap (λ (t : Bool). c.loop-i.found && t) (sym (all-of-none (part_of a.part) a.commands.now c.loop-i.i c.loop-i-test.false)) ∙ c.loop-i.invariant
+
+pub loop-i-init : goal.loop-i-init
+loop-i-init c = refl

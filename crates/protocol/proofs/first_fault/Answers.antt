@@ -1,0 +1,22 @@
+-- `protocol::first_fault` meets its contract: the whole bytes are the first so many.
+-- Assumes nothing.
+use mathlib.Core.Path.{sym, ap, subst, ◌∙◌}
+use mathlib.Core.List.{List}
+use Prim.Native.Nat.{ℕ, ◌≤◌}
+use lib.Dec.{ltb}
+use lib.ListN.{length, take, drop}
+use lib.Seq.{length-take-le}
+use Rattle.sheet.specs.declared.Expect.{Expect}
+use Rattle.sheet.specs.Parts.{part_of}
+use Rattle.sheet.specs.Checks.{fault_in}
+use Rattle.laws.proofs.Wholes.{whole-most, whole-taken}
+use Rattle.protocol.proofs.first_fault.Goals as goal
+
+pub slice_bounds-fault_in-end : goal.slice_bounds-fault_in-end
+slice_bounds-fault_in-end c = sym (length-take-le _ _ (subst (λ (k : ℕ). k ≤ length c.args.bytes.now) (sym c.whole_count-whole.ensures) (whole-most (length c.args.bytes.now) c.args.bits)))
+
+pub returns : goal.returns
+returns c = let a = c.args in
+    let bytes = a.bytes.now in
+    c.fault_in.ensures
+    ∙ ap (λ (l : List ℕ). fault_in (part_of a.part) (ltb a.bits 8) a.marks Expect.Control 1 (drop 1 l)) (ap (λ (k : ℕ). take k bytes) c.whole_count-whole.ensures ∙ whole-taken bytes a.bits)

@@ -1,0 +1,21 @@
+-- `protocol::undefined_from` meets its contract: what is left has the first that is no command.
+-- Assumes nothing.
+use mathlib.Core.Path.{sym, ◌∙◌}
+use Rattle.sheet.specs.Parts.{part_of}
+use Rattle.protocol.proofs.Commands.{one-defined, one-undefined, none-undefined}
+use Rattle.protocol.proofs.undefined_from.Goals as goal
+
+pub loop-i-preserved : goal.loop-i-preserved
+loop-i-preserved c = let a = c.args in
+    sym (one-defined (part_of a.part) a.bytes.now c.loop-i.i c.loop-i-test.true (sym c.is_defined.ensures ∙ c.if-is_defined.true)) ∙ c.loop-i.invariant
+
+pub returns-else-is_defined : goal.returns-else-is_defined
+returns-else-is_defined c = let a = c.args in
+    sym (one-undefined (part_of a.part) a.bytes.now c.loop-i.i c.loop-i-test.true (sym c.is_defined.ensures ∙ c.if-is_defined.false)) ∙ c.loop-i.invariant
+
+pub returns : goal.returns
+returns c = let a = c.args in
+    sym (none-undefined (part_of a.part) a.bytes.now c.loop-i.i c.loop-i-test.false) ∙ c.loop-i.invariant
+
+pub loop-i-init : goal.loop-i-init
+loop-i-init c = c.after_defined-i.ensures.0
