@@ -5,7 +5,7 @@
 #                                 SIGROKDECODE_DIR, if it is set, is the folder of decoders instead of the one under PREFIX
 #     make uninstall PREFIX=folder
 #     make check                  installs it in a scratch folder, and builds and runs tests against that, outside this repository
-#     make LIB=path/libcabi.a ..  takes an archive that is already built; without it `rt staticlib cabi` proves and builds one, which takes minutes
+#     make LIB=path/libcabi.a ..  takes an archive that is already built; without it `rt lib` in crates/cabi proves and builds one, which takes minutes
 PREFIX ?= /usr/local
 PACKAGE := target/package
 VERSION := $(shell sed -n 's/^\#define HUMTRELLIS_VERSION \([0-9]*\) .*/\1/p' include/humtrellis.h)
@@ -19,10 +19,11 @@ all: $(addprefix $(PACKAGE)/, libhumtrellis.a $(SHARED) humtrellis.pc $(CMAKE_FI
 
 ifndef LIB
 LIB := target/staticlib/libcabi.a
-$(LIB): crates.txt $(shell find crates -type f)
+$(LIB): crates.txt $(shell find crates -name out -prune -o -type f -print)
 	@command -v rt >/dev/null || { echo 'make: the Rattle toolchain (rt) is not on PATH; LIB=path/libcabi.a takes an archive that is already built' >&2; exit 1; }
-	rt staticlib cabi
-	touch $@
+	cd crates/cabi && rt lib
+	mkdir -p $(@D)
+	cp crates/cabi/out/libcabi.a $@
 endif
 
 # Compared, since another LIB may be older than the copy.

@@ -6,14 +6,18 @@ use std::os::unix::fs::PermissionsExt;
 
 /// Says what rt says, reads its standard input, and gives MADE for the program where there is none.
 const RT: &str = "#!/bin/sh
-echo \"$*\" >>asked
-echo 'rt: first proved (1 s)'
+echo \"${PWD##*/} $*\" >>../../asked
+echo 'crate first: modules loaded=0 checked=1'
+echo 'logic=proved functions=0'
 echo 'fn second::half: proved'
-echo 'rt: second proved (unchanged since it was last proved)'
+echo 'crate second: modules loaded=1 checked=0'
+echo 'logic=proved functions=1'
 cat
-[ -n \"$MADE\" ] || { echo 'rt: replay NOT PROVED (exit 1, 2 s)'; exit 1; }
-[ -e target/bin/replay ] || cp \"$MADE\" target/bin/replay
-echo 'rt: replay proved (2 s)'
+[ -n \"$MADE\" ] || { echo 'logic=not-proved'; exit 1; }
+mkdir -p out
+[ -e out/replay ] || cp \"$MADE\" out/replay
+echo 'crate replay: modules loaded=2 checked=1'
+echo 'logic=proved functions=2'
 ";
 /// Three of these four crates make the program.
 const CRATES: &str =
@@ -28,7 +32,7 @@ fn write_tool(path: &str, text: &str) {
 fn repository(name: &str) -> String {
     let folder = scratch(name);
     let _ = fs::remove_dir_all(&folder);
-    for part in ["bin", "crates", "tools", "target/bin"] {
+    for part in ["bin", "crates/replay", "tools", "target/bin"] {
         fs::create_dir_all(format!("{folder}/{part}")).expect("a folder");
     }
     fs::write(format!("{folder}/crates.txt"), CRATES).expect("crates.txt");
@@ -65,7 +69,7 @@ fn first_run() {
     assert_eq!(run_in(&folder, "touch crates/new; bin/replay log"), built);
     assert_eq!(run_in(&folder, "bin/replay log"), ready);
     assert_eq!(run_in(&folder, "rm crates/new; bin/replay log"), built);
-    assert_eq!(run_in(&folder, "cat asked").out, "check replay\n".repeat(3));
+    assert_eq!(run_in(&folder, "cat asked").out, "replay run\n".repeat(3));
 }
 
 #[test]
@@ -74,9 +78,9 @@ fn first_run_on_a_terminal() {
     let ended = run_in(&folder, "script -qec 'bin/replay log' /dev/null </dev/null");
     let shown = [
         BEGUN,
-        "bin/replay: crate 1 of 3: first proved (1 s)\n",
-        "bin/replay: crate 2 of 3: second proved (unchanged since it was last proved)\n",
-        "bin/replay: crate 3 of 3: replay proved (2 s)\n",
+        "bin/replay: crate 1 of 3: first proved\n",
+        "bin/replay: crate 2 of 3: second proved\n",
+        "bin/replay: crate 3 of 3: replay proved\n",
         &lines("examples/minus.txt"),
     ];
     assert_eq!(
@@ -91,8 +95,8 @@ fn not_proved() {
     let ended = run_in(&folder, "MADE= bin/replay <log");
     let said = [
         BEGUN,
-        "rt: first proved (1 s)\nfn second::half: proved\n",
-        "rt: second proved (unchanged since it was last proved)\nrt: replay NOT PROVED (exit 1, 2 s)\n",
+        "crate first: modules loaded=0 checked=1\nlogic=proved functions=0\nfn second::half: proved\n",
+        "crate second: modules loaded=1 checked=0\nlogic=proved functions=1\nlogic=not-proved\n",
         "bin/replay: the program could not be proved and built",
     ];
     ended.expect_failure(&said.concat());
@@ -103,7 +107,7 @@ fn not_proved() {
 fn not_made() {
     let folder = repository("not_made");
     let ended = run_in(&folder, "MADE=/dev/null bin/replay log");
-    let message = "bin/replay: rt has proved the program and made none: remove target/stamp/replay and run again";
+    let message = "bin/replay: rt has proved the program and made none: remove crates/replay/out and run again";
     ended.expect_failure(&format!("{BEGUN}{message}"));
 }
 

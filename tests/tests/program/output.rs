@@ -92,18 +92,19 @@ fn no_standard_error() {
     }
 }
 
-/// A file system that reports a lost write at the close only, played by a `close` that fails.
+/// A file system that tells a lost write late, when the file is asked to settle, played by an `fsync` that fails.
 #[test]
 fn lost_at_close() {
-    let (source, library) = (scratch("close.c"), scratch("close.so"));
-    let close = "#include <errno.h>\nint close(int fd) { (void)fd; errno = EDQUOT; return -1; }\n";
-    std::fs::write(&source, close).expect("a source");
+    let (source, library) = (scratch("fsync.c"), scratch("fsync.so"));
+    let fsync = "#include <errno.h>\nint fsync(int fd) { (void)fd; errno = EDQUOT; return -1; }\n";
+    std::fs::write(&source, fsync).expect("a source");
     let compiled = Command::new("cc")
         .args(["-shared", "-fPIC", &source, "-o", &library])
         .status();
     assert!(compiled.expect("cc").success());
     let ended = run(&format!(
-        "LD_PRELOAD='{library}' target/bin/replay <examples/minus.log"
+        "LD_PRELOAD='{library}' target/bin/replay <examples/minus.log >'{}'",
+        scratch("lost_at_close.txt")
     ));
     assert_eq!(
         ended.err,
