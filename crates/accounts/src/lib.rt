@@ -27,7 +27,7 @@ pub fn side_by_side(
     bench: Bench,
 ) -> Sides
     requires { Alike part chips registers ram.old bench }
-    ensures* ram_after { λ r. ⌜ record { result = r.long; ram = ram.new } ≡ transfer_part part chips registers ram.old (sent bytes.now bits) ⌝ }
+    ensures ram_after { record { result = result.long; ram = ram.new } ≡ transfer_part part chips registers ram.old (sent bytes.now bits) }
     ensures plain_value { result.plain ≡ bench_transferred part bench (sent bytes.now bits) }
     ensures agreed { Agreed part chips ram.new result }
 {

@@ -122,7 +122,7 @@ fn pictured(
     out: &mut [u8],
 ) -> Pictured
     requires { length registers.now ≡ 24 }
-    ensures* { λ r. ⌜ record { result = r; out = out.new } ≡ picture_part bus.part bus.chips (both_of registers.now) (columns_in bus.packed ram.now) group phase out.old ⌝ }
+    ensures { record { result = result; out = out.new } ≡ picture_part bus.part bus.chips (both_of registers.now) (columns_in bus.packed ram.now) group phase out.old }
 {
     let part = bus.part;
     let packed = bus.packed;

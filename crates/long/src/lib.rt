@@ -71,7 +71,7 @@ fn deliver(
     group: u8,
 ) -> Transferred
     requires { (check_state (part_of part) chips registers (columns_in packed ram.old) ≡ Check.Passed) × (length bytes.now < 4097) × (0 < length (whole_of (sent bytes.now bits))) }
-    ensures* { λ r. ⌜ record { result = r; ram = columns_in packed ram.new } ≡ taken (part_of part) chips registers (columns_in packed ram.old) (sent bytes.now bits) (Addressed.To group) ⌝ }
+    ensures { record { result = result; ram = columns_in packed ram.new } ≡ taken (part_of part) chips registers (columns_in packed ram.old) (sent bytes.now bits) (Addressed.To group) }
 {
     let before = groups::registers_of(group, registers);
     let heard = hear_in(part, chips, group, before, ram, packed, bytes, bits, 1);
@@ -108,7 +108,7 @@ pub fn transfer(
     bytes: &[u8],
     bits: u8,
 ) -> Transferred
-    ensures* ram_after { λ r. ⌜ record { result = r; ram = columns_in packed ram.new } ≡ transfer_part part chips registers (columns_in packed ram.old) (sent bytes.now bits) ⌝ }
+    ensures ram_after { record { result = result; ram = columns_in packed ram.new } ≡ transfer_part part chips registers (columns_in packed ram.old) (sent bytes.now bits) }
     ensures answer_value { numbers (part_of part) result.answer ≡ numbers (part_of part) (transfer_part part chips registers (columns_in packed ram.old) (sent bytes.now bits)).result.answer }
 {
     match refused::check_transfer(part, chips, registers, ram, packed, bytes, bits) {
@@ -159,7 +159,7 @@ pub fn picture(
     phase: u8,
     out: &mut [u8],
 ) -> Pictured
-    ensures* out_after { λ r. ⌜ record { result = r; out = out.new } ≡ picture_part part chips registers (columns_in packed ram.now) group phase out.old ⌝ }
+    ensures out_after { record { result = result; out = out.new } ≡ picture_part part chips registers (columns_in packed ram.now) group phase out.old }
     ensures result_value { picture_numbers result ≡ picture_numbers (picture_part part chips registers (columns_in packed ram.now) group phase out.old).result }
 {
     let fit = refused::registers_fit(part, registers);
