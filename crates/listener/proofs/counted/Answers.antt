@@ -8,9 +8,7 @@ use Rattle.sheet.specs.declared.Counts.{Counts}
 use Rattle.sheet.specs.Data.{width_of}
 use Rattle.sheet.specs.Runs.{counted_run}
 use Rattle.laws.proofs.Counts.{width-less, stored_of, tallied, counted-at-once}
-use borrow.Author.Rules.{rules}
-use Rattle.listener.proofs.counted.Statement.{statement}
-use Rattle.listener.proofs.counted.Tie as tie
+use Rattle.listener.proofs.counted.Goals as goal
 
 -- the columns left after the whole bytes have fewer than eight bits
 rest_lt : (m left w : ℕ) → 0 < m → w ≡ width_of m → m * (left % w) < 8
@@ -40,53 +38,23 @@ cut-run t m n left p h =
 as-defined : (t : Counts) (v size m n left : ℕ) → 0 < m → left ≡ size - v → tallied n m left t ≡ counted_run n m v size t
 as-defined t v size m n left p e = rw e (sym (counted-at-once n m v size t p))
 
--- of this call, once the columns left are known
-few_bits : (c : tie.After-columns-from) → let a = c.before.before.args in a.m * (c.columns-from.result % c.before.width.result) < 8
-few_bits c = rest_lt _ c.columns-from.result c.before.width.result c.before.before.requires.some c.before.width.ensures
+pub overflow_mul-stored-else-n-whole : goal.overflow_mul-stored-else-n-whole
+overflow_mul-stored-else-n-whole c = omega (arith, rest_lt c.args.m c.columns_from-left.result c.width-w.result c.requires.some c.width-w.ensures)
 
-mul-stored-2 : tie.Need-overflow-mul-stored-2
-mul-stored-2 c = omega (arith, few_bits c.before)
+pub overflow_add-stored : goal.overflow_add-stored
+overflow_add-stored c = omega (arith, rest_lt c.args.m c.columns_from-left.result c.width-w.result c.requires.some c.width-w.ensures)
 
-add-stored : tie.Need-overflow-add-stored
-add-stored c = omega (arith, few_bits c.before)
+pub overflow_add-result-else-n-whole-2 : goal.overflow_add-result-else-n-whole-2
+overflow_add-result-else-n-whole-2 c = omega (arith, rest_lt c.args.m c.columns_from-left.result c.width-w.result c.requires.some c.width-w.ensures)
 
-add-t17 : tie.Need-overflow-add-t17
-add-t17 c = omega (arith, few_bits c.before.before.before)
+pub overflow_sub-result : goal.overflow_sub-result
+overflow_sub-result c = omega (arith, rest_lt c.args.m c.columns_from-left.result c.width-w.result c.requires.some c.width-w.ensures)
 
-sub-t18 : tie.Need-overflow-sub-t18
-sub-t18 c = omega (arith, few_bits c.before.before.before)
+pub returns-then-n-whole : goal.returns-then-n-whole
+returns-then-n-whole c = let a = c.args in
+    whole_run a.counts a.m a.n c.columns_from-left.result (rw (← c.width-w.ensures) c.if-n-whole.true) ∙ as-defined a.counts a.v a.size a.m a.n c.columns_from-left.result c.requires.some c.columns_from-left.ensures
 
-returns : tie.Need-returns
-returns c = let l = c.before.before.before in
-    let s = l.before.before in
-    let a = s.args in
-    whole_run a.counts a.m a.n l.columns-from.result (rw (← l.before.width.ensures) c.before.before.if1.true) ∙ as-defined a.counts a.v a.size a.m a.n l.columns-from.result s.requires.some l.columns-from.ensures
-
-returns-2 : tie.Need-returns-2
-returns-2 c = let l = c.before.before.before.before in
-    let s = l.before.before in
-    let a = s.args in
-    rw l.before.width.ensures
-    (cut-run a.counts a.m a.n l.columns-from.result s.requires.some (rw (← l.before.width.ensures) c.before.before.before.if1.false) ∙ as-defined a.counts a.v a.size a.m a.n l.columns-from.result s.requires.some l.columns-from.ensures)
-
-pub counted_spec : {M : Type 1} → statement M
-counted_spec =
-    tie.close
-    (tie.spec
-    (λ c κs. search rules)
-    (λ c κs. search rules)
-    (λ c. search rules)
-    (λ c. search rules)
-    (λ c. search rules)
-    (λ c. search rules)
-    (λ c. search rules)
-    (λ c. search rules)
-    mul-stored-2
-    add-stored
-    (λ c. search rules)
-    add-t17
-    (λ c. search rules)
-    sub-t18
-    (λ c. search rules)
-    returns
-    returns-2)
+pub returns-else-n-whole : goal.returns-else-n-whole
+returns-else-n-whole c = let a = c.args in
+    rw c.width-w.ensures
+    (cut-run a.counts a.m a.n c.columns_from-left.result c.requires.some (rw (← c.width-w.ensures) c.if-n-whole.false) ∙ as-defined a.counts a.v a.size a.m a.n c.columns_from-left.result c.requires.some c.columns_from-left.ensures)

@@ -1,0 +1,11 @@
+-- `refused::check_bus` meets its contract.
+-- Assumes nothing.
+use mathlib.Core.Path.{refl, sym, ◌∙◌}
+use borrow.Author.Rules.{rules}
+use Rattle.refused.proofs.check_bus.Goals as goal
+
+pub returns-in-Refused : goal.returns-in-Refused
+returns-in-Refused c = rw (sym c.check_part.ensures ∙ c.in-Refused.is) refl
+
+pub returns-in-Passed : goal.returns-in-Passed
+returns-in-Passed c = rw (sym c.check_part.ensures ∙ c.in-Passed.is) c.check_chips.ensures

@@ -1,0 +1,25 @@
+-- `refused::check_ram` meets its contract, in either form.
+-- Assumes nothing.
+use mathlib.Core.Path.{◌≡◌, sym, ap, ◌∙◌, subst}
+use Prim.Native.Nat.{ℕ, ◌*◌, ◌/◌}
+use Rattle.sheet.specs.Parts.{part_of}
+use Rattle.sheet.specs.Checks.{check_columns, check_ram}
+use Rattle.packed_sheet.specs.Packed.{unpacked}
+use Rattle.laws.proofs.Named.{columns-even}
+use Rattle.laws.proofs.Packed.{even-columns}
+use borrow.Author.Rules.{rules}
+use Rattle.refused.proofs.check_ram.Goals as goal
+
+pub check_packed-requires : goal.check_packed-requires
+check_packed-requires c = let K = part_of c.args.part in
+    subst (λ (size : ℕ). size ≡ 2 * (size / 2)) (sym c.columns_in-size.ensures) (even-columns K (K.columns / 2) (columns-even _) _)
+
+pub returns-then-packed : goal.returns-then-packed
+unfolding check_ram
+returns-then-packed c = let a = c.args in
+    rw c.if-packed.true (c.check_packed.ensures ∙ ap (λ (size : ℕ). check_columns size (unpacked a.ram.now)) c.columns_in-size.ensures)
+
+pub returns-else-packed : goal.returns-else-packed
+unfolding check_ram
+returns-else-packed c = let a = c.args in
+    rw c.if-packed.false (c.check_columns.ensures ∙ ap (λ (size : ℕ). check_columns size a.ram.now) c.columns_in-size.ensures)

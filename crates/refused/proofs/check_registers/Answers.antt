@@ -1,0 +1,17 @@
+-- `refused::check_registers` meets its contract.
+-- Assumes nothing.
+use mathlib.Core.Path.{sym, ◌∙◌}
+use Rattle.sheet.specs.declared.Refusal.TheVariants.{Register}
+use Rattle.sheet.specs.Parts.{part_of}
+use Rattle.sheet.specs.Checks.{unless, check_part, check_chips}
+use Rattle.laws.proofs.First.{then-refused, then-passed}
+use borrow.Author.Rules.{rules}
+use Rattle.refused.proofs.check_registers.Goals as goal
+
+pub returns-in-Refused : goal.returns-in-Refused
+returns-in-Refused c = let a = c.args in
+    then-refused (check_part a.part) (check_chips (part_of a.part) a.chips) (unless a.fit Register) _ (sym c.check_bus.ensures ∙ c.in-Refused.is)
+
+pub returns-in-Passed : goal.returns-in-Passed
+returns-in-Passed c = let a = c.args in
+    then-passed (check_part a.part) (check_chips (part_of a.part) a.chips) (unless a.fit Register) _ (sym c.check_bus.ensures ∙ c.in-Passed.is) c.unless.ensures

@@ -1,0 +1,21 @@
+-- `refused::check_state` meets its contract.
+-- Assumes nothing.
+use mathlib.Core.Path.{sym, ◌∙◌}
+use Rattle.sheet.specs.Parts.{part_of}
+use Rattle.sheet.specs.declared.Refusal.TheVariants.{Register}
+use Rattle.sheet.specs.Checks.{unless, check_part, check_chips, check_ram}
+use Rattle.packed_sheet.specs.Packed.{columns_in}
+use Rattle.laws.proofs.First.{three-refused, three-passed}
+use borrow.Author.Rules.{rules}
+use Rattle.refused.proofs.check_state.Goals as goal
+
+pub returns-in-Refused : goal.returns-in-Refused
+returns-in-Refused c = let a = c.args in
+    let K = part_of a.part in
+    three-refused (check_part a.part) (check_chips K a.chips) (unless a.fit Register) (check_ram K a.chips (columns_in a.packed a.ram.now)) _ (sym c.check_registers.ensures ∙ c.in-Refused.is)
+
+pub returns-in-Passed : goal.returns-in-Passed
+returns-in-Passed c = let a = c.args in
+    let K = part_of a.part in
+    three-passed (check_part a.part) (check_chips K a.chips) (unless a.fit Register) (check_ram K a.chips (columns_in a.packed a.ram.now)) _ (sym c.check_registers.ensures ∙ c.in-Passed.is)
+    c.check_ram.ensures
