@@ -1,7 +1,6 @@
 -- `refused::check_bus` meets its contract.
 -- Assumes nothing.
 use mathlib.Core.Path.{refl, sym, ◌∙◌}
-use borrow.Author.Rules.{rules}
 use Rattle.refused.proofs.check_bus.Goals as goal
 
 pub returns-in-Refused : goal.returns-in-Refused

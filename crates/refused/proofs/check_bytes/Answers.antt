@@ -7,10 +7,8 @@ use Rattle.sheet.specs.Parts.{Part, part_of}
 use Rattle.sheet.specs.declared.Both.{Both}
 use Rattle.sheet.specs.declared.Chips.{Chips}
 use Prim.Native.Nat.{ℕ}
-use mathlib.Core.List.{List}
 use Rattle.sheet.specs.Protocol.{Sent, heard_by, sent, address_byte}
 use Rattle.sheet.specs.Checks.{fault_of_sent, check_bytes}
-use borrow.Author.Rules.{rules}
 use Rattle.refused.proofs.check_bytes.Goals as goal
 
 -- what is checked, by who hears

@@ -2,7 +2,6 @@
 -- Assumes nothing.
 use mathlib.Core.Path.{refl}
 use borrow.Author.Tests.{eq-eqb, ne_eqb}
-use borrow.Author.Rules.{rules}
 use Rattle.refused.proofs.check_columns.Goals as goal
 
 pub returns-then-columns-size : goal.returns-then-columns-size

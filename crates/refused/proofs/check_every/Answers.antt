@@ -11,7 +11,6 @@ use Rattle.sheet.specs.Protocol.{chips_in}
 use Rattle.sheet.specs.Checks.{unless, or_else, check_columns}
 use Rattle.writer_sheet.specs.Writer.{check_wanted}
 use Rattle.refused.proofs.Fitted.{rest-refused, rest-passed}
-use borrow.Author.Rules.{rules}
 use Rattle.refused.proofs.check_every.Goals as goal
 
 -- what is checked after the registers

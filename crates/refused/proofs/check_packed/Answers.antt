@@ -8,7 +8,6 @@ use Rattle.sheet.specs.declared.Check.{Check}
 use Rattle.sheet.specs.Checks.{unless, or_else}
 use Rattle.laws.proofs.First.{or-passed}
 use Rattle.laws.proofs.Packed.{half_length, never-over}
-use borrow.Author.Rules.{rules}
 use Rattle.refused.proofs.check_packed.Goals as goal
 
 pub returns : goal.returns

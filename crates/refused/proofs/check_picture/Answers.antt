@@ -14,7 +14,6 @@ use Rattle.sheet.specs.Checks.{unless, or_else, check_part}
 use Rattle.refused.specs.Fitting.{state_by}
 use Rattle.packed_sheet.specs.Packed.{columns_in}
 use Rattle.laws.proofs.First.{then-refused, then-passed}
-use borrow.Author.Rules.{rules}
 use Rattle.refused.proofs.check_picture.Goals as goal
 
 -- what the call begins with

@@ -1,11 +1,9 @@
 -- `refused::check_power_on` meets its contract.
 -- Assumes nothing.
 use mathlib.Core.Path.{sym, ◌∙◌}
-use Rattle.sheet.specs.declared.Check.{Check}
 use Rattle.sheet.specs.Parts.{part_of}
 use Rattle.sheet.specs.Checks.{check_part, check_chips, check_power_on}
 use Rattle.laws.proofs.First.{then-refused, then-passed}
-use borrow.Author.Rules.{rules}
 use Rattle.refused.proofs.check_power_on.Goals as goal
 
 pub returns-in-Refused : goal.returns-in-Refused

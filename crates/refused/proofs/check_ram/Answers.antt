@@ -7,7 +7,6 @@ use Rattle.sheet.specs.Checks.{check_columns, check_ram}
 use Rattle.packed_sheet.specs.Packed.{unpacked}
 use Rattle.laws.proofs.Named.{columns-even}
 use Rattle.laws.proofs.Packed.{even-columns}
-use borrow.Author.Rules.{rules}
 use Rattle.refused.proofs.check_ram.Goals as goal
 
 pub check_packed-requires : goal.check_packed-requires

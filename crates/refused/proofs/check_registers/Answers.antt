@@ -5,7 +5,6 @@ use Rattle.sheet.specs.declared.Refusal.TheVariants.{Register}
 use Rattle.sheet.specs.Parts.{part_of}
 use Rattle.sheet.specs.Checks.{unless, check_part, check_chips}
 use Rattle.laws.proofs.First.{then-refused, then-passed}
-use borrow.Author.Rules.{rules}
 use Rattle.refused.proofs.check_registers.Goals as goal
 
 pub returns-in-Refused : goal.returns-in-Refused

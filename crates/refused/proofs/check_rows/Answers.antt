@@ -5,7 +5,6 @@ use Prim.Native.Nat.{ℕ, ◌*◌}
 use borrow.Author.Tests.{lt-ltb, le-ltb}
 use Rattle.sheet.specs.Parts.{part_of}
 use Rattle.sheet.specs.Checks.{check_columns}
-use borrow.Author.Rules.{rules}
 use Rattle.refused.proofs.check_rows.Goals as goal
 
 pub returns-then-group-lt2 : goal.returns-then-group-lt2

@@ -6,7 +6,6 @@ use Rattle.sheet.specs.declared.Refusal.TheVariants.{Register}
 use Rattle.sheet.specs.Checks.{unless, check_part, check_chips, check_ram}
 use Rattle.packed_sheet.specs.Packed.{columns_in}
 use Rattle.laws.proofs.First.{three-refused, three-passed}
-use borrow.Author.Rules.{rules}
 use Rattle.refused.proofs.check_state.Goals as goal
 
 pub returns-in-Refused : goal.returns-in-Refused

@@ -14,7 +14,6 @@ use Rattle.sheet.specs.Checks.{or_else, check_part, check_sent, check_bytes, che
 use Rattle.packed_sheet.specs.Packed.{columns_in}
 use Rattle.laws.proofs.First.{then-refused, then-passed}
 use Rattle.refused.proofs.Fitted.{state-by}
-use borrow.Author.Rules.{rules}
 use Rattle.refused.proofs.check_transfer.Goals as goal
 
 -- what the call begins with

@@ -15,7 +15,6 @@ use mathlib.Core.List.{List}
 use Rattle.refused.specs.Fitting.{fitting}
 use Rattle.writer_sheet.specs.Writer.{check_wanted}
 use Rattle.refused.proofs.Fitted.{rest-refused, rest-passed}
-use borrow.Author.Rules.{rules}
 use Rattle.refused.proofs.check_wanted.Goals as goal
 
 -- what is checked after the registers
