@@ -7,9 +7,7 @@ use native.Mathlib.Omega.{arith}
 use lib.Arith.{digits_div, digits_mod}
 use lib.Bits.{bit_and, and_block, and_mask, and_le_r}
 use lib.ListN.{get_or}
-use borrow.Author.Rules.{rules}
-use Rattle.gather.proofs.pair_of.Statement.{statement}
-use Rattle.gather.proofs.pair_of.Tie as tie
+use Rattle.gather.proofs.pair_of.Goals as goal
 
 -- their rows
 rows : (a b : ℕ) → a < 256 → bit_and (a + 256 * b) 0x0F0F ≡ b % 16 * 256 + a % 16
@@ -25,32 +23,34 @@ beside r x y lx ly e =
     ap (λ (n : ℕ). n % 256) whole ∙ digits_mod (y * 16) (omega (arith, lx, ly))
 
 -- the two columns are bytes
-small : (c : tie.After-shared-slice-known2) → let a = c.before.before.args in (get_or a.columns.now a.at 0 < 256) × (get_or a.columns.now (a.at + 1) 0 < 256)
-small c = let a = c.before.before.args in ((c.before.shared-slice-known.given a.at).fits, (c.before.shared-slice-known.given (a.at + 1)).fits)
+small : (c : goal.After-shared_slice_known-2-1) → let a = c.args in (get_or a.columns.now a.at 0 < 256) × (get_or a.columns.now (a.at + 1) 0 < 256)
+small c = let a = c.args in ((c.shared_slice_known-1.given a.at).fits, (c.shared_slice_known-1.given (a.at + 1)).fits)
 
-returns : tie.Need-returns
-returns c = let a = c.before.before.args in
+pub returns : goal.returns
+returns c = let a = c.args in
     let first = get_or a.columns.now a.at 0 in
     let second = get_or a.columns.now (a.at + 1) 0 in
     beside _ (first % 16) (second % 16) (mod-lt first (omega arith)) (mod-lt second (omega arith)) (rows first second (small c).0)
 
-few : (c : tie.After-shared-slice-known2) → let a = c.before.before.args in
+few : (c : goal.After-shared_slice_known-2-1) → let a = c.args in
     let w = get_or a.columns.now a.at 0 + 256 * get_or a.columns.now (a.at + 1) 0 in
     bit_and w 0x0F0F ≤ 0x0F0F
-few c = let a = c.before.before.args in and_le_r (get_or a.columns.now a.at 0 + 256 * get_or a.columns.now (a.at + 1) 0) 0x0F0F
+few c = let a = c.args in and_le_r (get_or a.columns.now a.at 0 + 256 * get_or a.columns.now (a.at + 1) 0) 0x0F0F
 
-pub pair-of-spec : {M : Type 1} → statement M
-pair-of-spec =
-    tie.close
-    (tie.spec
-    (λ c. search rules)
-    (λ c. omega (arith, c.shared-slice-known.given c.before.args.at))
-    (λ c. search rules)
-    (λ c. search rules)
-    (λ c. omega (arith, (small c).1))
-    (λ c. omega (arith, (small c).1))
-    (λ c. omega (arith, (small c).0, (small c).1))
-    (λ c. omega (arith, few c))
-    (λ c. omega (arith, few c))
-    (λ c. search rules)
-    returns)
+pub overflow_cast-rows : goal.overflow_cast-rows
+overflow_cast-rows c = omega (arith, c.shared_slice_known-1.given c.args.at)
+
+pub overflow_cast-rows-2 : goal.overflow_cast-rows-2
+overflow_cast-rows-2 c = omega (arith, (small c).1)
+
+pub overflow_mul-rows : goal.overflow_mul-rows
+overflow_mul-rows c = omega (arith, (small c).1)
+
+pub overflow_add-rows-2 : goal.overflow_add-rows-2
+overflow_add-rows-2 c = omega (arith, (small c).0, (small c).1)
+
+pub overflow_mul-result : goal.overflow_mul-result
+overflow_mul-result c = omega (arith, few c)
+
+pub overflow_add-result : goal.overflow_add-result
+overflow_add-result c = omega (arith, few c)

@@ -9,9 +9,7 @@ use Rattle.words.specs.Fields.{joined, column_of}
 use Rattle.gather.specs.Gathered.{side, turned_three}
 use Rattle.gather.proofs.Sides.{columns_of}
 use Rattle.gather.proofs.Exchanged.{laid_out, last_rows, three-words}
-use borrow.Author.Rules.{rules}
-use Rattle.gather.proofs.three_bytes.Statement.{statement}
-use Rattle.gather.proofs.three_bytes.Tie as tie
+use Rattle.gather.proofs.three_bytes.Goals as goal
 
 side-alike : (w x y z w₁ x₁ y₁ z₁ : ℕ) → w ≡ w₁ → x ≡ x₁ → y ≡ y₁ → z ≡ z₁ → side w x y z ≡ side w₁ x₁ y₁ z₁
 side-alike w x y z w₁ x₁ y₁ z₁ ew ex ey ez = omega arith
@@ -38,37 +36,25 @@ module _ (g : ℕ → ℕ) (v a b c : ℕ) (ea : a ≡ joined 4 (λ j. g (v + j)
   unfolding joined
   third = side-alike _ _ _ _ _ _ _ _ ((read g v a ea h).2 ∙ same (v + 2) (v + 0 + 2) (omega arith)) ((read g (v + 4) b eb h).1 ∙ same (v + 4 + 1) (v + 3 + 2) (omega arith)) ((read g (v + 8) c ec h).0 ∙ same (v + 8 + 0) (v + 6 + 2) (omega arith)) ((read g (v + 8) c ec h).3 ∙ same (v + 8 + 3) (v + 9 + 2) (omega arith))
 
-returns : tie.Need-returns
-returns c = let t = c.before in
-    let s = t.before in
-    let f = s.before in
-    let w = f.before in
-    let k = w.before.before.before in
-    let a = k.before.args in
+pub returns : goal.returns
+returns c = let a = c.args in
     let g : ℕ → ℕ = λ i. get_or a.columns.now i 0 in
-    let h : (i : ℕ) → g i < 256 = λ i. (k.shared-slice-known.given i).fits in
-    let ea = w.before.before.four-columns.ensures in
-    let eb = w.before.four-columns2.ensures in
-    let ec = w.four-columns3.ensures in
-    ap₂ (λ (x y : ℕ). bit_or x (last_rows y)) c.turned-three.ensures (t.thirds.ensures ∙ third g a.at _ _ _ ea eb ec h)
-    ∙ ap₂ (λ (x y : ℕ). bit_or (turned_three (laid_out x y)) (last_rows (joined 4 (λ i. g (a.at + 3 * i + 2))))) (f.firsts.ensures ∙ first g a.at _ _ _ ea eb ec h) (s.seconds.ensures ∙ second g a.at _ _ _ ea eb ec h)
+    let h : (i : ℕ) → g i < 256 = λ i. (c.shared_slice_known-1.given i).fits in
+    let ea = c.four_columns-a.ensures in
+    let eb = c.four_columns-b.ensures in
+    let ec = c.four_columns-c.ensures in
+    ap₂ (λ (x y : ℕ). bit_or x (last_rows y)) c.turned_three.ensures (c.thirds-third.ensures ∙ third g a.at _ _ _ ea eb ec h)
+    ∙ ap₂ (λ (x y : ℕ). bit_or (turned_three (laid_out x y)) (last_rows (joined 4 (λ i. g (a.at + 3 * i + 2))))) (c.firsts.ensures ∙ first g a.at _ _ _ ea eb ec h) (c.seconds.ensures ∙ second g a.at _ _ _ ea eb ec h)
     ∙ three-words a.at a.columns.now h
 
-pub three-bytes-spec : {M : Type 1} → statement M
-three-bytes-spec =
-    tie.close
-    (tie.spec
-    (λ c κs. search rules)
-    (λ c. search rules)
-    (λ c κs. search rules)
-    (λ c. search rules)
-    (λ c κs. search rules)
-    (λ c κs. search rules)
-    (λ c. omega (arith, and_le_r c.firsts.result 0x07070707))
-    (λ c κs. search rules)
-    (λ c. omega (arith, and_le_r c.seconds.result 0x07070707))
-    (λ c. omega (arith, and_le_r c.seconds.result 0x07070707, and_le_r c.before.firsts.result 0x07070707))
-    (λ c κs. search rules)
-    (λ c κs. search rules)
-    (λ c. omega (arith, and_le_r c.before.thirds.result 0x01010101))
-    returns)
+pub overflow_mul-both : goal.overflow_mul-both
+overflow_mul-both c = omega (arith, and_le_r c.firsts.result 0x07070707)
+
+pub overflow_mul-both-2 : goal.overflow_mul-both-2
+overflow_mul-both-2 c = omega (arith, and_le_r c.seconds.result 0x07070707)
+
+pub overflow_add-both : goal.overflow_add-both
+overflow_add-both c = omega (arith, and_le_r c.seconds.result 0x07070707, and_le_r c.firsts.result 0x07070707)
+
+pub overflow_mul-result : goal.overflow_mul-result
+overflow_mul-result c = omega (arith, and_le_r c.thirds-third.result 0x01010101)

@@ -1,0 +1,9 @@
+-- `gather::seconds` meets its contract.
+-- Assumes nothing.
+use native.Mathlib.Omega.{arith}
+use Rattle.words.specs.Fields.{column_of}
+use Rattle.gather.proofs.seconds.Goals as goal
+
+pub returns : goal.returns
+unfolding column_of
+returns c = omega arith
