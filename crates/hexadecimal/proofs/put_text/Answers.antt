@@ -17,7 +17,7 @@ unfolding text_of
 one_more bytes i x h e = rw (next bytes i h, e)
 
 pub digit_of-requires : goal.digit_of-requires
-digit_of-requires c = omega (arith, c.shared_slice_known-in-loop-i-1.given c.loop-i.i)
+digit_of-requires c = omega (arith, c.type_inv.bytes c.loop-i.i)
 
 -- byte i is next, its first digit x
 first : (bytes : List ℕ) (i x : ℕ) {at₀ at : ℕ} {whole out₀ out : List ℕ} → Writing at₀ whole out₀ at (text_of (drop i bytes)) out → i < length bytes → x ≡ digit_of (get_or bytes i 0 / 16) → Writing at₀ whole out₀ at ((x ∷ []) ++ (digit_of (get_or bytes i 0 % 16) ∷ text_of (drop (i + 1) bytes))) out

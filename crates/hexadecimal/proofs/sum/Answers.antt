@@ -18,10 +18,10 @@ unfolding sum_of
 done l i h = rw (drop_of_length-le l h)
 
 pub overflow_cast-sum : goal.overflow_cast-sum
-overflow_cast-sum c = omega (arith, c.shared_slice_known-1.given c.loop-i.i)
+overflow_cast-sum c = omega (arith, c.type_inv.bytes c.loop-i.i)
 
 pub overflow_add-sum : goal.overflow_add-sum
-overflow_add-sum c = omega (arith, c.shared_slice_known-1.given c.loop-i.i, c.loop-i.invariant.0)
+overflow_add-sum c = omega (arith, c.type_inv.bytes c.loop-i.i, c.loop-i.invariant.0)
 
 pub loop-i-preserved : goal.loop-i-preserved
 loop-i-preserved c = let l = c.args.bytes.now in
