@@ -1,0 +1,47 @@
+-- `long::transfer` meets its contract: refused, delivered to a group, or heard by nobody.
+-- Assumes nothing.
+use mathlib.Core.Path.{◌≡◌, sym, ap, ◌∙◌}
+use Rattle.sheet.specs.declared.Addressed.{Addressed}
+use Rattle.sheet.specs.Parts.{part_of}
+use Rattle.sheet.specs.Protocol.{heard_by, sent, address_byte, Sent}
+use Rattle.sheet.specs.Checks.{check_part, or_else, check_transfer}
+use Rattle.sheet.specs.declared.Check.{Check}
+use Rattle.sheet.specs.declared.Check.TheVariants.{Passed}
+use Rattle.sheet.specs.declared.Both.{Both}
+use Rattle.sheet.specs.declared.Chips.{Chips}
+use mathlib.Core.List.{List}
+use Prim.Native.Nat.{ℕ}
+use Rattle.sheet.specs.Long.{taken, transfer_part}
+use Rattle.packed_sheet.specs.Packed.{columns_in}
+use Rattle.laws.proofs.Numbered.{numbered}
+use Rattle.laws.proofs.Fits.{both_pass, transfer-passed}
+use Rattle.opening.proofs.Openings.{hearer_some}
+use Rattle.long.proofs.Checked.{by-check}
+use Rattle.long.proofs.transfer.Goals as goal
+
+-- what is taken once the checks have passed, by who hears
+takes : (part : ℕ) (n : Chips) (r : Both) (ram : List ℕ) (t : Sent) (check : Check) (heard to : Addressed) (address : ℕ)
+    → check ≡ or_else (check_part part) (check_transfer (part_of part) n r ram t) → check ≡ Passed → address ≡ address_byte t → heard ≡ heard_by n address → heard ≡ to
+    → transfer_part part n r ram t ≡ taken (part_of part) n r ram t to
+takes part n r ram t check heard to address asked passed at hears told = by-check part n r ram t _ (sym asked ∙ passed) ∙ ap (λ (k : Addressed). taken (part_of part) n r ram t k) (sym (hears ∙ ap (heard_by n) at) ∙ told)
+
+pub deliver-requires : goal.deliver-requires
+deliver-requires c = let a = c.args in
+    let e = (both_pass (check_part a.part) _ (sym c.check_transfer.ensures ∙ c.in-Passed.is)).1 in
+    let p = transfer-passed (part_of a.part) a.chips a.registers (columns_in a.packed a.ram.now) (sent a.bytes.now a.bits) e in
+    (p.0, p.1.1, hearer_some a.chips (sent a.bytes.now a.bits) _ (sym (c.heard_by.ensures ∙ ap (heard_by a.chips) c.address_byte.ensures) ∙ c.in-To.is))
+
+pub returns-in-Refused : goal.returns-in-Refused
+returns-in-Refused c = let a = c.args in
+    let p = numbered (part_of a.part) (sym (by-check a.part a.chips a.registers (columns_in a.packed a.ram.now) (sent a.bytes.now a.bits) _ (sym c.check_transfer.ensures ∙ c.in-Refused.is))) in
+    record { ram_after = p.0; answer_value = p.1 }
+
+pub returns-in-To : goal.returns-in-To
+returns-in-To c = let a = c.args in
+    let p = numbered (part_of a.part) (c.deliver.ensures ∙ sym (takes a.part a.chips a.registers (columns_in a.packed a.ram.now) (sent a.bytes.now a.bits) _ _ _ _ c.check_transfer.ensures c.in-Passed.is c.address_byte.ensures c.heard_by.ensures c.in-To.is)) in
+    record { ram_after = p.0; answer_value = p.1 }
+
+pub returns-in-Nobody : goal.returns-in-Nobody
+returns-in-Nobody c = let a = c.args in
+    let p = numbered (part_of a.part) ((λ j. record { result = record { answer = c.without_data.ensures j; registers = a.registers }; ram = columns_in a.packed a.ram.now }) ∙ sym (takes a.part a.chips a.registers (columns_in a.packed a.ram.now) (sent a.bytes.now a.bits) _ _ _ _ c.check_transfer.ensures c.in-Passed.is c.address_byte.ensures c.heard_by.ensures c.in-Nobody.is)) in
+    record { ram_after = p.0; answer_value = p.1 }
