@@ -124,7 +124,7 @@ pub fn write_rows(
     wanted: &[u8],
     out: &mut [u8],
 ) -> Written
-    ensures* out_after { λ r. ⌜ record { result = r; out = out.new } ≡ write_rows_part part chips registers group mode bank wanted.now out.old ⌝ }
+    ensures out_after { record { result = result; out = out.new } ≡ write_rows_part part chips registers group mode bank wanted.now out.old }
     ensures result_value { written_numbers result ≡ written_numbers (write_rows_part part chips registers group mode bank wanted.now out.old).result }
 {
     match refused::check_wanted(part, chips, registers, group, mode, bank, wanted) {
