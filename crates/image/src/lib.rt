@@ -58,7 +58,7 @@ fn file_size(columns: usize) -> usize
 // A group's RAM as Intel HEX, at the start of `out`, whose other bytes stay.
 // Refused by 16, 3, 4, 5, then 9 for an output shorter than the file.
 pub fn write(part: u8, chips: u8, ram: &[u8], out: &mut [u8]) -> Written
-    ensures* out_after { λ r. ⌜ record { result = r; out = out.new } ≡ hex_write_part part chips ram.now out.old ⌝ }
+    ensures out_after { record { result = result; out = out.new } ≡ hex_write_part part chips ram.now out.old }
     ensures result_value { written_numbers result ≡ written_numbers (hex_write_part part chips ram.now out.old).result }
 {
     match refused::check_power_on(part, one_group(chips), ram, false) {
@@ -143,7 +143,7 @@ fn none_given() -> [u8; 640]
 // A group's RAM from Intel HEX. What the records give is kept apart until the last of them is checked, so that a refused file changes nothing.
 // Refused by 16, 3, 14, 4, by the first faulty record (21 to 25, then 5), by 27, then 26.
 pub fn read(part: u8, chips: u8, file: &[u8], ram: &mut [u8]) -> Written
-    ensures* ram_after { λ r. ⌜ record { result = r; out = ram.new } ≡ hex_read_part part chips file.now ram.old ⌝ }
+    ensures ram_after { record { result = result; out = ram.new } ≡ hex_read_part part chips file.now ram.old }
     ensures result_value { written_numbers result ≡ written_numbers (hex_read_part part chips file.now ram.old).result }
 {
     match check_file(part, chips, file.len(), ram.len()) {

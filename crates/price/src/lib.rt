@@ -84,7 +84,7 @@ fn text_before(out: &[u8]) -> [u8; 160]
 // A refusal puts back what stood there.
 fn settled(written: Written, before: &[u8], out: &mut [u8]) -> Written
     requires { length before.now ≤ length out.old }
-    ensures* { λ r. ⌜ record { result = r; out = out.new } ≡ settled written before.now out.old ⌝ }
+    ensures { record { result = result; out = out.new } ≡ settled written before.now out.old }
 {
     match written {
         Written::Bytes(size) => Written::Bytes(size),
@@ -164,7 +164,7 @@ fn check_sizes(size: usize, mode: u8, room: usize, out: usize) -> Check
 // A text's data bytes for an M, at the start of `out`, whose other bytes stay.
 // Refused by 2 for more than 80 bytes, 6 for an M over 3, 9 for an output under 80 bytes, then 15.
 pub fn write(mode: u8, text: &[u8], out: &mut [u8]) -> Written
-    ensures* out_after { λ r. ⌜ record { result = r; out = out.new } ≡ price_write mode text.now out.old ⌝ }
+    ensures out_after { record { result = result; out = out.new } ≡ price_write mode text.now out.old }
     ensures result_value { written_numbers result ≡ written_numbers (price_write mode text.now out.old).result }
 {
     match check_sizes(text.len(), mode, 80, out.len()) {
@@ -179,7 +179,7 @@ pub fn write(mode: u8, text: &[u8], out: &mut [u8]) -> Written
 // The text that data bytes show, with the plain minus, at the start of `out`, whose other bytes stay.
 // Refused by 2 for more than 80 bytes, 6 for an M over 3, 9 for an output under 160 bytes, then 15.
 pub fn read(mode: u8, segments: &[u8], out: &mut [u8]) -> Written
-    ensures* out_after { λ r. ⌜ record { result = r; out = out.new } ≡ price_read mode segments.now out.old ⌝ }
+    ensures out_after { record { result = result; out = out.new } ≡ price_read mode segments.now out.old }
     ensures result_value { written_numbers result ≡ written_numbers (price_read mode segments.now out.old).result }
 {
     match check_sizes(segments.len(), mode, 160, out.len()) {

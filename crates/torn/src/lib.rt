@@ -50,7 +50,7 @@ fn check(log: &[u8], size: usize) -> Check
 
 // Copies the head and the whole records before the first tear to the start of `out`, whose other bytes stay.
 pub fn rescue(log: &[u8], out: &mut [u8]) -> Rescued
-    ensures* out_after { λ r. ⌜ record { result = r; out = out.new } ≡ rescue_call log.now out.old ⌝ }
+    ensures out_after { record { result = result; out = out.new } ≡ rescue_call log.now out.old }
     ensures result_value { rescued_numbers result ≡ rescued_numbers (rescue_call log.now out.old).result }
 {
     match check(log, out.len()) {

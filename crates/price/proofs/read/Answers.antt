@@ -1,0 +1,41 @@
+-- `price::read` meets its contract: refused by its sizes, by 15, or the text.
+-- Assumes nothing.
+use mathlib.Core.Path.{◌≡◌, ap, ◌∙◌}
+use mathlib.Core.List.{List}
+use Prim.Native.Nat.{ℕ}
+use native.Mathlib.Omega.{arith}
+use lib.ListN.{length}
+use lib.Seq.{length-take-le}
+use Rattle.sheet.specs.declared.Check.{Check}
+use Rattle.sheet.specs.declared.Check.TheVariants.{Passed}
+use Rattle.price_sheet.specs.Price.{read_from, check_price, Sizes, price_read}
+use Rattle.laws.proofs.Written.{numbered}
+use Rattle.price.specs.Fronts.{settled}
+use Rattle.price.proofs.Calls.{refused, fits, taken}
+use Rattle.price.proofs.read.Goals as goal
+
+-- what has passed the sizes
+passed : (segments : List ℕ) (mode : ℕ) (out : List ℕ) (k : Check) → k ≡ check_price (length segments) mode 160 (length out) → k ≡ Passed → Sizes (length segments) mode 160 (length out)
+passed segments mode out k told e = fits (length segments) mode 160 out k told e
+
+pub text_before-before-requires : goal.text_before-before-requires
+text_before-before-requires c = (passed c.args.segments.now c.args.mode c.args.out.now c.check_sizes.result c.check_sizes.ensures c.in-Passed.is).enough
+
+pub put_texts-requires : goal.put_texts-requires
+put_texts-requires c = (passed c.args.segments.now c.args.mode c.args.out.now c.check_sizes.result c.check_sizes.ensures c.in-Passed.is, c.text_before-before.ensures)
+
+pub settled-requires : goal.settled-requires
+settled-requires c = let s = passed c.args.segments.now c.args.mode c.args.out.now c.check_sizes.result c.check_sizes.ensures c.in-Passed.is in
+    omega (arith, ap length c.text_before-before.ensures, length-take-le 160 c.args.out.now s.enough, c.put_texts.auto.out, s.enough)
+
+pub returns-in-Refused : goal.returns-in-Refused
+unfolding price_read
+returns-in-Refused c = let n = numbered (refused (length c.args.segments.now) c.args.mode 160 c.args.out.now c.check_sizes.result c.check_sizes.ensures (read_from c.args.mode 0 c.args.segments.now) _ _ c.in-Refused.is) in
+    record { out_after = n.0; result_value = n.1 }
+
+pub returns-in-Passed : goal.returns-in-Passed
+unfolding price_read
+returns-in-Passed c = let n = numbered
+    (c.settled.ensures ∙ ap (λ (front : List ℕ). settled c.put_texts.result front c.put_texts.new.out) c.text_before-before.ensures
+    ∙ taken (length c.args.segments.now) c.args.mode 160 c.args.out.now c.check_sizes.result c.check_sizes.ensures c.in-Passed.is c.put_texts.ensures) in
+    record { out_after = n.0; result_value = n.1 }

@@ -1,0 +1,41 @@
+-- `price::write` meets its contract: refused by its sizes, by 15, or the data bytes.
+-- Assumes nothing.
+use mathlib.Core.Path.{◌≡◌, ap, ◌∙◌}
+use mathlib.Core.List.{List}
+use Prim.Native.Nat.{ℕ}
+use native.Mathlib.Omega.{arith}
+use lib.ListN.{length}
+use lib.Seq.{length-take-le}
+use Rattle.sheet.specs.declared.Check.{Check}
+use Rattle.sheet.specs.declared.Check.TheVariants.{Passed}
+use Rattle.price_sheet.specs.Price.{spelled, check_price, Sizes, price_write}
+use Rattle.laws.proofs.Written.{numbered}
+use Rattle.price.specs.Fronts.{settled}
+use Rattle.price.proofs.Calls.{refused, fits, taken}
+use Rattle.price.proofs.write.Goals as goal
+
+-- what has passed the sizes
+passed : (text : List ℕ) (mode : ℕ) (out : List ℕ) (k : Check) → k ≡ check_price (length text) mode 80 (length out) → k ≡ Passed → Sizes (length text) mode 80 (length out)
+passed text mode out k told e = fits (length text) mode 80 out k told e
+
+pub bytes_before-before-requires : goal.bytes_before-before-requires
+bytes_before-before-requires c = (passed c.args.text.now c.args.mode c.args.out.now c.check_sizes.result c.check_sizes.ensures c.in-Passed.is).enough
+
+pub put_bytes-requires : goal.put_bytes-requires
+put_bytes-requires c = passed c.args.text.now c.args.mode c.args.out.now c.check_sizes.result c.check_sizes.ensures c.in-Passed.is
+
+pub settled-requires : goal.settled-requires
+settled-requires c = let s = passed c.args.text.now c.args.mode c.args.out.now c.check_sizes.result c.check_sizes.ensures c.in-Passed.is in
+    omega (arith, ap length c.bytes_before-before.ensures, length-take-le 80 c.args.out.now s.enough, c.put_bytes.auto.out, s.enough)
+
+pub returns-in-Refused : goal.returns-in-Refused
+unfolding price_write
+returns-in-Refused c = let n = numbered (refused (length c.args.text.now) c.args.mode 80 c.args.out.now c.check_sizes.result c.check_sizes.ensures (spelled c.args.text.now) _ _ c.in-Refused.is) in
+    record { out_after = n.0; result_value = n.1 }
+
+pub returns-in-Passed : goal.returns-in-Passed
+unfolding price_write
+returns-in-Passed c = let n = numbered
+    (c.settled.ensures ∙ ap (λ (front : List ℕ). settled c.put_bytes.result front c.put_bytes.new.out) c.bytes_before-before.ensures
+    ∙ taken (length c.args.text.now) c.args.mode 80 c.args.out.now c.check_sizes.result c.check_sizes.ensures c.in-Passed.is c.put_bytes.ensures) in
+    record { out_after = n.0; result_value = n.1 }
