@@ -140,7 +140,7 @@ pub fn write_three(
     wanted: &[u8],
     out: &mut [u8],
 ) -> Written
-    ensures* out_after { λ r. ⌜ record { result = r; out = out.new } ≡ write_three_part part chips registers group wanted.now out.old ⌝ }
+    ensures out_after { record { result = result; out = out.new } ≡ write_three_part part chips registers group wanted.now out.old }
     ensures result_value { written_numbers result ≡ written_numbers (write_three_part part chips registers group wanted.now out.old).result }
 {
     match refused::check_every(part, chips, registers, group, wanted) {
