@@ -10,14 +10,11 @@ use lib.ListN.{length, take, drop, length-drop}
 use lib.Seq.{drop-drop}
 use borrow.Author.Tests.{leb-true, leb-false}
 use Rattle.lemmas.proofs.Lists.{drop-take}
-use denote.Enum.Declared.{tag_of}
-use types.Run.{OneOf, miss}
 use Rattle.log_sheet.specs.Records.{Records, length_of, no_records, torn_at, short_at, with_body, nothing_left, one-byte-left, cut_short, too_short, whole}
 use Rattle.log_sheet.specs.Logs.{seen_in}
 use Rattle.records.specs.declared.Record.{Record}
 use Rattle.records.specs.declared.Record.TheVariants.{Body, End, Cut, Short}
 use Rattle.records.specs.Found.{record_in, records_at}
-use Rattle.records.specs.contracts.Record.{the_type}
 
 -- a whole record: its body lies in the log, has what was seen, and the walk goes on after it
 pub record Next (seen : ℕ) (log : List ℕ) (at start size count : ℕ) : Type 0 where
@@ -67,8 +64,8 @@ pub found : (seen : ℕ) (log : List ℕ) (at : ℕ) (r : Record) → r ≡ reco
 found seen log at r e = subst (Found seen log at) (sym e) (at_head seen log at (drop at log) refl)
 
 -- where no whole record is found, none is left
-pub none_left : (seen : ℕ) (log : List ℕ) (at : ℕ) (r : Record) → Found seen log at r → OneOf (1 ∷ 2 ∷ 3 ∷ []) (tag_of the_type r) → (records_at seen log at).bodies ≡ []
-none_left seen log at (Body start size count) f h = absurd (miss (1 ∷ 2 ∷ 3 ∷ []) 0 tt h)
+pub none_left : (seen : ℕ) (log : List ℕ) (at : ℕ) (r : Record) → Found seen log at r → ((start size count : ℕ) → r ≡ Body start size count → ⊥) → (records_at seen log at).bodies ≡ []
+none_left seen log at (Body start size count) f h = absurd (h start size count refl)
 none_left seen log at End f h = ap (λ (k : Records). k.bodies) f
 none_left seen log at Cut f h = ap (λ (k : Records). k.bodies) f
 none_left seen log at Short f h = ap (λ (k : Records). k.bodies) f
