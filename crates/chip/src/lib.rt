@@ -212,7 +212,7 @@ fn show_own(part: u8, columns: [u8; 160], registers: Registers, phase: u8, out: 
 
 // The picture of the chip alone, of the part's columns, and its lit elements, or a refusal.
 pub fn picture(part: u8, chip: Chip, phase: u8, out: &mut [u8]) -> Pictured
-    ensures* out_after { λ r. ⌜ record { result = r; out = out.new } ≡ chip_picture_part part chip phase out.old ⌝ }
+    ensures out_after { record { result = result; out = out.new } ≡ chip_picture_part part chip phase out.old }
     ensures result_value { picture_numbers result ≡ picture_numbers (chip_picture_part part chip phase out.old).result }
 {
     match check_picture(part, chip, phase, out.len()) {
