@@ -15,7 +15,7 @@ use Rattle.lemmas.proofs.Lists.{next as next_of}
 use Rattle.lemmas.proofs.Tests.{both_true}
 use Rattle.sheet.specs.declared.Chip.{Chip}
 use Rattle.sheet.specs.declared.Acknowledger.{Acknowledger}
-use Rattle.sheet.specs.Parts.{within, part_of}
+use Rattle.sheet.specs.Parts.{part_of}
 use Rattle.sheet.specs.Protocol.{next, is_data}
 use Rattle.sheet.specs.Plain.{hears, chip_lost, chip_stepped, chip_answers, lower, smallest, once, last_after, Plain, plain_heard}
 use Rattle.sheet.specs.Agree.{AllIn}

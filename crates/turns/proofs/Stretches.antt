@@ -17,7 +17,7 @@ use Rattle.sheet.specs.declared.Acknowledger.{Acknowledger}
 use Rattle.sheet.specs.declared.Kind.{Kind}
 use Rattle.sheet.specs.declared.Expect.{Expect}
 use Rattle.sheet.specs.declared.Expect.TheVariants.{Control, One, All}
-use Rattle.sheet.specs.Parts.{within, part_of}
+use Rattle.sheet.specs.Parts.{part_of}
 use Rattle.sheet.specs.Registers.{in_range, backplanes}
 use Rattle.sheet.specs.Plain.{hears, lower, smallest, once}
 use Rattle.sheet.specs.Places.{advanced_by}

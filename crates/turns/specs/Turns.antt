@@ -5,7 +5,7 @@ use Rattle.sheet.specs.declared.Acknowledger.{Acknowledger}
 use Rattle.sheet.specs.declared.Kind.{Kind}
 use Rattle.sheet.specs.declared.Expect.{Expect}
 use Rattle.sheet.specs.declared.Expect.TheVariants.{Control, One, All}
-use Rattle.sheet.specs.Parts.{Part, within, part_of}
+use Rattle.sheet.specs.Parts.{Part, part_of}
 use Rattle.sheet.specs.Protocol.{next, is_data}
 use Rattle.sheet.specs.Plain.{once, last_after, chip_ended, Plain, plain_heard}
 use Rattle.sheet.specs.Agree.{AllIn}
