@@ -9,7 +9,6 @@ use lib.Dec.{T, ltb, leb-zero, leb-suc-suc}
 use lib.ListN.{length, get_or, drop}
 use lib.Seq.{drop-cons, drop-length}
 use Rattle.sheet.specs.declared.Chip.{Chip}
-use Rattle.sheet.specs.Parts.{within}
 use Rattle.sheet.specs.Plain.{any}
 use Rattle.starts.specs.Questions.{first_yes}
 

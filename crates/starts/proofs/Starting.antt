@@ -16,7 +16,7 @@ use Rattle.sheet.specs.declared.Refusal.TheVariants.{ManyChips, ChipField}
 use Rattle.sheet.specs.declared.Check.{Check}
 use Rattle.sheet.specs.declared.Check.TheVariants.{Passed, Refused}
 use Rattle.sheet.specs.declared.PlainAnswer.{PlainAnswer}
-use Rattle.sheet.specs.Parts.{within, part_of}
+use Rattle.sheet.specs.Parts.{part_of}
 use Rattle.sheet.specs.Checks.{unless, or_else, check_part, check_sent, passed, fault_of_sent}
 use Rattle.sheet.specs.Protocol.{Sent, cut, address_byte}
 use Rattle.sheet.specs.Plain.{begun_by, any, hears, chip_fits, misfit_in, check_plain, marks_in, plain_whole, plain_said, plain_taken, plain_answered, plain_call, plain_part}

@@ -1,0 +1,27 @@
+-- `starts::check_chips` meets its contract: its checks are the definition's, in the order of their numbers.
+-- Assumes nothing.
+use mathlib.Core.Path.{refl, sym, ap, ◌∙◌}
+use lib.Dec.{ltb}
+use mathlib.Core.Bool.{cond}
+use borrow.Author.Tests.{le-leb, lt-leb}
+use Rattle.sheet.specs.declared.Check.TheVariants.{Passed}
+use Rattle.sheet.specs.declared.Marks.{Marks}
+use Rattle.sheet.specs.Parts.{part_of}
+use Rattle.sheet.specs.Protocol.{sent}
+use Rattle.sheet.specs.Checks.{check_sent, fault_of_sent}
+use Rattle.starts.proofs.check_chips.Goals as goal
+
+pub returns-in-Refused : goal.returns-in-Refused
+unfolding check_sent
+returns-in-Refused c =
+    rw (le-leb _ _ c.if-found.true, sym c.check_sent.ensures ∙ c.in-Refused.is) refl
+
+pub returns-in-Passed : goal.returns-in-Passed
+unfolding check_sent
+returns-in-Passed c =
+    let a = c.args in
+    rw (le-leb _ _ c.if-found.true, sym c.check_sent.ensures ∙ c.in-Passed.is)
+    (c.check_bytes.ensures ∙ ap (λ (m : Marks). cond (ltb a.found.hearer a.found.count) (fault_of_sent (part_of a.part) m (sent a.bytes.now a.bits)) Passed) c.marks_found-marks.ensures)
+
+pub returns-else-found : goal.returns-else-found
+returns-else-found c = rw (lt-leb _ _ c.if-found.false) refl

@@ -1,0 +1,11 @@
+-- mark_at: by its test.
+-- Assumes nothing.
+use mathlib.Core.Path.{refl}
+use borrow.Author.Tests.{lt-ltb, le-ltb}
+use Rattle.starts.proofs.mark_at.Goals as goal
+
+pub returns-then-place-count : goal.returns-then-place-count
+returns-then-place-count c = rw (lt-ltb _ _ c.if-place-count.true) refl
+
+pub returns-else-place-count : goal.returns-else-place-count
+returns-else-place-count c = rw (le-ltb _ _ c.if-place-count.false) refl
