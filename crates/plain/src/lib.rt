@@ -1,5 +1,5 @@
 // THE PLAIN ACCOUNT: a lent list of chips of one part, each of which follows every byte by itself. Every input gets an answer; a refused call changes nothing.
-// What is decided and done is decided and done by value, in `turns` and `starts`. The functions over the list only go along it, and are proved by hand.
+// What is decided and done is decided and done by value, in `turns` and `starts`. The functions over the list only go along it.
 #![tactic(auto)]
 
 ghost use Rattle.std.specs.Prelude.{◌≡◌, map, ◌+◌, ◌≤◌, length};
@@ -74,7 +74,7 @@ fn follow(chips: &mut [Chip], bytes: &[u8], start: Turn) -> Tally
     turn.tally
 }
 
-// A transfer, START to STOP, of whose last byte so many bits came, taken or refused by 16, 10, 11, 1, 2, 19, then 7, 17 and 18. The list and the bytes come first, as in every walk by hand.
+// A transfer, START to STOP, of whose last byte so many bits came, taken or refused by 16, 10, 11, 1, 2, 19, then 7, 17 and 18. The list and the bytes come first.
 pub fn transfer(chips: &mut [Chip], bytes: &[u8], part: u8, bits: u8) -> PlainAnswer
     ensures value { (result ≡ (plain_part part chips.old (sent bytes.now bits)).answer) × (plain_numbers (part_of part) result ≡ plain_numbers (part_of part) (plain_part part chips.old (sent bytes.now bits)).answer) }
     ensures chips_after { chips.new ≡ (plain_part part chips.old (sent bytes.now bits)).chips }
