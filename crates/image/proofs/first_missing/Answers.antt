@@ -13,9 +13,7 @@ use Rattle.sheet.specs.declared.Check.TheVariants.{Refused}
 use Rattle.sheet.specs.Checks.{unless}
 use Rattle.checks.specs.Highest.{first_over}
 use Rattle.image_sheet.specs.Images.{missing_in}
-use borrow.Author.Rules.{rules}
-use Rattle.image.proofs.first_missing.Statement.{statement}
-use Rattle.image.proofs.first_missing.Tie as tie
+use Rattle.image.proofs.first_missing.Goals as goal
 
 first-missing : (i : ℕ) (given : List ℕ) → unless (eqb (first_over given) (length given)) (AddressMissing (i + first_over given)) ≡ missing_in i given
 unfolding first_over missing_in
@@ -27,11 +25,8 @@ first-missing i (q ∷ qs) = by_place (ltb 15 q) (first-missing (suc i) qs)
     by_place true later = rw (eqb-zero-suc (length qs), add-zero i) refl
     by_place false later = rw (eqb-suc-suc (first_over qs) (length qs), add-suc i (first_over qs), ← suc-add i (first_over qs)) later
 
-returns : tie.Need-returns
-returns c = let place = c.before.search-over in
-    let given = c.before.before.before.args.given.now in
+pub returns : goal.returns
+returns c = let place = c.search_over-place in
+    let given = c.args.given.now in
     c.unless.ensures ∙ ap (λ (p : ℕ). unless (eqb p (length given)) (AddressMissing p)) place.ensures
     ∙ ap (λ (p : ℕ). unless (eqb (first_over given) (length given)) (AddressMissing p)) {y = 0 + first_over given} (omega arith) ∙ first-missing 0 given
-
-pub first-missing-spec : {M : Type 1} → statement M
-first-missing-spec = tie.close (tie.spec (λ c κs. search rules) (λ c κs. search rules) returns)

@@ -1,0 +1,94 @@
+-- `image::read` meets its contract: refused before the file, by the file, or what it gives copied to the output.
+-- Assumes nothing.
+use mathlib.Core.Path.{◌≡◌, sym, ap, ◌∙◌}
+use mathlib.Core.List.{List, ◌++◌}
+use Prim.Native.Nat.{ℕ, ◌*◌, ◌≤◌}
+use native.Mathlib.Omega.{arith}
+use lib.ListN.{length, take, drop, replicate, length-replicate, length-append}
+use lib.Seq.{length-take-le, take_at}
+use Rattle.sheet.specs.declared.Written.{Written}
+use Rattle.sheet.specs.declared.Check.{Check}
+use Rattle.sheet.specs.declared.Check.TheVariants.{Passed}
+use Rattle.sheet.specs.Parts.{part_of}
+use Rattle.image_sheet.specs.Images.{image, image_from, image_of, check_file}
+use Rattle.laws.proofs.Written.{numbered}
+use Rattle.imagelaws.proofs.Sizes.{Asked, asked_of}
+use Rattle.imagelaws.proofs.Answers.{take-replicate, not-read, faulty, all_read}
+use Rattle.image.proofs.read.Goals as goal
+
+-- a call that passed
+module _ (part chips : ℕ) (file ram : List ℕ) (k : Check) (told : k ≡ check_file part chips (length file) (length ram)) (passed : k ≡ Passed) where
+  passes : check_file part chips (length file) (length ram) ≡ Passed
+  passes = sym told ∙ passed
+
+  asked : Asked part chips (length file) (length ram)
+  asked = asked_of part chips (length file) (length ram) passes
+
+  -- as many columns as the output has are not given yet
+  module _ (none : List ℕ) (is : none ≡ replicate 640 16) where
+    blank : take (length ram) none ≡ replicate (length ram) 16
+    blank = ap (take (length ram)) is ∙ take-replicate (length ram) 640 16 asked.few
+
+    enough : length ram ≤ length none
+    enough = omega (arith, asked.few, ap length is ∙ length-replicate {A = ℕ} 640 16)
+
+    -- what the file gives is as long as the output, and is what is copied
+    module _ (given : List ℕ) (size : length given ≡ length (take (length ram) none)) where
+      long : length given ≡ length ram
+      long = size ∙ length-take-le _ _ enough
+
+      copied : take (length ram) (given ++ drop (length ram) none) ≡ given
+      copied = take_at given _ _ long
+
+      there : length ram ≤ length (given ++ drop (length ram) none)
+      there = simp length-append (omega (arith, long))
+
+      given_is : (r l : Check) → image r given ≡ image_from 0 (take (length ram) none) file → r ≡ l → image l given ≡ image_of ((part_of part).columns * chips) file
+      unfolding image_of
+      given_is r l e i = ap (λ (x : Check). image x given) (sym i) ∙ e ∙ ap (λ (m : List ℕ). image_from 0 m file) (blank ∙ ap (λ (n : ℕ). replicate n 16) asked.size)
+
+pub slice_bounds-given-end : goal.slice_bounds-given-end
+slice_bounds-given-end c = enough c.args.part c.args.chips c.args.file.now c.args.ram.now c.check_file.result c.check_file.ensures c.in-Passed.is c.none_given-given.result c.none_given-given.ensures
+
+pub slice_bounds-read_records-end : goal.slice_bounds-read_records-end
+slice_bounds-read_records-end c =
+    sym (length-take-le _ _ (enough c.args.part c.args.chips c.args.file.now c.args.ram.now c.check_file.result c.check_file.ensures c.in-Passed.is c.none_given-given.result c.none_given-given.ensures))
+
+pub read_records-requires : goal.read_records-requires
+read_records-requires c = (asked c.args.part c.args.chips c.args.file.now c.args.ram.now c.check_file.result c.check_file.ensures c.in-Passed.is).short
+
+pub slice_bounds-given-end-in-Passed-read_records : goal.slice_bounds-given-end-in-Passed-read_records
+slice_bounds-given-end-in-Passed-read_records c =
+    there c.args.part c.args.chips c.args.file.now c.args.ram.now c.check_file.result c.check_file.ensures c.in-Passed.is c.none_given-given.result c.none_given-given.ensures c.read_records.new.given c.read_records.auto.given
+
+pub slice_bounds-copy-end : goal.slice_bounds-copy-end
+slice_bounds-copy-end c = sym (length-take-le _ _
+    (there c.args.part c.args.chips c.args.file.now c.args.ram.now c.check_file.result c.check_file.ensures c.in-Passed.is c.none_given-given.result c.none_given-given.ensures c.read_records.new.given c.read_records.auto.given))
+
+pub copy-requires : goal.copy-requires
+copy-requires c = sym (length-take-le _ _
+    (there c.args.part c.args.chips c.args.file.now c.args.ram.now c.check_file.result c.check_file.ensures c.in-Passed.is c.none_given-given.result c.none_given-given.ensures c.read_records.new.given c.read_records.auto.given))
+
+pub returns-in-Refused : goal.returns-in-Refused
+returns-in-Refused c = let a = c.args in
+    let n = numbered (not-read a.part a.chips a.file.now a.ram.now _ (sym c.check_file.ensures ∙ c.in-Refused.is)) in
+    record { ram_after = n.0; result_value = n.1 }
+
+pub returns-in-Refused-read_records : goal.returns-in-Refused-read_records
+returns-in-Refused-read_records c = let a = c.args in
+    let is = given_is a.part a.chips a.file.now a.ram.now c.check_file.result c.check_file.ensures c.in-Passed.is c.none_given-given.result c.none_given-given.ensures c.read_records.new.given c.read_records.auto.given
+    c.read_records.result _ c.read_records.ensures c.in-Refused-read_records.is in
+    let n = numbered (faulty a.part a.chips a.file.now a.ram.now (sym c.check_file.ensures ∙ c.in-Passed.is) c.read_records.new.given _ is) in
+    record { ram_after = n.0; result_value = n.1 }
+
+pub returns-in-Passed-read_records : goal.returns-in-Passed-read_records
+returns-in-Passed-read_records c = let a = c.args in
+    let given = c.read_records.new.given in
+    let is = given_is a.part a.chips a.file.now a.ram.now c.check_file.result c.check_file.ensures c.in-Passed.is c.none_given-given.result c.none_given-given.ensures given c.read_records.auto.given
+    c.read_records.result Passed c.read_records.ensures c.in-Passed-read_records.is in
+    let same = copied a.part a.chips a.file.now a.ram.now c.check_file.result c.check_file.ensures c.in-Passed.is c.none_given-given.result c.none_given-given.ensures given c.read_records.auto.given in
+    let size = long a.part a.chips a.file.now a.ram.now c.check_file.result c.check_file.ensures c.in-Passed.is c.none_given-given.result c.none_given-given.ensures given c.read_records.auto.given in
+    let n = numbered
+    (ap (λ (l : List ℕ). record { result = Written.Bytes (length a.ram.now); out = l }) (c.copy.ensures ∙ same)
+    ∙ all_read a.part a.chips a.file.now a.ram.now (sym c.check_file.ensures ∙ c.in-Passed.is) given is size) in
+    record { ram_after = n.0; result_value = n.1 }
