@@ -2,11 +2,11 @@
 -- Assumes nothing.
 use mathlib.Core.Path.{◌≡◌, sym, ap, ◌∙◌}
 use mathlib.Core.Bool.{true, ◌&&◌}
-use mathlib.Core.List.{List, []}
+use mathlib.Core.List.{List}
 use Prim.Native.Nat.{ℕ, zero, suc, ◌+◌, ◌-◌, ◌*◌, ◌/◌, ◌≤◌, ◌<◌, min}
 use native.Mathlib.Nat.{not-suc-le-zero, le-div_iff_mul-le, mul_comm, mul-suc}
 use native.Mathlib.Omega.{arith}
-use lib.Dec.{eqb, ltb, leb}
+use lib.Dec.{eqb, ltb}
 use lib.ListN.{length, get_or, drop, length-drop}
 use borrow.Author.Tests.{eqb-true, ltb-true, leb-true, lt-ltb}
 use Rattle.lemmas.proofs.Tests.{both_true}
@@ -14,7 +14,6 @@ use Rattle.sheet.specs.declared.Registers.{Registers}
 use Rattle.sheet.specs.declared.Chips.{Chips}
 use Rattle.sheet.specs.declared.Counts.{Counts}
 use Rattle.sheet.specs.declared.Acknowledger.{Acknowledger}
-use Rattle.sheet.specs.declared.Kind.{Kind}
 use Rattle.sheet.specs.declared.Expect.TheVariants.{Control}
 use Rattle.sheet.specs.Parts.{Part}
 use Rattle.sheet.specs.Registers.{backplanes}
@@ -23,7 +22,7 @@ use Rattle.sheet.specs.Data.{width_of, acknowledger}
 use Rattle.sheet.specs.Runs.{counted_run, last_run, written_by, moved_by}
 use Rattle.sheet.specs.Protocol.{whole, whole_of}
 use Rattle.sheet.specs.Long.{Group, heard, columns_of, with_columns}
-use Rattle.laws.proofs.Counts.{stored_of, tallied, counted-at-once}
+use Rattle.laws.proofs.Counts.{stored_of, counted-at-once}
 use Rattle.laws.proofs.Runs.{run-at-once, last-at-once}
 use Rattle.laws.proofs.Ranges.{InRange, planes_pos}
 use Rattle.laws.proofs.Nibbles.{Nibbles}

@@ -5,7 +5,6 @@ use mathlib.Core.Bool.{Bool, true, false, cond, ◌&&◌}
 use mathlib.Core.List.{List}
 use Prim.Native.Nat.{ℕ, ◌≤◌}
 use lib.ListN.{length, get_or, drop, drop_of_length-le}
-use Rattle.sheet.specs.declared.Registers.{Registers}
 use Rattle.sheet.specs.declared.Acknowledger.{Acknowledger}
 use Rattle.sheet.specs.declared.Expect.TheVariants.{Control}
 use Rattle.sheet.specs.declared.Answer.{Answer}
@@ -17,14 +16,14 @@ use Rattle.sheet.specs.Parts.{Part}
 use Rattle.sheet.specs.Refusals.{numbers}
 use Rattle.sheet.specs.Registers.{known, lost_by}
 use Rattle.sheet.specs.Protocol.{Sent, cut, whole_of}
-use Rattle.sheet.specs.Checks.{unless, or_else, fault_in, fault_of_sent}
-use Rattle.sheet.specs.Long.{Group, heard, columns_of, with_columns}
+use Rattle.sheet.specs.Checks.{unless, or_else, fault_in}
+use Rattle.sheet.specs.Long.{heard, columns_of, with_columns}
 use Rattle.laws.proofs.CutLong.{put_back}
 use Rattle.opening.specs.Opened.{Opening, opened_at}
 use Rattle.opening.proofs.Openings.{Opens}
 use Rattle.long.specs.Heard.{heard_in_ram}
 use Rattle.wire.specs.Bytes.{registers_in}
-use Rattle.lent_group.specs.Sets.{SetAfter, SetCalled, heard_set, heard_group, set_to, numbered_set}
+use Rattle.lent_group.specs.Sets.{SetAfter, SetCalled, heard_set, set_to, numbered_set}
 
 -- ---- what is said, in numbers
 
