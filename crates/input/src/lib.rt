@@ -4,7 +4,6 @@
 ghost use Rattle.std.specs.Prelude.{◌≡◌, length};
 ghost use Rattle.input.specs.Reads.{Within};
 
-use std::fs::OpenOptions;
 use std::io::{Error, Read, Write};
 use std::{fs, io};
 
@@ -36,7 +35,7 @@ pub fn read_input<R: Read>(input: &mut R, buffer: &mut [u8]) -> Input
     Input::Whole(done)
 }
 
-// Some file systems say only at the end that what was written is lost, so a file is asked for it.
+// Some file systems say only late that what was written is lost, so a file is asked for it, where it can be opened again.
 fn settled(rt: &HostRuntime) -> io::Result<()> {
     let path = "/dev/stdout";
     let is_file = match fs::metadata(rt, path) {
@@ -46,7 +45,7 @@ fn settled(rt: &HostRuntime) -> io::Result<()> {
     if !is_file {
         return Ok(());
     }
-    match OpenOptions::new().write(true).open(rt, path) {
+    match fs::open(rt, path) {
         Ok(file) => file.sync_all(),
         Err(_) => Ok(()),
     }
