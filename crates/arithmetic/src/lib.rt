@@ -79,6 +79,7 @@ pub fn backplanes(registers: Registers) -> usize
 }
 
 // The first row of a bank.
+#[tactic(auto, unfolding(sheet::specs::Registers::bank_row))]
 pub fn bank_row(m: usize, bank: u8) -> usize
     ensures { result ≡ bank_row m bank }
 {

@@ -132,6 +132,7 @@ pub fn first_over(columns: &[u8]) -> Check
 }
 
 // The length of a transfer: 1, 2.
+#[tactic(auto, unfolding(sheet::specs::Checks::check_length))]
 pub fn check_length(size: usize) -> Check
     ensures { result ≡ check_length size }
 {

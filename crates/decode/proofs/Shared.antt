@@ -2,10 +2,11 @@
 -- Assumes nothing.
 use mathlib.Core.Path.{◌≡◌, refl, sym, ◌∙◌}
 use mathlib.Core.Bool.{Bool, true, false, ◌&&◌, false≢true}
-use Prim.Native.Nat.{ℕ, ◌≤◌, ◌<◌}
+use Prim.Native.Nat.{ℕ, ◌≤◌, ◌<◌, ◌%◌}
 use native.Mathlib.Omega.{arith}
 use lib.Dec.{eqb, leb}
 use borrow.Author.Tests.{eqb-true, eqb-false, leb-true, leb-false}
+use Rattle.sheet.specs.declared.Command.TheVariants.{PointerHigh}
 use Rattle.sheet.specs.Parts.{within, part_of, pcf8532, pca85133, pcf8532_ranges, pca85133_ranges, command_in}
 use Rattle.laws.proofs.Named.{is-pca85133, is-pcf8532}
 use Rattle.laws.proofs.Stretches.{stretch}
@@ -46,3 +47,8 @@ shared part x h p e = go (eqb part 1) (leb x 79) (leb 224 x) (leb x 239) refl re
         let j = leb-false x 79 ea in
         let k = leb-false 224 x eb in
         rw (is-pca85133 part (eqb-true part 1 eo)) (middle x (omega arith) (omega arith))
+
+-- 00 to 09 are pointer high, with the low four bits
+pub high_command : (x : ℕ) → x ≤ 9 → command_in pcf8532_ranges x ≡ PointerHigh (x % 16)
+unfolding within
+high_command x h = sym (stretch pcf8532_ranges 0 9 x (omega arith) h refl)

@@ -43,6 +43,7 @@ fn bank_select(byte: u8) -> Command
 // ---- the command of a byte, told apart by ranges
 
 // The PCF8532's (sheet 003, table 5).
+#[tactic(auto, using(crate::proofs::Shared::high_command))]
 pub fn decode_pcf8532(byte: u8) -> Command
     ensures { result ≡ pcf8532.command byte }
 {

@@ -30,6 +30,7 @@ pub fn chips_in(group: u8, chips: Chips) -> u8
 }
 
 // A group's registers.
+#[tactic(auto, unfolding(sheet::specs::Registers::registers_of))]
 pub fn registers_of(group: u8, registers: Both) -> Registers
     ensures { result ≡ registers_of group registers }
 {

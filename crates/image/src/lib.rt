@@ -112,6 +112,7 @@ fn read_records(file: &[u8], given: &mut [u8]) -> Check
 }
 
 // 16, 3, 14, 4.
+#[tactic(auto, unfolding(image_sheet::specs::Images::check_file))]
 fn check_file(part: u8, chips: u8, file: usize, out: usize) -> Check
     ensures { result ≡ check_file part chips file out }
 {

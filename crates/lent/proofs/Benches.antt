@@ -3,7 +3,7 @@
 use mathlib.Core.Path.{◌≡◌, refl, sym, ap, ◌∙◌}
 use mathlib.Core.Bool.{Bool, true, false, cond}
 use mathlib.Core.List.{List, [], ◌∷◌}
-use Prim.Native.Nat.{ℕ, zero, suc, ◌*◌, ◌<◌}
+use Prim.Native.Nat.{ℕ, zero, suc, ◌*◌, ◌/◌, ◌<◌}
 use native.Mathlib.Omega.{arith}
 use lib.ListN.{length, drop, length-append, length-drop, length-map}
 use lib.Seq.{take_at, length-take-le}
@@ -23,6 +23,7 @@ use Rattle.plain.specs.declared.Bench.{Bench}
 use Rattle.plain.specs.declared.BenchTransferred.{BenchTransferred}
 use Rattle.plain.specs.Benches.{or_refusal, too_many, bench_transferred}
 use Rattle.wire.specs.Benches.{Holds}
+use Rattle.lent.specs.Lent.{lent_call}
 use Rattle.wire.specs.Bytes.{list_in}
 
 -- ---- a transfer keeps the count of the chips
@@ -77,3 +78,8 @@ many part n chips t h = rw (list_length n chips, lt-leb n (2 * (part_of part).li
     by_part : (k : Check) → plain_answered k (list_in n chips) (record { answer = PlainAnswer.Refused ManyChips; chips = list_in n chips }) ≡ record { answer = PlainAnswer.Refused (or_refusal k ManyChips); chips = list_in n chips }
     by_part Passed = refl
     by_part (Refused r) = refl
+
+-- and so the bytes of more chips than sixteen are as given
+pub refused_many : (part : ℕ) (chips : List ℕ) (t : Sent) → 16 < length chips / 174 → lent_call part chips t ≡ record { answer = PlainAnswer.Refused (too_many part); chips = chips }
+unfolding lent_call
+refused_many part chips t h = rw (many part (length chips / 174) chips t h)

@@ -26,6 +26,7 @@ fn transfer_few(part: u8, chips: &mut [u8], bytes: &[u8], bits: u8) -> PlainAnsw
 }
 
 // More than sixteen are refused, and no byte is written.
+#[tactic(auto, using(crate::proofs::Benches::refused_many))]
 pub fn transfer(part: u8, chips: &mut [u8], bytes: &[u8], bits: u8) -> PlainAnswer
     requires { length chips.old % 174 ≡ 0 }
     ensures { lent_call part chips.old (sent bytes.now bits) ≡ record { answer = result; chips = chips.new } }

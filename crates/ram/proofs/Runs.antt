@@ -58,3 +58,9 @@ module _ {m b v : ℕ} {bytes ram₀ : List ℕ} where
   -- its columns are still below 16
   pub small : {ram : List ℕ} {i : ℕ} → 0 < m → b + m ≤ 4 → over_in 0 ram₀ ≡ Passed → Running m b v bytes ram₀ ram i → Nibbles ram
   small {i = i} pm h w r = subst Nibbles (sym r.so_far) (run-nibbles m b v (take i bytes) ram₀ pm h (nibbles-of 0 ram₀ w))
+
+-- a run of no bytes puts nothing
+pub no_bytes : (m b at : ℕ) (xs ram : List ℕ) → length xs ≤ 0 → put_run m b at xs ram ≡ ram
+unfolding put_run
+no_bytes m b at [] ram h = refl
+no_bytes m b at (x ∷ xs) ram h = absurd (omega arith)

@@ -22,6 +22,7 @@ pub fn registers_fit(part: u8, registers: Both) -> bool
 }
 
 // So many columns: 4, 5.
+#[tactic(auto, unfolding(sheet::specs::Checks::check_columns))]
 fn check_columns(size: usize, columns: &[u8]) -> Check
     ensures { result ≡ check_columns size columns.now }
 {

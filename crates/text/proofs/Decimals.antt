@@ -29,3 +29,6 @@ one-digit n h = rw (lt-ltb n 10 h)
 pub more-digits : (n : ℕ) → 10 ≤ n → decimal n ≡ decimal (n / 10) ++ ((48 + n % 10) ∷ [])
 unfolding decimal digits_in
 more-digits n h = rw (le-ltb n 10 h) (ap (λ (d : List ℕ). d ++ ((48 + n % 10) ∷ [])) (same_digits n (suc (n / 10)) (n / 10) (omega arith) (omega arith)))
+
+-- for the tactics, which name no dash
+pub ruleset digit = (one-digit)

@@ -21,6 +21,7 @@ fn put_digit(out: &mut [u8], at: usize, digit: usize) -> usize
 }
 
 // The digits of the number's tenth, and its last digit.
+#[tactic(auto, using(crate::proofs::Decimals::digit))]
 fn put_number(out: &mut [u8], at: usize, n: usize) -> usize
     requires { at + length (decimal n) ≤ length out.old }
     ensures { Puts at (decimal n) out.old out.new result }

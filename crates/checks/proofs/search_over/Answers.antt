@@ -25,7 +25,7 @@ pub returns-then-columns-i-gt15 : goal.returns-then-columns-i-gt15
 returns-then-columns-i-gt15 c = omega (arith, rw (lt-ltb _ _ c.if-columns-i-gt15.true) at (turn c.args.columns.now c.loop-i.i c.loop-i-test.true), c.loop-i.invariant)
 
 pub loop-i-preserved : goal.loop-i-preserved
-loop-i-preserved c = omega (arith, rw (le-ltb _ _ c.if-columns-i-gt15.false) at (turn c.args.columns.now c.loop-i.i c.loop-i-test.true), c.loop-i.invariant)
+loop-i-preserved c = omega (arith, rw (le-ltb 15 (get_or c.args.columns.now c.loop-i.i 0) (omega arith)) at (turn c.args.columns.now c.loop-i.i c.loop-i-test.true), c.loop-i.invariant)
 
 pub returns : goal.returns
 unfolding first_over

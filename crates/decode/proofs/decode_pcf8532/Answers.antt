@@ -7,10 +7,6 @@ use Rattle.laws.proofs.Stretches.{stretch}
 use borrow.Author.Rules.{rules}
 use Rattle.decode.proofs.decode_pcf8532.Goals as goal
 
-pub returns-in-0-to-9 : goal.returns-in-0-to-9
-unfolding within
-returns-in-0-to-9 c = stretch pcf8532_ranges 0 9 _ (omega arith) (omega arith) refl
-
 pub returns-in-64-to-79 : goal.returns-in-64-to-79
 unfolding within
 returns-in-64-to-79 c = stretch pcf8532_ranges 64 79 _ (omega arith) (omega arith) refl

@@ -25,12 +25,6 @@ pub returns-in-Refused-check_chips : goal.returns-in-Refused-check_chips
 unfolding check_file
 returns-in-Refused-check_chips c = rw (sym c.check_part.ensures ∙ c.in-Passed.is, chips-are c.args.part c.args.chips c.one_group.result _ _ c.one_group.ensures c.check_chips.ensures c.in-Refused-check_chips.is) refl
 
-pub returns-then-file-le65536 : goal.returns-then-file-le65536
-unfolding check_file
-returns-then-file-le65536 c =
-    rw (sym c.check_part.ensures ∙ c.in-Passed.is, chips-are c.args.part c.args.chips c.one_group.result _ _ c.one_group.ensures c.check_chips.ensures c.in-Passed-check_chips.is, le-leb c.args.file 65536 c.if-file-le65536.true)
-    (c.unless.ensures ∙ ap (λ (k : ℕ). unless (eqb c.args.out k) RamLength) c.columns_in.ensures)
-
 pub returns-else-file-le65536 : goal.returns-else-file-le65536
 unfolding check_file
 returns-else-file-le65536 c =

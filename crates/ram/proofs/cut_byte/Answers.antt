@@ -24,8 +24,3 @@ returns-then-rest-gt0 c = let a = c.args in
     ∙ ap (λ (n : ℕ). put_bits 8 a.m n a.at (get_or a.rest.now 0 0) a.ram.now) c.bank_row-b.ensures
     ∙ sym (run-cut a.m b a.at (get_or a.rest.now 0 0) (drop (0 + 1) a.rest.now) a.ram.now (c.requires.edge there))
     ∙ sym (ap (λ (xs : List ℕ). put_run a.m b a.at xs a.ram.now) (next a.rest.now 0 there))
-
-pub returns-else-rest-gt0 : goal.returns-else-rest-gt0
-unfolding put_run
-returns-else-rest-gt0 c = let a = c.args in
-    sym (ap (λ (xs : List ℕ). put_run a.m (bank_row a.m a.bank) a.at xs a.ram.now) (drop_of_length-le a.rest.now {i = 0} c.if-rest-gt0.false))

@@ -4,6 +4,7 @@ use mathlib.Core.Path.{◌≡◌, sym, ap, ◌∙◌}
 use mathlib.Core.Bool.{Bool, ◌&&◌, ◌||◌}
 use mathlib.Core.List.{List}
 use Prim.Native.Nat.{ℕ}
+use native.Mathlib.Omega.{arith}
 use lib.Dec.{eqb, leb}
 use lib.ListN.{length, get_or}
 use borrow.Author.Tests.{le-leb, lt-leb}
@@ -23,9 +24,9 @@ pub returns-then-log-version : goal.returns-then-log-version
 unfolding check_head part_of
 returns-then-log-version c =
     let log = c.args.log.now in
-    rw (le-leb (length log) 65536 c.if-log-gt65536.false, head log _ c.byte_at-version.ensures c.if-log-version.true, c.check_chips.ensures, c.chips_of.ensures)
+    rw (le-leb (length log) 65536 (omega arith), head log _ c.byte_at-version.ensures c.if-log-version.true, c.check_chips.ensures, c.chips_of.ensures)
 
 pub returns-else-log-version : goal.returns-else-log-version
 unfolding check_head
 returns-else-log-version c = let log = c.args.log.now in
-    rw (le-leb (length log) 65536 c.if-log-gt65536.false, head log _ c.byte_at-version.ensures c.if-log-version.false)
+    rw (le-leb (length log) 65536 (omega arith), head log _ c.byte_at-version.ensures c.if-log-version.false)

@@ -11,17 +11,11 @@ use Rattle.text.proofs.+put_number.Goals as goal
 all_digits : (at n : ℕ) (out : List ℕ) → 10 ≤ n → at + length (decimal n) ≤ length out → Writing at (decimal n) out at (decimal (n / 10) ++ ((48 + n % 10) ∷ [])) out
 all_digits at n out h room = rest-is (begin at (decimal n) out room) (more-digits n h)
 
-pub put_digit-requires : goal.put_digit-requires
-put_digit-requires t c = (c.if-n-lt10.true, omega (arith, c.requires, ap length (one-digit c.args.n c.if-n-lt10.true)))
-
-pub returns-then-n-lt10 : goal.returns-then-n-lt10
-returns-then-n-lt10 t c = rw (one-digit _ c.if-n-lt10.true) c.put_digit.ensures
-
 pub put_number-last-requires : goal.put_number-last-requires
-put_number-last-requires t c = (omega (arith, c.decreases), room_for (decimal (c.args.n / 10)) _ (all_digits c.args.at c.args.n c.args.out.now c.if-n-lt10.false c.requires))
+put_number-last-requires t c = (omega (arith, c.decreases), room_for (decimal (c.args.n / 10)) _ (all_digits c.args.at c.args.n c.args.out.now (omega arith) c.requires))
 
 pub put_digit-requires-2 : goal.put_digit-requires-2
-put_digit-requires-2 t c = (mod-lt c.args.n (omega arith), (turn (all_digits c.args.at c.args.n c.args.out.now c.if-n-lt10.false c.requires) c.put_number-last.ensures).room)
+put_digit-requires-2 t c = (mod-lt c.args.n (omega arith), (turn (all_digits c.args.at c.args.n c.args.out.now (omega arith) c.requires) c.put_number-last.ensures).room)
 
 pub returns : goal.returns
-returns t c = last (turn (all_digits c.args.at c.args.n c.args.out.now c.if-n-lt10.false c.requires) c.put_number-last.ensures) c.put_digit-2.ensures
+returns t c = last (turn (all_digits c.args.at c.args.n c.args.out.now (omega arith) c.requires) c.put_number-last.ensures) c.put_digit-2.ensures
