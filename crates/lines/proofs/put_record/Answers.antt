@@ -1,5 +1,6 @@
 -- `lines::put_record` meets its contract: the transfer's line, and the one of what was seen or nothing.
 -- Assumes nothing.
+use native.Mathlib.Omega.{arith}
 use Rattle.std.proofs.Common.{List, ℕ, ◌≢◌, ◌+◌, ◌≤◌, length}
 use borrow.Author.Tests.{eq-eqb, ne_eqb}
 use lib.ListN.{get_or}
@@ -21,7 +22,7 @@ second : (seen index count : ℕ) (said : List ℕ) {at₀ at end : ℕ} {whole 
 second seen index count said h w p = rest-is (turn w p) (rw (ne_eqb seen 0 h))
 
 pub put_seen-requires : goal.put_seen-requires
-put_seen-requires c = (second c.args.seen c.args.index c.args.count c.args.said c.if-seen-eq0.false (opened c.args.seen c.args.index c.args.count c.args.at c.args.said c.args.out.now c.requires) c.put_transfer-after.ensures).room
+put_seen-requires c = (second c.args.seen c.args.index c.args.count c.args.said (omega arith) (opened c.args.seen c.args.index c.args.count c.args.at c.args.said c.args.out.now c.requires) c.put_transfer-after.ensures).room
 
 pub returns-then-seen-eq0 : goal.returns-then-seen-eq0
 returns-then-seen-eq0 c = done (rest-is (turn (opened c.args.seen c.args.index c.args.count c.args.at c.args.said c.args.out.now c.requires) c.put_transfer-after.ensures) (rw (eq-eqb _ 0 c.if-seen-eq0.true)))

@@ -55,7 +55,7 @@ rows_size-size-requires c = let planes = rows_fit (set_to c.args.mode 0 c.regist
 pub returns-then-out-size : goal.returns-then-out-size
 unfolding write_rows_part
 returns-then-out-size c = let a = c.args in
-    let both = numbered (too_short a.part (check_wanted (part_of a.part) a.chips a.registers a.group a.mode a.bank a.wanted.now) (rows_transfer (part_of a.part) a.chips a.registers a.group a.mode a.bank a.wanted.now) a.out.now (sym c.check_wanted.ensures ∙ c.in-Passed.is) (omega (arith, size_is c.args.part c.args.chips c.args.registers c.args.group c.args.mode c.args.bank c.args.wanted.now (omega (arith, c.if-chips_in-eq0.false, c.chips_in.ensures)) c.registers_of-own.ensures c.backplanes_of.ensures c.rows_size-size.ensures, c.if-out-size.true))) in
+    let both = numbered (too_short a.part (check_wanted (part_of a.part) a.chips a.registers a.group a.mode a.bank a.wanted.now) (rows_transfer (part_of a.part) a.chips a.registers a.group a.mode a.bank a.wanted.now) a.out.now (sym c.check_wanted.ensures ∙ c.in-Passed.is) (omega (arith, size_is c.args.part c.args.chips c.args.registers c.args.group c.args.mode c.args.bank c.args.wanted.now (omega (arith, c.chips_in.ensures)) c.registers_of-own.ensures c.backplanes_of.ensures c.rows_size-size.ensures, c.if-out-size.true))) in
     record { out_after = both.0; result_value = both.1 }
 
 pub put_rows-requires : goal.put_rows-requires
@@ -84,10 +84,10 @@ unfolding write_rows_part
 returns-else-out-size c = let a = c.args in
     let is = c.put_rows.ensures
     ∙ ap (λ (r : Registers). address_of a.group ∷ each_after80 (settings (part_of a.part) r a.mode a.bank) ++ (0x40 ∷ data_of (set_to a.mode a.bank r) a.wanted.now)) c.registers_of-own.ensures
-    ∙ sym (is-rows (part_of a.part) a.chips a.registers a.group a.mode a.bank a.wanted.now (omega (arith, c.if-chips_in-eq0.false, c.chips_in.ensures))) in
+    ∙ sym (is-rows (part_of a.part) a.chips a.registers a.group a.mode a.bank a.wanted.now (omega (arith, c.chips_in.ensures))) in
     let both = numbered
-    (ap₂ (λ (k : ℕ) (l : List ℕ). record { result = Written.Bytes k; out = l ++ drop k a.out.now }) (size_is c.args.part c.args.chips c.args.registers c.args.group c.args.mode c.args.bank c.args.wanted.now (omega (arith, c.if-chips_in-eq0.false, c.chips_in.ensures)) c.registers_of-own.ensures c.backplanes_of.ensures c.rows_size-size.ensures) is
-    ∙ written a.part (check_wanted (part_of a.part) a.chips a.registers a.group a.mode a.bank a.wanted.now) (rows_transfer (part_of a.part) a.chips a.registers a.group a.mode a.bank a.wanted.now) a.out.now (sym c.check_wanted.ensures ∙ c.in-Passed.is) (omega (arith, size_is c.args.part c.args.chips c.args.registers c.args.group c.args.mode c.args.bank c.args.wanted.now (omega (arith, c.if-chips_in-eq0.false, c.chips_in.ensures)) c.registers_of-own.ensures c.backplanes_of.ensures c.rows_size-size.ensures))) in
+    (ap₂ (λ (k : ℕ) (l : List ℕ). record { result = Written.Bytes k; out = l ++ drop k a.out.now }) (size_is c.args.part c.args.chips c.args.registers c.args.group c.args.mode c.args.bank c.args.wanted.now (omega (arith, c.chips_in.ensures)) c.registers_of-own.ensures c.backplanes_of.ensures c.rows_size-size.ensures) is
+    ∙ written a.part (check_wanted (part_of a.part) a.chips a.registers a.group a.mode a.bank a.wanted.now) (rows_transfer (part_of a.part) a.chips a.registers a.group a.mode a.bank a.wanted.now) a.out.now (sym c.check_wanted.ensures ∙ c.in-Passed.is) (omega (arith, size_is c.args.part c.args.chips c.args.registers c.args.group c.args.mode c.args.bank c.args.wanted.now (omega (arith, c.chips_in.ensures)) c.registers_of-own.ensures c.backplanes_of.ensures c.rows_size-size.ensures))) in
     record { out_after = both.0; result_value = both.1 }
 
 pub slice_bounds-put_rows-end-in-Passed : goal.slice_bounds-put_rows-end-in-Passed
