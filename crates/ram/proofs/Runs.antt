@@ -64,3 +64,8 @@ pub no_bytes : (m b at : ℕ) (xs ram : List ℕ) → length xs ≤ 0 → put_ru
 unfolding put_run
 no_bytes m b at [] ram h = refl
 no_bytes m b at (x ∷ xs) ram h = absurd (omega arith)
+
+-- and of the bytes that do not fit only the first puts bits
+pub first_byte : (m b at : ℕ) (xs ram : List ℕ) → 0 < length xs → length ram ≤ at + width_of m → put_run m b at xs ram ≡ put_bits 8 m b at (get_or xs 0 0) ram
+first_byte m b at [] ram some edge = absurd (omega arith)
+first_byte m b at (x ∷ xs) ram some edge = run-cut m b at x xs ram edge

@@ -36,7 +36,7 @@ fn put_bits(ram: &mut [u8], at: usize, m: usize, b: usize, x: u8)
 }
 
 // Of the bytes that do not fit, only the first has columns left.
-#[tactic(auto, using(crate::proofs::Runs::no_bytes))]
+#[tactic(auto, using(crate::proofs::Runs::no_bytes, crate::proofs::Runs::first_byte))]
 pub fn cut_byte(ram: &mut [u8], at: usize, m: usize, bank: u8, rest: &[u8])
     requires { Cut ram.old at m bank rest.now }
     ensures { ram.new ≡ put_run m (bank_row m bank) at rest.now ram.old }
