@@ -25,14 +25,6 @@ pub chip_of-before-requires : goal.chip_of-before-requires
 unfolding chip_picture_c
 chip_of-before-requires c = search (rules, first-sized)
 
-pub picture-shown-requires : goal.picture-shown-requires
-unfolding chip_picture_c
-picture-shown-requires c = tt
-
-pub picture_numbers-requires : goal.picture_numbers-requires
-unfolding chip_picture_c
-picture_numbers-requires c = tt
-
 pub put_numbers-requires : goal.put_numbers-requires
 unfolding chip_picture_c
 put_numbers-requires c = search (rules, second-sized, picture-small)

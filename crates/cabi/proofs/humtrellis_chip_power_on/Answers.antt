@@ -15,17 +15,9 @@ pub chip_of-before-requires : goal.chip_of-before-requires
 unfolding chip_power_on_c
 chip_of-before-requires c = search (rules, first-sized)
 
-pub power_on-done-requires : goal.power_on-done-requires
-unfolding chip_power_on_c
-power_on-done-requires c = tt
-
 pub put_chip-requires : goal.put_chip-requires
 unfolding chip_power_on_c
 put_chip-requires c = search (rules, first-sized)
-
-pub check_numbers-requires : goal.check_numbers-requires
-unfolding chip_power_on_c
-check_numbers-requires c = tt
 
 pub put_numbers-requires : goal.put_numbers-requires
 unfolding chip_power_on_c

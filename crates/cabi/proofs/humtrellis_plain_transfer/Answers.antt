@@ -15,10 +15,6 @@ pub transfer-said-requires : goal.transfer-said-requires
 unfolding plain_c
 transfer-said-requires c = search (rules, first-sized)
 
-pub plain_numbers-requires : goal.plain_numbers-requires
-unfolding plain_c
-plain_numbers-requires c = tt
-
 pub put_numbers-requires : goal.put_numbers-requires
 unfolding plain_c
 put_numbers-requires c = search (rules, second-sized, plain-small)

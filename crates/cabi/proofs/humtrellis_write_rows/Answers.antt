@@ -25,14 +25,6 @@ pub both_of-before-requires : goal.both_of-before-requires
 unfolding write_rows_c
 both_of-before-requires c = search (rules, first-sized)
 
-pub write_rows-written-requires : goal.write_rows-written-requires
-unfolding write_rows_c
-write_rows-written-requires c = tt
-
-pub written_numbers-requires : goal.written_numbers-requires
-unfolding write_rows_c
-written_numbers-requires c = tt
-
 pub put_numbers-requires : goal.put_numbers-requires
 unfolding write_rows_c
 put_numbers-requires c = search (rules, second-sized, written_small)
