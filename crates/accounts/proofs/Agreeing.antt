@@ -12,9 +12,8 @@ use Rattle.lemmas.proofs.Order.{lt_or_le}
 use Rattle.sheet.specs.declared.Both.{Both}
 use Rattle.sheet.specs.declared.Chip.{Chip}
 use Rattle.sheet.specs.declared.Chips.{Chips}
-use Rattle.sheet.specs.declared.Check.{Check}
-use Rattle.sheet.specs.declared.Check.TheVariants.{Passed}
-use Rattle.sheet.specs.declared.PlainAnswer.{PlainAnswer}
+use Rattle.std.specs.Prelude.{Ok}
+use Rattle.sheet.specs.Results.{Check, PlainAnswer}
 use Rattle.sheet.specs.Parts.{Part, part_of}
 use Rattle.sheet.specs.Protocol.{Sent}
 use Rattle.sheet.specs.Checks.{check_part}
@@ -64,11 +63,11 @@ together part n s t cs v e =
     }
 
 -- a known part's calls are the part's
-known-plain : (part : ℕ) (cs : List Chip) (t : Sent) → check_part part ≡ Passed → plain_part part cs t ≡ plain_call (part_of part) cs t
+known-plain : (part : ℕ) (cs : List Chip) (t : Sent) → check_part part ≡ Ok tt → plain_part part cs t ≡ plain_call (part_of part) cs t
 unfolding plain_part
 known-plain part cs t e = ap (λ (k : Check). plain_answered k cs (plain_call (part_of part) cs t)) e
 
-known-long : (part : ℕ) (n : Chips) (r : Both) (ram : List ℕ) (t : Sent) → check_part part ≡ Passed → transfer_part part n r ram t ≡ transfer_call (part_of part) n r ram t
+known-long : (part : ℕ) (n : Chips) (r : Both) (ram : List ℕ) (t : Sent) → check_part part ≡ Ok tt → transfer_part part n r ram t ≡ transfer_call (part_of part) n r ram t
 unfolding transfer_part
 known-long part n r ram t e = ap (λ (k : Check). answered k r ram (transfer_call (part_of part) n r ram t)) e
 
@@ -92,7 +91,7 @@ sides_agree part n r ram b t long plain like el ep =
 
 -- the same of `plain::transfer`, over a lent list: what it ensures and what `long::transfer` ensures
 pub lists_agree : (part : ℕ) (n : Chips) (s : State) (t : Sent) (long : After) (before chips : List Chip) (answer : PlainAnswer)
-    → check_part part ≡ Passed → Valid (part_of part) n s → map (trimmed (part_of part)) before ≡ chips_of (part_of part) n s → long ≡ transfer_part part n s.registers s.ram t
+    → check_part part ≡ Ok tt → Valid (part_of part) n s → map (trimmed (part_of part)) before ≡ chips_of (part_of part) n s → long ≡ transfer_part part n s.registers s.ram t
     → answer ≡ (plain_part part before t).answer → chips ≡ (plain_part part before t).chips
     → (map (trimmed (part_of part)) chips ≡ chips_of (part_of part) n (state_of long.result.registers long.ram)) × (answer ≡ plainly long.result.answer)
 lists_agree part n s t long before chips answer known v eb el ea ec =

@@ -13,7 +13,8 @@ use borrow.Author.Tests.{eq-eqb, ne_eqb, lt-ltb, le-ltb}
 use Rattle.lemmas.proofs.Order.{lt_or_le}
 use Rattle.sheet.specs.declared.Registers.{Registers}
 use Rattle.sheet.specs.declared.Chip.{Chip}
-use Rattle.sheet.specs.declared.Acknowledger.{Acknowledger}
+use Rattle.std.specs.Prelude.{None, Some}
+use Rattle.sheet.specs.Results.{Acknowledger}
 use Rattle.sheet.specs.Parts.{Part}
 use Rattle.sheet.specs.Registers.{backplanes}
 use Rattle.sheet.specs.Plain.{any, acknowledges_data, smallest}
@@ -41,18 +42,18 @@ module _ (f : Chip → Bool) (K : Part) (g : ℕ) (r : Registers) where
   -- what only the chip at subaddress a says
   module _ (a : ℕ) (e : (i : ℕ) (c : List ℕ) → f (chip_at g i r c) ≡ eqb a i) where
     -- it does not stand among the chips after it
-    later : (n i : ℕ) (ram : List ℕ) → a < i → smallest f (group_chips K n g i r ram) ≡ Acknowledger.None
+    later : (n i : ℕ) (ram : List ℕ) → a < i → smallest f (group_chips K n g i r ram) ≡ None
     unfolding group_chips smallest
     later zero i ram l = refl
     later (suc n) i ram l = rw (e i (take K.columns ram), ne_eqb a i (omega arith)) (later n (suc i) (drop K.columns ram) (omega arith))
 
     -- d after the first
-    only_one : (n i d : ℕ) (ram : List ℕ) → a ≡ i + d → smallest f (group_chips K n g i r ram) ≡ cond (ltb d n) (Acknowledger.Subaddress a) Acknowledger.None
+    only_one : (n i d : ℕ) (ram : List ℕ) → a ≡ i + d → smallest f (group_chips K n g i r ram) ≡ cond (ltb d n) (Some a) None
     unfolding group_chips smallest
     only_one zero i d ram h = rw (le-ltb d 0 (omega arith))
     only_one (suc n) i zero ram h =
         let same : i ≡ a = omega arith in
-        rw (e i (take K.columns ram), eq-eqb a i (omega arith), later n (suc i) (drop K.columns ram) (omega arith), lt-ltb 0 (suc n) (omega arith)) (ap Acknowledger.Subaddress same)
+        rw (e i (take K.columns ram), eq-eqb a i (omega arith), later n (suc i) (drop K.columns ram) (omega arith), lt-ltb 0 (suc n) (omega arith)) (ap Some same)
     only_one (suc n) i (suc d) ram h =
         rw (e i (take K.columns ram), ne_eqb a i (omega arith), leb-suc-suc (suc d) n) (only_one n (suc i) d (drop K.columns ram) (omega arith))
 
@@ -60,7 +61,7 @@ module _ (f : Chip → Bool) (K : Part) (g : ℕ) (r : Registers) where
 
 -- the subaddress of a position, if it is below n; so it is if the position is
 below : (K : Part) (n u : ℕ) → 0 < K.columns → n ≤ K.limit
-    → cond (ltb (min K.limit (u / K.columns)) n) (Acknowledger.Subaddress (min K.limit (u / K.columns))) Acknowledger.None ≡ cond (ltb u (K.columns * n)) (Acknowledger.Subaddress (u / K.columns)) Acknowledger.None
+    → cond (ltb (min K.limit (u / K.columns)) n) (Some (min K.limit (u / K.columns))) None ≡ cond (ltb u (K.columns * n)) (Some (u / K.columns)) None
 below K n u pc l =
     ⊎_elim
     (λ (h : u < K.columns * n).
@@ -81,5 +82,5 @@ acknowledges f K x n g r ram lp la l e =
     let k : ℕ = 7 / backplanes r in
     let a : ℕ = (advanced_by K k r).a in
     only_one f K g r a (λ i c. e i c ∙ ap (λ (s : Registers). eqb s.a i) (columns_move K x k (chip_at g i r c))) n 0 a ram (omega arith)
-    ∙ ap (λ (s : Registers). cond (ltb s.a n) (Acknowledger.Subaddress s.a) Acknowledger.None) (many K k r lp la)
+    ∙ ap (λ (s : Registers). cond (ltb s.a n) (Some s.a) None) (many K k r lp la)
     ∙ below K n (position K r + k) (omega arith) l

@@ -13,9 +13,8 @@ use Rattle.sheet.specs.declared.Chip.{Chip}
 use Rattle.sheet.specs.declared.Kind.{Kind}
 use Rattle.sheet.specs.declared.Expect.{Expect}
 use Rattle.sheet.specs.declared.Expect.TheVariants.{Control, One, All}
-use Rattle.sheet.specs.declared.Acknowledger.{Acknowledger}
-use Rattle.sheet.specs.declared.Check.{Check}
-use Rattle.sheet.specs.declared.Check.TheVariants.{Passed, Refused}
+use Rattle.std.specs.Prelude.{Err, Ok}
+use Rattle.sheet.specs.Results.{Acknowledger, Check}
 use Rattle.sheet.specs.declared.Refusal.TheVariants.{ManyChips, ChipField}
 use Rattle.sheet.specs.Parts.{Part}
 use Rattle.sheet.specs.Registers.{in_range, backplanes}
@@ -46,7 +45,7 @@ past_unread K c = record {
 misfits_own : (K : Part) (i : ℕ) (cs : List Chip) → misfit_in K i (map (trimmed K) cs) ≡ misfit_in K i cs
 unfolding misfit_in
 misfits_own K i [] = refl
-misfits_own K i (c ∷ cs) = rw (fits-own K c) (ap (λ (k : Check). cond (chip_fits K c) k (Refused (ChipField i))) (misfits_own K (suc i) cs))
+misfits_own K i (c ∷ cs) = rw (fits-own K c) (ap (λ (k : Check). cond (chip_fits K c) k (Err (ChipField i))) (misfits_own K (suc i) cs))
 
 -- what is asked of chips but for their columns
 any-own : (K : Part) (f : Chip → Bool) → ((c : Chip) → f (trimmed K c) ≡ f c) → (cs : List Chip) → any f (map (trimmed K) cs) ≡ any f cs
@@ -66,7 +65,7 @@ checks-own : (K : Part) (cs : List Chip) (t : Sent) → check_plain K (map (trim
 unfolding check_plain
 checks-own K cs t =
     rw (length-map cs (trimmed K), misfits_own K 0 cs, hears-own K (address_byte t) cs)
-    (ap (λ (u : Marks). or_else (unless (leb (length cs) (2 * K.limit)) ManyChips) (or_else (misfit_in K 0 cs) (or_else (check_sent t) (cond (any (hears (address_byte t)) cs) (fault_of_sent K u t) Passed)))) (marks-own K (address_byte t) cs))
+    (ap (λ (u : Marks). or_else (unless (leb (length cs) (2 * K.limit)) ManyChips) (or_else (misfit_in K 0 cs) (or_else (check_sent t) (cond (any (hears (address_byte t)) cs) (fault_of_sent K u t) (Ok tt))))) (marks-own K (address_byte t) cs))
 
 -- ---- a byte lands before what stands behind
 
@@ -191,7 +190,7 @@ module _ (K : Part) (keeps : Keeps K) (address : ℕ) where
 -- ---- the law
 
 module _ (K : Part) (keeps : Keeps K) (cs : List Chip) (t : Sent) where
-  passed_in : check_plain K cs t ≡ Passed → AllIn K cs
+  passed_in : check_plain K cs t ≡ Ok tt → AllIn K cs
   unfolding check_plain
   passed_in e = all_in K 0 cs (both_pass (misfit_in K 0 cs) _ (both_pass (unless (leb (length cs) (2 * K.limit)) ManyChips) _ e).1).0
 
@@ -209,9 +208,9 @@ module _ (K : Part) (keeps : Keeps K) (cs : List Chip) (t : Sent) where
   past-stays = by-check (check_plain K cs t) refl
     where
       by-check : (k : Check) → check_plain K cs t ≡ k → PastStays K cs t
-      by-check Passed e = let made = taken_own (passed_in e) in record {
+      by-check (Ok _) e = let made = taken_own (passed_in e) in record {
         answer = rw (checks-own K cs t, e) (sym (ap (λ (s : Plain). (plain_said s).answer) made.0));
         own = rw (checks-own K cs t, e) (sym (ap (λ (s : Plain). s.chips) made.0));
         past = rw e made.1;
       }
-      by-check (Refused r) e = record { answer = rw (checks-own K cs t, e) refl; own = rw (checks-own K cs t, e) refl; past = rw e refl }
+      by-check (Err r) e = record { answer = rw (checks-own K cs t, e) refl; own = rw (checks-own K cs t, e) refl; past = rw e refl }

@@ -17,9 +17,8 @@ use Rattle.sheet.specs.declared.Marks.{Marks}
 use Rattle.sheet.specs.declared.Registers.{Registers}
 use Rattle.sheet.specs.declared.Chips.{Chips}
 use Rattle.sheet.specs.declared.Chip.{Chip}
-use Rattle.sheet.specs.declared.Check.{Check}
-use Rattle.sheet.specs.declared.Check.TheVariants.{Passed}
-use Rattle.sheet.specs.declared.Addressed.TheVariants.{To, Nobody}
+use Rattle.std.specs.Prelude.{None, Ok, Some}
+use Rattle.sheet.specs.Results.{Check}
 use Rattle.sheet.specs.Parts.{Part}
 use Rattle.sheet.specs.Protocol.{address_of, heard_by, Sent, address_byte}
 use Rattle.sheet.specs.Checks.{or_else, check_sent, fault_of_sent, check_bytes, check_transfer}
@@ -56,7 +55,7 @@ length-chips K n s =
     ∙ ap₂ (λ (x y : ℕ). x + y) (length-group K n.zero 0 0 s.registers.zero s.ram) (length-group K n.one 1 0 s.registers.one (drop (K.columns * n.zero) s.ram))
 
 module _ (K : Part) (n : Chips) (s : State) (f : Fits K n s.registers s.ram) where
-  none_misfits : misfit_in K 0 (chips_of K n s) ≡ Passed
+  none_misfits : misfit_in K 0 (chips_of K n s) ≡ Ok tt
   unfolding misfit_in
   none_misfits =
       let rest = drop (K.columns * n.zero) s.ram in
@@ -149,11 +148,11 @@ module _ (K : Part) (n : Chips) (s : State) (f : Fits K n s.registers s.ram) whe
 
   -- a chip hears the bytes that are looked at
   same-faults : (t : Sent)
-      → cond (any (hears (address_byte t)) (chips_of K n s)) (fault_of_sent K (marks_in (address_byte t) (chips_of K n s)) t) Passed ≡ check_bytes K s.registers (heard_by n (address_byte t)) t
+      → cond (any (hears (address_byte t)) (chips_of K n s)) (fault_of_sent K (marks_in (address_byte t) (chips_of K n s)) t) (Ok tt) ≡ check_bytes K s.registers (heard_by n (address_byte t)) t
   unfolding heard_by
   same-faults t =
       let address : ℕ = address_byte t in
-      ap (λ (b : Bool). cond b (faults address) Passed) (chips_hear K n s address)
+      ap (λ (b : Bool). cond b (faults address) (Ok tt)) (chips_hear K n s address)
       ∙ either (eqb address (address_of 0) && ltb 0 n.zero) (eqb address (address_of 1) && ltb 0 n.one) (called_true address 0 n.zero) (called_true address 1 n.one)
     where
       faults : ℕ → Check
@@ -163,7 +162,7 @@ module _ (K : Part) (n : Chips) (s : State) (f : Fits K n s.registers s.ram) whe
       looked address g u e m = ap faults e ∙ ap (λ (v : Marks). fault_of_sent K v t) m
 
       either : (a b : Bool) → (a ≡ true → (address_byte t ≡ address_of 0) × (0 < n.zero)) → (b ≡ true → (address_byte t ≡ address_of 1) × (0 < n.one))
-          → cond (a || b) (faults (address_byte t)) Passed ≡ check_bytes K s.registers (cond a (To 0) (cond b (To 1) Nobody)) t
+          → cond (a || b) (faults (address_byte t)) (Ok tt) ≡ check_bytes K s.registers (cond a (Some 0) (cond b (Some 1) None)) t
       either true b hz ho = looked (address_byte t) 0 s.registers.zero.unknown (hz refl).0 (marks-zero (hz refl).1)
       either false true hz ho = looked (address_byte t) 1 s.registers.one.unknown (ho refl).0 (marks-one (ho refl).1)
       either false false hz ho = refl

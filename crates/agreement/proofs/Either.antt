@@ -10,11 +10,8 @@ use Rattle.lemmas.proofs.Order.{equal_or_not}
 use Rattle.sheet.specs.declared.Chips.{Chips}
 use Rattle.sheet.specs.declared.Marks.{Marks}
 use Rattle.sheet.specs.declared.Refusal.{Refusal}
-use Rattle.sheet.specs.declared.Check.{Check}
-use Rattle.sheet.specs.declared.Check.TheVariants.{Passed, Refused}
-use Rattle.sheet.specs.declared.Addressed.{Addressed}
-use Rattle.sheet.specs.declared.Addressed.TheVariants.{To, Nobody}
-use Rattle.sheet.specs.declared.Answer.{Answer}
+use Rattle.std.specs.Prelude.{Err, None, Ok, Some}
+use Rattle.sheet.specs.Results.{Check, Addressed, Answer}
 use Rattle.sheet.specs.Parts.{Part, part_of}
 use Rattle.sheet.specs.Registers.{registers_of}
 use Rattle.sheet.specs.Protocol.{address_of, heard_by, Sent, address_byte}
@@ -71,8 +68,8 @@ module _ (K : Part) (n : Chips) where
     own-check v e = rw e
 
     by-marks : (to : Addressed) → Calls address to → OwnMarks t s u → check_bytes K s.registers to t ≡ check_bytes K u.registers to t
-    by-marks (To g) c same = ap (λ (m : Marks). fault_of_sent K m t) (same g c.0 c.1)
-    by-marks Nobody c same = refl
+    by-marks (Some g) c same = ap (λ (m : Marks). fault_of_sent K m t) (same g c.0 c.1)
+    by-marks None c same = refl
 
     -- so a refusal belongs to them
     refusal : OwnMarks t s u → check_transfer K n s.registers s.ram t ≡ check_transfer K n u.registers u.ram t
@@ -83,7 +80,7 @@ module _ (K : Part) (n : Chips) where
     took v to = taken K n v.registers v.ram t to
 
     abbrev kept : State → Refusal → After
-    kept v x = record { result = record { answer = Answer.Refused x; registers = v.registers }; ram = v.ram }
+    kept v x = record { result = record { answer = Err x; registers = v.registers }; ram = v.ram }
 
     -- a group that is the same, after the bytes
     same-group : (g : ℕ) → Alike K n g s u → group_after K n s.registers s.ram t g ≡ group_after K n u.registers u.ram t g
@@ -97,12 +94,12 @@ module _ (K : Part) (n : Chips) where
       of_calls P refused passed = rw (refusal (λ g p c i. ((own g p c).registers i).unknown)) (go (check_transfer K n u.registers u.ram t))
         where
           go : (k : Check) → P (answered k s.registers s.ram (took s (heard_by n address))) (answered k u.registers u.ram (took u (heard_by n address)))
-          go Passed = passed
-          go (Refused x) = refused x
+          go (Ok _) = passed
+          go (Err x) = refused x
 
       answer-by : (to : Addressed) → Calls address to → (took s to).result.answer ≡ (took u to).result.answer
-      answer-by (To g) c = ap (λ (h : Group). Answer.Taken h.counts h.last) (same-group g (own g c.0 c.1))
-      answer-by Nobody c = refl
+      answer-by (Some g) c = ap (λ (h : Group). Ok (record { counts = h.counts; last = h.last })) (same-group g (own g c.0 c.1))
+      answer-by None c = refl
 
       -- the answer goes by the group that is called
       same_answer : answer_given K n s t ≡ answer_given K n u t
@@ -110,10 +107,10 @@ module _ (K : Part) (n : Chips) where
 
       module _ (h : ℕ) (ph : h < 2) (a : Alike K n h s u) where
         -- after it heard the bytes
-        heard-alike : Alike K n h (left (took s (To h))) (left (took u (To h)))
+        heard-alike : Alike K n h (left (took s (Some h))) (left (took u (Some h)))
         heard-alike =
             let heard : State → Group = λ v. group_after K n v.registers v.ram t h in
-            let columns : (v : State) → Valid K n v → columns_of K n h (took v (To h)).ram ≡ (heard v).ram =
+            let columns : (v : State) → Valid K n v → columns_of K n h (took v (Some h)).ram ≡ (heard v).ram =
             λ v e. let f = fits-of K n v.registers v.ram e in own-columns K n v.registers v.ram f h (heard v).ram (length-after K n v.registers v.ram t f h) in
             record {
               registers = own-registers h (heard s).registers s.registers ∙ ap (λ (g : Group). g.registers) (same-group h a) ∙ sym (own-registers h (heard u).registers u.registers);
@@ -122,8 +119,8 @@ module _ (K : Part) (n : Chips) where
 
         -- after the transfer, by who hears
         called-by : CallsGroup h t → (to : Addressed) → Calls address to → Alike K n h (left (took s to)) (left (took u to))
-        called-by called (To g) c = let e : h ≡ g = omega (arith, called, c.1) in subst (λ (k : ℕ). Alike K n h (left (took s (To k))) (left (took u (To k)))) e heard-alike
-        called-by called Nobody c = a
+        called-by called (Some g) c = let e : h ≡ g = omega (arith, called, c.1) in subst (λ (k : ℕ). Alike K n h (left (took s (Some k))) (left (took u (Some k)))) e heard-alike
+        called-by called None c = a
 
         -- a group that is the same before is the same after, called or not
         follows : Alike K n h (state_after K n s t) (state_after K n u t)

@@ -14,7 +14,8 @@ use borrow.Author.Tests.{lt-ltb, eq-eqb}
 use Rattle.sheet.specs.declared.Registers.{Registers}
 use Rattle.sheet.specs.declared.Chip.{Chip}
 use Rattle.sheet.specs.declared.Chips.{Chips}
-use Rattle.sheet.specs.declared.Pictured.{Pictured}
+use Rattle.std.specs.Prelude.{Ok}
+use Rattle.sheet.specs.Results.{Pictured}
 use Rattle.sheet.specs.Parts.{Part}
 use Rattle.sheet.specs.Protocol.{chips_in}
 use Rattle.sheet.specs.Checks.{check_picture}
@@ -31,7 +32,7 @@ use Rattle.agreement.proofs.Chips.{chip_at, own-columns}
 
 -- what is seen of columns that are shown
 abbrev seen_of : Registers → ℕ → List ℕ → Seen
-seen_of r phase columns = record { result = Pictured.Lit (lit_in (picture_of r phase columns)); out = picture_of r phase columns }
+seen_of r phase columns = record { result = Ok (lit_in (picture_of r phase columns)); out = picture_of r phase columns }
 
 -- the chips' pictures and lit elements are those of columns that are shown
 record Same (K : Part) (phase : ℕ) (chips : List Chip) (r : Registers) (columns : List ℕ) : Type 0 where
@@ -118,7 +119,7 @@ shows K n s g phase out v pg pp e same =
     let own = with-group K n s g pg in
     record {
       picture = ap (λ (k : Seen). k.out) seen ∙ sym same.picture ∙ ap (λ (cs : List Chip). chip_pictures K phase cs) (sym own);
-      lit = ap (λ (k : Seen). k.result) seen ∙ ap Pictured.Lit (sym same.lit) ∙ ap (λ (cs : List Chip). Pictured.Lit (chips_lit K phase cs)) (sym own);
+      lit = ap (λ (k : Seen). k.result) seen ∙ ap Ok (sym same.lit) ∙ ap (λ (cs : List Chip). Ok (chips_lit K phase cs)) (sym own);
     }
 
 pub show : (K : Part) (n : Chips) (s : State) (g phase : ℕ) (out : List ℕ) → Valid K n s → g < 2 → phase < 2 → length out ≡ K.columns * chips_in g n → Shows K n s (chips_of K n s) g phase out

@@ -9,11 +9,8 @@ use lib.Dec.{eqb, ltb}
 use lib.ListN.{take, drop, drop_of_length-le}
 use Rattle.sheet.specs.declared.Chips.{Chips}
 use Rattle.sheet.specs.declared.Chip.{Chip}
-use Rattle.sheet.specs.declared.Check.{Check}
-use Rattle.sheet.specs.declared.Check.TheVariants.{Passed, Refused}
-use Rattle.sheet.specs.declared.Addressed.{Addressed}
-use Rattle.sheet.specs.declared.Addressed.TheVariants.{To, Nobody}
-use Rattle.sheet.specs.declared.PlainAnswer.{PlainAnswer}
+use Rattle.std.specs.Prelude.{Err, None, Ok, Some}
+use Rattle.sheet.specs.Results.{Check, Addressed, PlainAnswer}
 use Rattle.sheet.specs.Parts.{Part}
 use Rattle.sheet.specs.Protocol.{address_of, heard_by, Sent, address_byte}
 use Rattle.sheet.specs.Checks.{check_transfer}
@@ -56,7 +53,7 @@ module _ (K : Part) (keeps : Keeps K) (n : Chips) (s : State) (t : Sent) (v : Va
   -- groups a and b after the transfer
   conclude : (a b : Group) (p : Plain) (u : After) → Kept K (K.columns * n.zero) a → Kept K (K.columns * n.one) b
       → p.chips ≡ chips_of_group K n.zero 0 a ++ chips_of_group K n.one 1 b → left u ≡ together a b
-      → PlainAnswer.Acknowledged p.acknowledged p.last ≡ plainly u.result.answer → Same K n (plain_said p) u
+      → Ok (record { bytes = p.acknowledged; last = p.last }) ≡ plainly u.result.answer → Same K n (plain_said p) u
   conclude a b p u ka kb ep et ea = record {
     hold = ep ∙ sym (ap (λ (q : State). chips_of K n q) et ∙ chips-together K n a b ka);
     acknowledge = ea;
@@ -70,37 +67,37 @@ module _ (K : Part) (keeps : Keeps K) (n : Chips) (s : State) (t : Sent) (v : Va
   abbrev long : Addressed → After
   long to = taken K n s.registers s.ram t to
 
-  to_zero : 0 < n.zero → Same K n (plain_said (plain (address_of 0))) (long (To 0))
+  to_zero : 0 < n.zero → Same K n (plain_said (plain (address_of 0))) (long (Some 0))
   to_zero pn =
       let others = chips_of_group K n.one 1 group_one in
       let e : plain (address_of 0) ≡ plain_of K n.zero 0 [] others (after group_zero) =
       ap (λ (cs : List Chip). plain_whole K (address_of 0) t (begun_by 1 cs)) chips-before
       ∙ whole_agrees K n.zero 0 keeps pn fits.zero-few [] others refl (group-hears (address_of 0) K n.one 1 group_one.registers group_one.ram) t group_zero (kept-zero K n s fits) in
-      conclude (after group_zero) group_one (plain (address_of 0)) (long (To 0)) (whole-keeps K (K.columns * n.zero) keeps t group_zero (kept-zero K n s fits)) (kept-one K n s fits)
+      conclude (after group_zero) group_one (plain (address_of 0)) (long (Some 0)) (whole-keeps K (K.columns * n.zero) keeps t group_zero (kept-zero K n s fits)) (kept-one K n s fits)
       (ap (λ (p : Plain). p.chips) e)
       (λ i. record {
         registers = record { zero = (after group_zero).registers; one = s.registers.one };
         ram = (after group_zero).ram ++ (ap (λ (k : ℕ). drop k s.ram) (zero-add (K.columns * n.zero)) ∙ sym (rest-one K n s fits)) i;
       })
-      (ap (λ (p : Plain). PlainAnswer.Acknowledged p.acknowledged p.last) e)
+      (ap (λ (p : Plain). Ok (record { bytes = p.acknowledged; last = p.last })) e)
 
-  to_one : 0 < n.one → Same K n (plain_said (plain (address_of 1))) (long (To 1))
+  to_one : 0 < n.one → Same K n (plain_said (plain (address_of 1))) (long (Some 1))
   to_one pn =
       let others = chips_of_group K n.zero 0 group_zero in
       let e : plain (address_of 1) ≡ plain_of K n.one 1 others [] (after group_one) =
       ap (λ (cs : List Chip). plain_whole K (address_of 1) t (begun_by 1 cs))
       (chips-before ∙ ap (λ (cs : List Chip). others ++ cs) (sym (append-nil (chips_of_group K n.one 1 group_one))))
       ∙ whole_agrees K n.one 1 keeps pn fits.one-few others [] (group-hears (address_of 1) K n.zero 0 group_zero.registers group_zero.ram) refl t group_one (kept-one K n s fits) in
-      conclude group_zero (after group_one) (plain (address_of 1)) (long (To 1)) (kept-zero K n s fits) (whole-keeps K (K.columns * n.one) keeps t group_one (kept-one K n s fits))
+      conclude group_zero (after group_one) (plain (address_of 1)) (long (Some 1)) (kept-zero K n s fits) (whole-keeps K (K.columns * n.one) keeps t group_one (kept-one K n s fits))
       (ap (λ (p : Plain). p.chips) e ∙ ap (λ (cs : List Chip). others ++ cs) (append-nil (chips_of_group K n.one 1 (after group_one))))
       (λ i. record {
         registers = record { zero = s.registers.zero; one = (after group_one).registers };
         ram = take (K.columns * n.zero) s.ram ++ (ap (λ (c : List ℕ). (after group_one).ram ++ c) (drop_of_length-le s.ram {i = K.columns * n.zero + K.columns * n.one} (le_of_eq (fits.columns ∙ mul-add K.columns n.zero n.one))) ∙ append-nil (after group_one).ram) i;
       })
-      (ap (λ (p : Plain). PlainAnswer.Acknowledged p.acknowledged p.last) e)
+      (ap (λ (p : Plain). Ok (record { bytes = p.acknowledged; last = p.last })) e)
 
   -- nobody hears: all stays
-  to_nobody : Same K n (plain_said (begun_by 0 (chips_of K n s))) (long Nobody)
+  to_nobody : Same K n (plain_said (begun_by 0 (chips_of K n s))) (long None)
   to_nobody = record { hold = refl; acknowledge = refl; valid = v }
 
   -- ---- by byte 0
@@ -111,11 +108,11 @@ module _ (K : Part) (keeps : Keeps K) (n : Chips) (s : State) (t : Sent) (v : Va
   abbrev Taken : Bool → Bool → Type 0
   Taken zero one =
       Same K n (plain_said (cond (zero || one) (plain (address_byte t)) (begun_by 0 (chips_of K n s))))
-      (long (cond zero (To 0) (cond one (To 1) Nobody)))
+      (long (cond zero (Some 0) (cond one (Some 1) None)))
 
   by_address : (zero one : Bool) → (zero ≡ true → (address_byte t ≡ address_of 0) × (0 < n.zero)) → (one ≡ true → (address_byte t ≡ address_of 1) × (0 < n.one)) → Taken zero one
-  by_address true one hz ho = let h = hz refl in subst (λ (a : ℕ). Same K n (plain_said (plain a)) (long (To 0))) (sym h.0) (to_zero h.1)
-  by_address false true hz ho = let h = ho refl in subst (λ (a : ℕ). Same K n (plain_said (plain a)) (long (To 1))) (sym h.0) (to_one h.1)
+  by_address true one hz ho = let h = hz refl in subst (λ (a : ℕ). Same K n (plain_said (plain a)) (long (Some 0))) (sym h.0) (to_zero h.1)
+  by_address false true hz ho = let h = ho refl in subst (λ (a : ℕ). Same K n (plain_said (plain a)) (long (Some 1))) (sym h.0) (to_one h.1)
   by_address false false hz ho = to_nobody
 
   taken-same : Same K n (plain_said (plain_taken K (chips_of K n s) t)) (long (heard_by n (address_byte t)))
@@ -127,8 +124,8 @@ module _ (K : Part) (keeps : Keeps K) (n : Chips) (s : State) (t : Sent) (v : Va
   -- ---- by the check
 
   by-check : (k : Check) (p : PlainAfter) (u : After) → Same K n p u → Same K n (plain_answered k (chips_of K n s) p) (answered k s.registers s.ram u)
-  by-check Passed p u h = h
-  by-check (Refused r) p u h = record { hold = refl; acknowledge = refl; valid = v }
+  by-check (Ok _) p u h = h
+  by-check (Err r) p u h = record { hold = refl; acknowledge = refl; valid = v }
 
   pub transfer : Agrees K n s t
   unfolding plain_call transfer_call

@@ -5,12 +5,8 @@ use mathlib.Core.List.{List}
 use Prim.Native.Nat.{ℕ, ◌<◌}
 use native.Mathlib.Omega.{arith}
 use lib.ListN.{get_or}
-use Rattle.sheet.specs.declared.Answer.{Answer}
-use Rattle.sheet.specs.declared.PlainAnswer.{PlainAnswer}
-use Rattle.sheet.specs.declared.Pictured.{Pictured}
-use Rattle.sheet.specs.declared.Rescued.{Rescued}
-use Rattle.sheet.specs.declared.Written.{Written}
-use Rattle.sheet.specs.declared.Check.{Check}
+use Rattle.std.specs.Prelude.{Err, Ok}
+use Rattle.sheet.specs.Results.{Answer, PlainAnswer, Pictured, Rescued, Written, Check}
 use Rattle.sheet.specs.declared.Refusal.{Refusal}
 use Rattle.sheet.specs.declared.Refusal.TheVariants.{EmptyTransfer, LongTransfer, ChipCount, RamLength, RamByte, Register, UndefinedCommand, GroupOrPhase, OutputLength, ManyChips, ChipField, LogHead, CutRecord, LongLog, NoSymbol, UnknownPart, StrayBits, UnknownPlace, BitCount, ShortBody, RecordForm, Checksum, RecordType, AddressOutside, AddressTwice, AddressMissing, NoEnd}
 use Rattle.sheet.specs.Parts.{Part}
@@ -47,25 +43,25 @@ small NoEnd = omega arith
 
 module _ {l : List ℕ} where
   pub answer-small : (K : Part) (a : Answer) → l ≡ numbers K a → get_or l 0 0 < 256
-  answer-small K (Answer.Taken t last) e = rw e (omega arith)
-  answer-small K (Answer.Refused r) e = rw e (small r)
+  answer-small K (Ok t) e = rw e (omega arith)
+  answer-small K (Err r) e = rw e (small r)
 
   pub plain-small : (K : Part) (a : PlainAnswer) → l ≡ plain_numbers K a → get_or l 0 0 < 256
-  plain-small K (PlainAnswer.Acknowledged n last) e = rw e (omega arith)
-  plain-small K (PlainAnswer.Refused r) e = rw e (small r)
+  plain-small K (Ok t) e = rw e (omega arith)
+  plain-small K (Err r) e = rw e (small r)
 
   pub picture-small : (p : Pictured) → l ≡ picture_numbers p → get_or l 0 0 < 256
-  picture-small (Pictured.Lit n) e = rw e (omega arith)
-  picture-small (Pictured.Refused r) e = rw e (small r)
+  picture-small (Ok n) e = rw e (omega arith)
+  picture-small (Err r) e = rw e (small r)
 
   pub check-small : (k : Check) → l ≡ check_numbers k → get_or l 0 0 < 256
-  check-small Check.Passed e = rw e (omega arith)
-  check-small (Check.Refused r) e = rw e (small r)
+  check-small (Ok _) e = rw e (omega arith)
+  check-small (Err r) e = rw e (small r)
 
   pub rescued-small : (p : Rescued) → l ≡ rescued_numbers p → get_or l 0 0 < 256
-  rescued-small (Rescued.Kept records bytes dropped tear) e = rw e (omega arith)
-  rescued-small (Rescued.Refused r) e = rw e (small r)
+  rescued-small (Ok k) e = rw e (omega arith)
+  rescued-small (Err r) e = rw e (small r)
 
   pub written_small : (p : Written) → l ≡ written_numbers p → get_or l 0 0 < 256
-  written_small (Written.Bytes n) e = rw e (omega arith)
-  written_small (Written.Refused r) e = rw e (small r)
+  written_small (Ok n) e = rw e (omega arith)
+  written_small (Err r) e = rw e (small r)

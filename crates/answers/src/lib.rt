@@ -82,8 +82,8 @@ fn last_number(part: u8, last: Acknowledger) -> usize
     ensures { result ≡ last_number (part_of part) last }
 {
     match last {
-        Acknowledger::Subaddress(subaddress) => subaddress,
-        Acknowledger::None => arithmetic::limit(part),
+        Some(subaddress) => subaddress,
+        None => arithmetic::limit(part),
     }
 }
 
@@ -99,7 +99,7 @@ pub fn numbers(part: u8, answer: Answer) -> [usize; 6]
     ensures { result ≡ numbers (part_of part) answer }
 {
     match answer {
-        Answer::Taken { counts, last } => [
+        Ok(Taken { counts, last }) => [
             0,
             0,
             counts.acknowledged,
@@ -107,7 +107,7 @@ pub fn numbers(part: u8, answer: Answer) -> [usize; 6]
             counts.discarded,
             last_number(part, last),
         ],
-        Answer::Refused(refusal) => refusal_numbers(refusal, last_number(part, Acknowledger::None)),
+        Err(refusal) => refusal_numbers(refusal, last_number(part, None)),
     }
 }
 
@@ -116,10 +116,10 @@ pub fn plain_numbers(part: u8, answer: PlainAnswer) -> [usize; 6]
     ensures { result ≡ plain_numbers (part_of part) answer }
 {
     match answer {
-        PlainAnswer::Acknowledged { bytes, last } => [0, 0, bytes, 0, 0, last_number(part, last)],
-        PlainAnswer::Refused(refusal) => refusal_numbers(
+        Ok(Acknowledged { bytes, last }) => [0, 0, bytes, 0, 0, last_number(part, last)],
+        Err(refusal) => refusal_numbers(
             refusal,
-            last_number(part, Acknowledger::None),
+            last_number(part, None),
         ),
     }
 }
@@ -129,8 +129,8 @@ pub fn picture_numbers(pictured: Pictured) -> [usize; 6]
     ensures { result ≡ picture_numbers pictured }
 {
     match pictured {
-        Pictured::Lit(lit) => [0, 0, lit, 0, 0, 0],
-        Pictured::Refused(refusal) => refusal_numbers(refusal, 0),
+        Ok(lit) => [0, 0, lit, 0, 0, 0],
+        Err(refusal) => refusal_numbers(refusal, 0),
     }
 }
 
@@ -145,7 +145,7 @@ pub fn rescued_numbers(rescued: Rescued) -> [usize; 6]
             dropped,
             tear,
         } => [0, 0, records, bytes, dropped, tear],
-        Rescued::Refused(refusal) => refusal_numbers(refusal, 0),
+        Err(refusal) => refusal_numbers(refusal, 0),
     }
 }
 
@@ -154,8 +154,8 @@ pub fn check_numbers(check: Check) -> [usize; 6]
     ensures { result ≡ check_numbers check }
 {
     match check {
-        Check::Passed => [0; 6],
-        Check::Refused(refusal) => refusal_numbers(refusal, 0),
+        Ok(()) => [0; 6],
+        Err(refusal) => refusal_numbers(refusal, 0),
     }
 }
 
@@ -164,7 +164,7 @@ pub fn written_numbers(written: Written) -> [usize; 6]
     ensures { result ≡ written_numbers written }
 {
     match written {
-        Written::Bytes(bytes) => [0, 0, bytes, 0, 0, 0],
-        Written::Refused(refusal) => refusal_numbers(refusal, 0),
+        Ok(bytes) => [0, 0, bytes, 0, 0, 0],
+        Err(refusal) => refusal_numbers(refusal, 0),
     }
 }

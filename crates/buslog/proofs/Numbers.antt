@@ -8,18 +8,15 @@ use Prim.Native.Nat.{ℕ, zero, suc, ◌+◌, ◌%◌, ◌≤◌, ◌<◌}
 use native.Mathlib.Omega.{arith}
 use lib.Dec.{leb, ltb, eqb}
 use lib.ListN.{length, get_or, take, drop, length-take, length-drop}
-use Rattle.sheet.specs.declared.Answer.{Answer}
+use Rattle.std.specs.Prelude.{Err, None, Ok, Some}
+use Rattle.sheet.specs.Results.{Answer, Addressed, Check}
 use Rattle.sheet.specs.declared.Chips.{Chips}
-use Rattle.sheet.specs.declared.Addressed.{Addressed}
-use Rattle.sheet.specs.declared.Addressed.TheVariants.{To, Nobody}
 use Rattle.sheet.specs.declared.Kind.{Kind}
 use Rattle.sheet.specs.declared.Marks.{Marks}
 use Rattle.sheet.specs.declared.Expect.{Expect}
 use Rattle.sheet.specs.declared.Expect.TheVariants.{Control, One, All}
 use Rattle.sheet.specs.declared.Refusal.{Refusal}
 use Rattle.sheet.specs.declared.Refusal.TheVariants.{EmptyTransfer, LongTransfer, ChipCount, UndefinedCommand, LogHead, LongLog, StrayBits, UnknownPlace}
-use Rattle.sheet.specs.declared.Check.{Check}
-use Rattle.sheet.specs.declared.Check.TheVariants.{Passed, Refused}
 use Rattle.sheet.specs.Refusals.{number_of, place_of, last_number, numbers}
 use Rattle.sheet.specs.Parts.{pcf8532, within}
 use Rattle.sheet.specs.Registers.{known, registers_of}
@@ -44,8 +41,8 @@ use Rattle.buslog.proofs.Widths.{Below, Small}
 
 -- a check's refusal, if it is one
 abbrev pub Few : Check → Type 0
-Few Passed = Unit {0}
-Few (Refused r) = Small (number_of r ∷ place_of r ∷ [])
+Few (Ok _) = Unit {0}
+Few (Err r) = Small (number_of r ∷ place_of r ∷ [])
 
 -- a test's refusal, or else the next check
 first : (t : Bool) (r : Refusal) (next : Check) → Small (number_of r ∷ place_of r ∷ []) → (t ≡ true → Few next) → Few (or_else (unless t r) next)
@@ -67,8 +64,8 @@ fault-few u (One k) i x h = kind_few u k i x h
 fault-few u (All k) i x h = kind_few u k i x h
 
 either : (a b : Check) → Few a → Few b → Few (or_else a b)
-either Passed b fa fb = fb
-either (Refused r) b fa fb = fa
+either (Ok _) b fa fb = fb
+either (Err r) b fa fb = fa
 
 faults-few : (u : Marks) (e : Expect) (i : ℕ) (xs : List ℕ) → i + length xs ≤ 99999 → Few (fault_in pcf8532 false u e i xs)
 unfolding fault_in
@@ -126,8 +123,8 @@ unfolding check_log
 log-few log = by-head (check_head log) refl (head_few log)
   where
     by-head : (k : Check) → check_head log ≡ k → Few k → Few (or_else k (log_records log).tear)
-    by-head Passed e f = (log-bounded log (headed log e).short).torn
-    by-head (Refused r) e f = f
+    by-head (Ok _) e f = (log-bounded log (headed log e).short).torn
+    by-head (Err r) e f = f
 
 -- ---- transfers
 
@@ -137,7 +134,7 @@ Told a = Small (take 5 (numbers pcf8532 a)) × (get_or (numbers pcf8532 a) 5 0 <
 
 -- a group that hears a transfer of 4,096 bytes at most
 heard-few : (g : Group) (bytes : List ℕ) → sums.Few 1 g.counts → length bytes < 4097
-    → let h = heard pcf8532 Control (drop 1 bytes) g in last_number pcf8532 h.last ≤ 4 → Told (Answer.Taken h.counts h.last)
+    → let h = heard pcf8532 Control (drop 1 bytes) g in last_number pcf8532 h.last ≤ 4 → Told (Ok (record { counts = h.counts; last = h.last }))
 heard-few g bytes begun few last =
     let s = sums.heard-few pcf8532 Control (drop 1 bytes) g 1 begun in
     (omega (arith, s.acknowledged, s.bits, length-drop 1 bytes), omega arith)
@@ -150,18 +147,18 @@ module _ (n : Chips) (s : State) (bytes : List ℕ) (v : Valid pcf8532 n s) (sho
   transfer-refused = rw v (lengths (ltb 0 (length bytes)) (leb (length bytes) 4096))
     where
       commands : (to : Addressed) → Few (check_bytes pcf8532 s.registers to (whole bytes))
-      commands (To g) = faults-few (registers_of g s.registers).unknown Control 1 (drop 1 bytes) (omega (arith, length-drop 1 bytes))
-      commands Nobody = tt
+      commands (Some g) = faults-few (registers_of g s.registers).unknown Control 1 (drop 1 bytes) (omega (arith, length-drop 1 bytes))
+      commands None = tt
 
-      lengths : (t u : Bool) → Few (or_else (or_else (or_else (unless t EmptyTransfer) (unless u LongTransfer)) Passed) (check_bytes pcf8532 s.registers (heard_by n (get_or bytes 0 0)) (whole bytes)))
+      lengths : (t u : Bool) → Few (or_else (or_else (or_else (unless t EmptyTransfer) (unless u LongTransfer)) (Ok tt)) (check_bytes pcf8532 s.registers (heard_by n (get_or bytes 0 0)) (whole bytes)))
       lengths true true = commands (heard_by n (get_or bytes 0 0))
       lengths true false = omega arith
       lengths false u = omega arith
 
   -- a taken transfer's counts
-  transfer-taken : check_transfer pcf8532 n s.registers s.ram (whole bytes) ≡ Passed → (to : Addressed) → Told (taken pcf8532 n s.registers s.ram (whole bytes) to).result.answer
+  transfer-taken : check_transfer pcf8532 n s.registers s.ram (whole bytes) ≡ Ok tt → (to : Addressed) → Told (taken pcf8532 n s.registers s.ram (whole bytes) to).result.answer
   unfolding whole_of
-  transfer-taken e (To g) =
+  transfer-taken e (Some g) =
       let f = fits-of pcf8532 n s.registers s.ram v in
       let on = begun (registers_of g s.registers) (columns_of pcf8532 n g s.ram) in
       let who = (heard pcf8532 Control (drop 1 bytes) on).last in
@@ -169,7 +166,7 @@ module _ (n : Chips) (s : State) (bytes : List ℕ) (v : Valid pcf8532 n s) (sho
       (transfer-passed pcf8532 n s.registers s.ram (whole bytes) e).1.1
       (last-few pcf8532 (chips_in g n) who (few-chips-in pcf8532 n s.registers s.ram f g)
       (heard-among pcf8532 pcf8532-keeps (chips_in g n) (drop 1 bytes) Control on (group-kept pcf8532 n s.registers s.ram f g) tt))
-  transfer-taken e Nobody = (omega arith, omega arith)
+  transfer-taken e None = (omega arith, omega arith)
 
   -- an answer's numbers
   pub transfer-few : Told (transfer_call pcf8532 n s.registers s.ram (whole bytes)).result.answer
@@ -177,8 +174,8 @@ module _ (n : Chips) (s : State) (bytes : List ℕ) (v : Valid pcf8532 n s) (sho
   transfer-few = by-check (check_transfer pcf8532 n s.registers s.ram (whole bytes)) refl transfer-refused
     where
       by-check : (k : Check) → check_transfer pcf8532 n s.registers s.ram (whole bytes) ≡ k → Few k → Told (answered k s.registers s.ram (taken pcf8532 n s.registers s.ram (whole bytes) (heard_by n (get_or bytes 0 0)))).result.answer
-      by-check Passed e f = transfer-taken e (heard_by n (get_or bytes 0 0))
-      by-check (Refused r) e f = (omega arith, omega arith)
+      by-check (Ok _) e f = transfer-taken e (heard_by n (get_or bytes 0 0))
+      by-check (Err r) e f = (omega arith, omega arith)
 
 -- of a transfer of no byte, or of the address alone, they have one digit each
 pub transfer-short : (n : Chips) (s : State) (bytes : List ℕ) → Valid pcf8532 n s → length bytes < 2 → Below 0 (numbers pcf8532 (transfer_call pcf8532 n s.registers s.ram (whole bytes)).result.answer)
@@ -187,6 +184,6 @@ transfer-short n s [] v l = rw v (omega arith)
 transfer-short n s (x ∷ []) v l = rw v (by_address (heard_by n x))
   where
     by_address : (to : Addressed) → Below 0 (numbers pcf8532 (answered (check_bytes pcf8532 s.registers to (whole (x ∷ []))) s.registers s.ram (taken pcf8532 n s.registers s.ram (whole (x ∷ [])) to)).result.answer)
-    by_address (To g) = omega arith
-    by_address Nobody = omega arith
+    by_address (Some g) = omega arith
+    by_address None = omega arith
 transfer-short n s (x ∷ y ∷ xs) v l = absurd (omega arith)

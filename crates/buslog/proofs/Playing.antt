@@ -7,7 +7,7 @@ use native.Mathlib.Numerals.{add-one}
 use native.Mathlib.Omega.{arith}
 use lib.ListN.{length, take, drop}
 use Rattle.sheet.specs.declared.Chips.{Chips}
-use Rattle.sheet.specs.declared.Check.TheVariants.{Passed}
+use Rattle.std.specs.Prelude.{Ok}
 use Rattle.sheet.specs.Parts.{pcf8532}
 use Rattle.sheet.specs.Protocol.{whole}
 use Rattle.sheet.specs.Long.{State, After, state_of, transfer_call, state_after_all}
@@ -21,7 +21,7 @@ use Rattle.records.proofs.Found.{Next, transfer-in}
 pub record Playing (log : List ℕ) (n : Chips) (s₀ : State) (out₀ : List ℕ) (s : State) (out : List ℕ) (i at place : ℕ) : Type 0 where
   pub writing : Writing 0 (transfer_lines (seen_bytes log) n 0 s₀ (log_records log).bodies) out₀ at (transfer_lines (seen_bytes log) n i s (records_at (seen_bytes log) log place).bodies) out
   pub state : state_after_all pcf8532 n s (transfers_in (seen_bytes log) (records_at (seen_bytes log) log place).bodies) ≡ state_after_all pcf8532 n s₀ (log_transfers log)
-  pub whole : (records_at (seen_bytes log) log place).tear ≡ Passed
+  pub whole : (records_at (seen_bytes log) log place).tear ≡ Ok tt
   pub few : i ≤ place
   pub long : length s.ram ≡ length s₀.ram
 

@@ -11,12 +11,9 @@ use lib.Count.{ones-le}
 use lib.Dec.{eqb}
 use lib.ListN.{length, get_or, take, drop, length-append, length-map, length-take, length-drop}
 use Rattle.lemmas.proofs.Order.{lt_or_le}
-use Rattle.sheet.specs.declared.Answer.{Answer}
+use Rattle.std.specs.Prelude.{Err, None, Ok, Some}
+use Rattle.sheet.specs.Results.{Answer, Shown, Check}
 use Rattle.sheet.specs.declared.Chips.{Chips}
-use Rattle.sheet.specs.declared.Shown.{Shown}
-use Rattle.sheet.specs.declared.Shown.TheVariants.{Dark, Rows}
-use Rattle.sheet.specs.declared.Check.{Check}
-use Rattle.sheet.specs.declared.Check.TheVariants.{Passed, Refused}
 use Rattle.sheet.specs.Refusals.{number_of, place_of, numbers}
 use Rattle.sheet.specs.Parts.{pcf8532}
 use Rattle.sheet.specs.Registers.{backplanes, registers_of}
@@ -42,12 +39,12 @@ use Rattle.buslog.proofs.States.{start-valid}
 
 -- an answer has six numbers, five and one more
 six : (a : Answer) → length (numbers pcf8532 a) ≡ 6
-six (Answer.Taken t last) = refl
-six (Answer.Refused r) = refl
+six (Ok t) = refl
+six (Err r) = refl
 
 and_last : (a : Answer) → numbers pcf8532 a ≡ take 5 (numbers pcf8532 a) ++ (get_or (numbers pcf8532 a) 5 0 ∷ [])
-and_last (Answer.Taken t last) = refl
-and_last (Answer.Refused r) = refl
+and_last (Ok t) = refl
+and_last (Err r) = refl
 
 -- ten bytes at most for each byte of the record: a line of one digit a count for a record of no byte or one, and else 40
 transfer-line : (n : Chips) (i : ℕ) (s : State) (t : List ℕ) → Valid pcf8532 n s → length t ≤ 65536 → i < 100000
@@ -61,8 +58,8 @@ transfer-line n i s t v short h =
     (lt_or_le (length t) 2)
 
 modelled-few : (a : Answer) → Told a → modelled a < 100000
-modelled-few (Answer.Taken t last) h = h.0.1.1.0
-modelled-few (Answer.Refused r) h = omega arith
+modelled-few (Ok t) h = h.0.1.1.0
+modelled-few (Err r) h = omega arith
 
 seen_few : (i s m : ℕ) → i < 100000 → s < 100000 → m < 100000 → length (seen_line i s m) ≤ 20
 seen_few i s m hi hs hm = one (eqb s m)
@@ -107,8 +104,8 @@ transfers-few two n i s (body ∷ bodies) v h b c =
 
 -- a column shows no more than it holds
 lit-le : (m q : ℕ) (s : Shown) → lit m s q ≤ q
-lit-le m q Dark = omega arith
-lit-le m q (Rows b) = omega (arith, mod-le (q / 2 ^ b) (2 ^ m), div-le_self q (2 ^ b))
+lit-le m q None = omega arith
+lit-le m q (Some b) = omega (arith, mod-le (q / 2 ^ b) (2 ^ m), div-le_self q (2 ^ b))
 
 picture-nibbles : (m : ℕ) (s : Shown) (ram : List ℕ) → Nibbles ram → Nibbles (map (lit m s) ram)
 picture-nibbles m s [] w i = omega arith
@@ -165,7 +162,7 @@ module _ (n : Chips) (s : State) (v : Valid pcf8532 n s) where
 
 -- ---- a log's text
 
-lines_few : (log : List ℕ) → check_log log ≡ Passed → AllCounted (log_records log).bodies → length (log_lines (seen_bytes log) (log_chips log) (log_records log).bodies) ≤ room
+lines_few : (log : List ℕ) → check_log log ≡ Ok tt → AllCounted (log_records log).bodies → length (log_lines (seen_bytes log) (log_chips log) (log_records log).bodies) ≤ room
 lines_few log e counted =
     let c = checked log e in
     let n = log_chips log in
@@ -183,10 +180,10 @@ lines_few log e counted =
     )
 
 -- the law, of a log of which what was seen is counted
-pub text-few : (log : List ℕ) → (check_log log ≡ Passed → AllCounted (log_records log).bodies) → length (text_of log) ≤ room
+pub text-few : (log : List ℕ) → (check_log log ≡ Ok tt → AllCounted (log_records log).bodies) → length (text_of log) ≤ room
 unfolding text_of
 text-few log counted = by-check (check_log log) refl (log-few log)
   where
     by-check : (k : Check) → check_log log ≡ k → Few k → length (text_by k (seen_bytes log) (log_chips log) (log_records log).bodies) ≤ room
-    by-check Passed e f = lines_few log e (counted e)
-    by-check (Refused r) e f = omega (arith, line-few refusal_letter (number_of r ∷ place_of r ∷ []) f)
+    by-check (Ok _) e f = lines_few log e (counted e)
+    by-check (Err r) e f = omega (arith, line-few refusal_letter (number_of r ∷ place_of r ∷ []) f)

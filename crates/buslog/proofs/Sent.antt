@@ -6,7 +6,7 @@ use Prim.Native.Nat.{ℕ}
 use native.Mathlib.Omega.{arith}
 use lib.ListN.{length}
 use Rattle.sheet.specs.declared.Chips.{Chips}
-use Rattle.sheet.specs.declared.Check.TheVariants.{Passed}
+use Rattle.std.specs.Prelude.{Ok}
 use Rattle.sheet.specs.Parts.{pcf8532}
 use Rattle.sheet.specs.Protocol.{heard_by, Sent, address_byte}
 use Rattle.sheet.specs.Checks.{or_else, check_sent, check_bytes, check_state, check_transfer}
@@ -28,7 +28,7 @@ module _ {n : Chips} {l ram : List ℕ} {after : LentAfter} (t : Sent) (s : Send
   left_to_check = rw s.state
 
   -- it passes after the transfer too
-  passes : check_state pcf8532 n call.result.registers call.ram ≡ Passed
+  passes : check_state pcf8532 n call.result.registers call.ram ≡ Ok tt
   passes = ((demand3 pcf8532 (omega arith) pcf8532-keeps).transfer n (state_of (both_of l) ram) t s.state).valid
 
   -- so the bytes hold the registers

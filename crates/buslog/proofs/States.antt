@@ -7,7 +7,7 @@ use native.Mathlib.Omega.{arith}
 use lib.ListN.{length, take, drop, replicate, length-replicate, length-append}
 use lib.Seq.{length-take-le, take_at}
 use Rattle.sheet.specs.declared.Chips.{Chips}
-use Rattle.sheet.specs.declared.Check.TheVariants.{Passed}
+use Rattle.std.specs.Prelude.{Ok}
 use Rattle.sheet.specs.Parts.{pcf8532}
 use Rattle.sheet.specs.Checks.{check_chips}
 use Rattle.sheet.specs.Long.{State}
@@ -23,7 +23,7 @@ blank-nibbles (suc k) zero = omega arith
 blank-nibbles (suc k) (suc i) = blank-nibbles k i
 
 -- power-on, with RAM all 0
-pub start-valid : (n : Chips) → check_chips pcf8532 n ≡ Passed → Valid pcf8532 n (log_start n)
+pub start-valid : (n : Chips) → check_chips pcf8532 n ≡ Ok tt → Valid pcf8532 n (log_start n)
 start-valid n e =
     let few = few-chips pcf8532 n e in
     check-fits pcf8532 n (log_start n).registers (log_start n).ram

@@ -1,8 +1,7 @@
 -- What the parts of a replay ask of their callers.
 -- Assumes nothing.
-use Rattle.std.specs.Prelude.{◌≡◌, List, ℕ, ◌+◌, ◌*◌, ◌≤◌, ◌<◌, length}
+use Rattle.std.specs.Prelude.{◌≡◌, List, ℕ, ◌+◌, ◌*◌, ◌≤◌, ◌<◌, length, Ok}
 use Rattle.sheet.specs.declared.Chips.{Chips}
-use Rattle.sheet.specs.declared.Check.TheVariants.{Passed}
 use Rattle.sheet.specs.Parts.{pcf8532}
 use Rattle.sheet.specs.Protocol.{chips_in}
 use Rattle.sheet.specs.Checks.{check_chips}
@@ -19,7 +18,7 @@ pub record Listable (n : Chips) (s : State) (g columns at : ℕ) (out : List ℕ
 
 -- a log can be played: it passed its checks, the RAM is as at power-on, and there is room
 pub record Playable (log : List ℕ) (n : Chips) (ram out : List ℕ) : Type 0 where
-  pub chips : check_chips pcf8532 n ≡ Passed
-  pub whole : (log_records log).tear ≡ Passed
+  pub chips : check_chips pcf8532 n ≡ Ok tt
+  pub whole : (log_records log).tear ≡ Ok tt
   pub blank : ram ≡ (log_start n).ram
   pub room : length (log_lines (seen_bytes log) n (log_records log).bodies) ≤ length out

@@ -1,7 +1,7 @@
 // Bus logs: a log's bytes in, the program's text out.
 #![tactic(auto)]
 
-ghost use Rattle.std.specs.Prelude.{◌≡◌, ◌+◌, ◌≤◌, length, replicate};
+ghost use Rattle.std.specs.Prelude.{◌≡◌, ◌+◌, ◌≤◌, length, replicate, Ok};
 ghost use Rattle.sheet.specs.Parts.{pcf8532};
 ghost use Rattle.sheet.specs.Pictures.{lit_in};
 ghost use Rattle.sheet.specs.Long.{state_of, state_after_all};
@@ -23,11 +23,11 @@ use sheet::{Both, Check, Chips};
 // A log is checked whole before its first line is written: 14, 12, 3, then 13 and 20.
 pub fn check_log(log: &[u8]) -> Check
     ensures value { result ≡ check_log log.now }
-    ensures all_counted { result ≡ Check.Passed → AllCounted (log_records log.now).bodies }
+    ensures all_counted { result ≡ Ok tt → AllCounted (log_records log.now).bodies }
 {
     match records::check_head(log) {
-        Check::Refused(refusal) => Check::Refused(refusal),
-        Check::Passed => records::check_records(log),
+        Err(refusal) => Err(refusal),
+        Ok(()) => records::check_records(log),
     }
 }
 
@@ -41,7 +41,7 @@ fn put_transfers(
     ram: &mut [u8],
     out: &mut [u8],
 ) -> usize
-    requires log_value { (log_records log.now).tear ≡ Check.Passed }
+    requires log_value { (log_records log.now).tear ≡ Ok tt }
     requires sendable { Sendable pcf8532 chips registers.old ram.old × (length (transfer_lines (seen_bytes log.now) chips 0 (state_of (both_of registers.old) ram.old) (log_records log.now).bodies) ≤ length out.old) }
     ensures ram_after { state_of (both_of registers.new) ram.new ≡ state_after_all pcf8532 chips (state_of (both_of registers.old) ram.old) (log_transfers log.now) }
     ensures puts { Puts 0 (transfer_lines (seen_bytes log.now) chips 0 (state_of (both_of registers.old) ram.old) (log_records log.now).bodies) out.old out.new result }
@@ -146,7 +146,7 @@ fn blank_ram() -> [u8; 1280]
 
 // The lines of a log that passed its checks.
 fn put_log(log: &[u8], out: &mut [u8]) -> usize
-    requires log_value { check_log log.now ≡ Check.Passed }
+    requires log_value { check_log log.now ≡ Ok tt }
     requires log_in_bounds { length (text_of log.now) ≤ length out.old }
     ensures { Puts 0 (text_of log.now) out.old out.new result }
 {
@@ -177,7 +177,7 @@ pub fn replay(log: &[u8], out: &mut [u8]) -> Replayed
         return Replayed::SmallBuffer;
     }
     match check_log(log) {
-        Check::Refused(refusal) => Replayed::Written(lines::put_refusal(out, refusal)),
-        Check::Passed => Replayed::Written(put_log(log, out)),
+        Err(refusal) => Replayed::Written(lines::put_refusal(out, refusal)),
+        Ok(()) => Replayed::Written(put_log(log, out)),
     }
 }

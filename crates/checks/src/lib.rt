@@ -15,9 +15,9 @@ pub fn unless(holds: bool, refusal: Refusal) -> Check
     ensures { result ≡ unless holds refusal }
 {
     if holds {
-        Check::Passed
+        Ok(())
     } else {
-        Check::Refused(refusal)
+        Err(refusal)
     }
 }
 
@@ -26,8 +26,8 @@ pub fn passes(check: Check) -> bool
     ensures { result ≡ passed check }
 {
     match check {
-        Check::Passed => true,
-        Check::Refused(_) => false,
+        Ok(()) => true,
+        Err(_) => false,
     }
 }
 
@@ -124,7 +124,7 @@ pub fn first_over(columns: &[u8]) -> Check
     ensures { result ≡ over_in 0 columns.now }
 {
     if words_low(columns) {
-        Check::Passed
+        Ok(())
     } else {
         let at = search_over(columns);
         unless(columns.len() <= at, Refusal::RamByte(at))
@@ -139,7 +139,7 @@ pub fn check_length(size: usize) -> Check
     if 0 < size {
         unless(size <= 4096, Refusal::LongTransfer)
     } else {
-        Check::Refused(Refusal::EmptyTransfer)
+        Err(Refusal::EmptyTransfer)
     }
 }
 
@@ -148,8 +148,8 @@ pub fn check_sent(size: usize, bits: u8) -> Check
     ensures { result ≡ or_else (check_length size) (check_bits bits) }
 {
     match check_length(size) {
-        Check::Refused(refusal) => Check::Refused(refusal),
-        Check::Passed => unless((1 <= bits) & (bits <= 8), Refusal::BitCount),
+        Err(refusal) => Err(refusal),
+        Ok(()) => unless((1 <= bits) & (bits <= 8), Refusal::BitCount),
     }
 }
 

@@ -155,8 +155,8 @@ fn check_power_on(part: u8, chip: Chip) -> Check
     ensures { result ≡ or_else (check_part part) (chip_power_on (part_of part) chip).check }
 {
     match checks::check_part(part) {
-        Check::Refused(refusal) => Check::Refused(refusal),
-        Check::Passed => {
+        Err(refusal) => Err(refusal),
+        Ok(()) => {
             let columns = chip.columns;
             let below = (chip.subaddress as usize) < arithmetic::limit(part);
             let fits = (chip.sa0 < 2) & (below & columns_fit(part, columns));
@@ -183,10 +183,10 @@ fn check_shown(part: u8, chip: Chip, phase: u8, size: usize) -> Check
         if phase < 2 {
             checks::unless(size == arithmetic::columns(part), Refusal::OutputLength)
         } else {
-            Check::Refused(Refusal::GroupOrPhase)
+            Err(Refusal::GroupOrPhase)
         }
     } else {
-        Check::Refused(Refusal::ChipField(0))
+        Err(Refusal::ChipField(0))
     }
 }
 
@@ -195,8 +195,8 @@ fn check_picture(part: u8, chip: Chip, phase: u8, size: usize) -> Check
     ensures { result ≡ or_else (check_part part) (check_chip_picture (part_of part) chip phase size) }
 {
     match checks::check_part(part) {
-        Check::Refused(refusal) => Check::Refused(refusal),
-        Check::Passed => check_shown(part, chip, phase, size),
+        Err(refusal) => Err(refusal),
+        Ok(()) => check_shown(part, chip, phase, size),
     }
 }
 
@@ -216,10 +216,10 @@ pub fn picture(part: u8, chip: Chip, phase: u8, out: &mut [u8]) -> Pictured
     ensures result_value { picture_numbers result ≡ picture_numbers (chip_picture_part part chip phase out.old).result }
 {
     match check_picture(part, chip, phase, out.len()) {
-        Check::Refused(refusal) => Pictured::Refused(refusal),
-        Check::Passed => {
+        Err(refusal) => Err(refusal),
+        Ok(()) => {
             let columns = chip.columns;
-            Pictured::Lit(show_own(part, columns, chip.registers, phase, out))
+            Ok(show_own(part, columns, chip.registers, phase, out))
         }
     }
 }

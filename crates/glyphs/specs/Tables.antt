@@ -1,10 +1,9 @@
 -- The segments as the tables hold them: segment s is the bit 2 ^ s, and a number holds eight bytes, the first lowest.
 -- Assumes nothing.
-use Rattle.std.specs.Prelude.{ℕ, ◌+◌, ◌*◌, ◌/◌, ◌%◌, ◌^◌, ◌≤◌, cond, List, [], ◌∷◌, ◌++◌, map, ◌≡◌, eqb, ltb, get_or, take, drop}
+use Rattle.std.specs.Prelude.{ℕ, ◌+◌, ◌*◌, ◌/◌, ◌%◌, ◌^◌, ◌≤◌, cond, List, [], ◌∷◌, ◌++◌, map, ◌≡◌, eqb, ltb, get_or, take, drop, None, Option, Some}
 use Rattle.std.specs.Int.Bits.{bit_and, bit_or}
 use Rattle.price_sheet.specs.declared.Symbol.{Symbol}
 use Rattle.price_sheet.specs.declared.Symbol.TheVariants.{Digit, Pointed, Space, Minus, LongMinus}
-use Rattle.price_sheet.specs.declared.Found.{Found}
 use Rattle.price_sheet.specs.Price.{g, DP, shapes, orders, shown}
 use Rattle.glyphs.specs.declared.Bytes.{Bytes}
 
@@ -68,13 +67,13 @@ byte_by bytes LongMinus = byte_in bytes 11
 -- ---- and back
 
 -- the first byte of its text, and 256 for each byte that the text has; 0 for none
-abbrev pub code_of : Found → ℕ
-code_of (Found.Symbol (Digit n)) = 0x130 + n
-code_of (Found.Symbol (Pointed n)) = 0x230 + n
-code_of (Found.Symbol Space) = 0x120
-code_of (Found.Symbol Minus) = 0x12D
-code_of (Found.Symbol LongMinus) = 0x12D
-code_of Found.None = 0
+abbrev pub code_of : Option Symbol → ℕ
+code_of (Some (Digit n)) = 0x130 + n
+code_of (Some (Pointed n)) = 0x230 + n
+code_of (Some Space) = 0x120
+code_of (Some Minus) = 0x12D
+code_of (Some LongMinus) = 0x12D
+code_of None = 0
 
 -- the top five of a product's 32 bits
 abbrev pub slot_of : ℕ → ℕ → ℕ

@@ -14,12 +14,12 @@ pub fn heard_by(chips: Chips, address: u8) -> Addressed
     ensures { result ≡ heard_by chips address }
 {
     if (address == 112) & (0 < chips.zero) {
-        return Addressed::To(0);
+        return Some(0);
     }
     if (address == 114) & (0 < chips.one) {
-        return Addressed::To(1);
+        return Some(1);
     }
-    Addressed::Nobody
+    None
 }
 
 // The chips of a group.

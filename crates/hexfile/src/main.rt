@@ -2,7 +2,7 @@
 // Standard error says why the log is refused, `X number place`, or what is wrong with the argument, the input or the output.
 #![tactic(auto)]
 
-ghost use Rattle.std.specs.Prelude.{◌≡◌, length};
+ghost use Rattle.std.specs.Prelude.{◌≡◌, length, Ok};
 ghost use Rattle.log_sheet.specs.Logs.{check_log};
 
 use input::Input;
@@ -50,8 +50,8 @@ fn file_buffer() -> [u8; 1772] {
 fn write_image(rt: &HostRuntime, ram: &[u8], chips: u8) {
     let mut file = file_buffer();
     match image::write(sheet::PCF8532, chips, ram, &mut file) {
-        Written::Bytes(count) => write_file(rt, &file[..count]),
-        Written::Refused(refusal) => refuse(rt, refusal),
+        Ok(count) => write_file(rt, &file[..count]),
+        Err(refusal) => refuse(rt, refusal),
     }
 }
 
@@ -63,7 +63,7 @@ fn blank_ram() -> [u8; 1280]
 }
 
 fn write_group(rt: &HostRuntime, log: &[u8], group: u8)
-    requires { check_log log.now ≡ Check.Passed }
+    requires { check_log log.now ≡ Ok tt }
 {
     let chips = records::chips_of(log);
     let mut ram = blank_ram();
@@ -79,8 +79,8 @@ fn write_group(rt: &HostRuntime, log: &[u8], group: u8)
 
 fn write_log(rt: &HostRuntime, log: &[u8], group: u8) {
     match buslog::check_log(log) {
-        Check::Refused(refusal) => refuse(rt, refusal),
-        Check::Passed => write_group(rt, log, group),
+        Err(refusal) => refuse(rt, refusal),
+        Ok(()) => write_group(rt, log, group),
     }
 }
 

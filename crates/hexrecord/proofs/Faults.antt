@@ -10,7 +10,7 @@ use lib.Dec.{eqb, ltb, leb}
 use lib.ListN.{length, take, drop, length-drop}
 use lib.Seq.{length-take-le, drop-drop, sets, sets-eq}
 use borrow.Author.Tests.{leb-true, lt-ltb, ne_eqb, le-leb, lt-leb}
-use Rattle.sheet.specs.declared.Check.TheVariants.{Passed, Refused}
+use Rattle.std.specs.Prelude.{Err, Ok}
 use Rattle.sheet.specs.declared.Refusal.TheVariants.{RamByte, AddressOutside, AddressTwice}
 use Rattle.sheet.specs.Checks.{unless, passed, over_in}
 use Rattle.image_sheet.specs.Images.{count_of, address_of, data_of, inside, none_given, head_fault, data_fault, fault_of, stored}
@@ -46,18 +46,18 @@ inside_of given bytes e h = by_count (count_of bytes) e h
 
 module _ (given : List ℕ) (at : ℕ) (bytes : List ℕ) where
   -- no data, no fault
-  pub no_data : count_of bytes ≡ 0 → data_fault given at bytes ≡ Passed
+  pub no_data : count_of bytes ≡ 0 → data_fault given at bytes ≡ Ok tt
   unfolding data_fault none_given over_in
   no_data e = rw e
 
   -- a record that passes is inside
-  pub passed-inside : fault_of given at bytes ≡ Passed → inside given bytes ≡ true
+  pub passed-inside : fault_of given at bytes ≡ Ok tt → inside given bytes ≡ true
   unfolding data_fault
   passed-inside e = unless-passes (inside given bytes) (AddressOutside at) (both_pass _ _ (both_pass (head_fault at bytes) (data_fault given at bytes) e).1).0
 
   -- some
   module _ (some : 0 < count_of bytes) where
-    pub outside : length given < address_of bytes + count_of bytes → data_fault given at bytes ≡ Refused (AddressOutside at)
+    pub outside : length given < address_of bytes + count_of bytes → data_fault given at bytes ≡ Err (AddressOutside at)
     unfolding data_fault
     outside l = rw (ne_eqb (count_of bytes) 0 (omega arith), lt-leb (address_of bytes + count_of bytes) (length given) l)
 
@@ -69,7 +69,7 @@ module _ (given : List ℕ) (at : ℕ) (bytes : List ℕ) where
       fits : leb (address_of bytes + count_of bytes) (length given) ≡ true
       fits = le-leb (address_of bytes + count_of bytes) (length given) (omega (arith, e))
 
-      pub twice : none_given (take (start + count_of bytes - start) (drop start given)) ≡ false → data_fault given at bytes ≡ Refused (AddressTwice at)
+      pub twice : none_given (take (start + count_of bytes - start) (drop start given)) ≡ false → data_fault given at bytes ≡ Err (AddressTwice at)
       unfolding data_fault
       twice h = rw (ne_eqb (count_of bytes) 0 (omega arith), fits, sym (ap none_given columns-are) ∙ h)
 

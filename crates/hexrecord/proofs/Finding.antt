@@ -13,7 +13,7 @@ use lib.Seq.{get_or-drop, get_or-take, length-take-le, drop-drop}
 use borrow.Author.Tests.{ltb-true}
 use Rattle.lemmas.proofs.Tests.{both_true}
 use Rattle.lemmas.proofs.Order.{lt_or_le}
-use Rattle.sheet.specs.declared.Check.TheVariants.{Refused}
+use Rattle.std.specs.Prelude.{Err}
 use Rattle.sheet.specs.declared.Refusal.TheVariants.{RecordForm}
 use Rattle.image_sheet.specs.Images.{pair_of, are_digits, bytes_of, count_in, digits_in, line_end, end_in, is_line, size_in, count_of, fault_of, fault_in}
 use Rattle.hexadecimal.proofs.Digits.{digit_at, one_pair}
@@ -140,5 +140,5 @@ part-is file at count e = ap₂ take {x = at + 1 + 2 * (count + 5) - (at + 1)} {
 pub fault-line : (given : List ℕ) (at : ℕ) (text : List ℕ) → is_line text ≡ true → fault_in given at text ≡ fault_of given at (bytes_of (digits_in text))
 fault-line given at text e = rw e
 
-pub fault-none : (given : List ℕ) (at : ℕ) (text : List ℕ) → is_line text ≡ false → fault_in given at text ≡ Refused (RecordForm at)
+pub fault-none : (given : List ℕ) (at : ℕ) (text : List ℕ) → is_line text ≡ false → fault_in given at text ≡ Err (RecordForm at)
 fault-none given at text e = rw e

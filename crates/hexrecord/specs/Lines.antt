@@ -1,8 +1,7 @@
 -- What stands at a place of a file, and what is done with it: what the functions of `hexrecord` promise.
 -- Assumes nothing.
-use Rattle.std.specs.Prelude.{◌≡◌, cond, List, ℕ, ◌+◌, ◌≤◌, ◌<◌, eqb, length}
-use Rattle.sheet.specs.declared.Check.{Check}
-use Rattle.sheet.specs.declared.Check.TheVariants.{Passed, Refused}
+use Rattle.std.specs.Prelude.{◌≡◌, cond, List, ℕ, ◌+◌, ◌≤◌, ◌<◌, eqb, length, Err, Ok}
+use Rattle.sheet.specs.Results.{Check}
 use Rattle.image_sheet.specs.Hex.{line_of, record_of}
 use Rattle.image_sheet.specs.Images.{count_in, is_line, size_in, count_of, stored}
 use Rattle.hexrecord.specs.declared.Line.{Line}
@@ -16,13 +15,13 @@ line_at at text = cond (is_line text) (Of (count_in text) (at + size_in text)) N
 
 -- a record by its fault: its kind, and the place after it
 abbrev pub step_of : Check → ℕ → ℕ → Step
-step_of Passed kind next = cond (eqb kind 1) (Last next) (Next next)
-step_of (Refused r) kind next = Step.Refused r
+step_of (Ok _) kind next = cond (eqb kind 1) (Last next) (Next next)
+step_of (Err r) kind next = Step.Refused r
 
 -- what is given after it
 abbrev pub given_after : Check → List ℕ → List ℕ → List ℕ
-given_after Passed given bytes = stored given bytes
-given_after (Refused r) given bytes = given
+given_after (Ok _) given bytes = stored given bytes
+given_after (Err r) given bytes = given
 
 -- as many bytes as the record's length says
 abbrev pub Whole : List ℕ → Type 0

@@ -101,10 +101,10 @@ fn head_fault(bytes: &[u8], at: usize) -> Check
 {
     let kind = bytes[3];
     if (kind == 1) & ((0 < bytes[0]) | (0 < address_of(bytes))) {
-        return Check::Refused(Refusal::RecordForm(at));
+        return Err(Refusal::RecordForm(at));
     }
     if 0 < hexadecimal::sum(bytes) {
-        return Check::Refused(Refusal::Checksum(at));
+        return Err(Refusal::Checksum(at));
     }
     checks::unless(kind <= 1, Refusal::RecordType(at))
 }
@@ -130,19 +130,19 @@ fn data_fault(bytes: &[u8], given: &[u8], at: usize) -> Check
 {
     let count = bytes[0] as usize;
     if count == 0 {
-        return Check::Passed;
+        return Ok(());
     }
     let start = address_of(bytes);
     let end = start + count;
     if given.len() < end {
-        return Check::Refused(Refusal::AddressOutside(at));
+        return Err(Refusal::AddressOutside(at));
     }
     if none_given(&given[start..end]) {
         let last = 4 + count;
         let small = checks::passes(checks::first_over(&bytes[4..last]));
         checks::unless(small, Refusal::RamByte(at))
     } else {
-        Check::Refused(Refusal::AddressTwice(at))
+        Err(Refusal::AddressTwice(at))
     }
 }
 
@@ -151,8 +151,8 @@ fn fault(bytes: &[u8], given: &[u8], at: usize) -> Check
     ensures { result ≡ fault_of given.now at bytes.now }
 {
     match head_fault(bytes, at) {
-        Check::Refused(refusal) => Check::Refused(refusal),
-        Check::Passed => data_fault(bytes, given, at),
+        Err(refusal) => Err(refusal),
+        Ok(()) => data_fault(bytes, given, at),
     }
 }
 
@@ -187,8 +187,8 @@ fn take(bytes: &[u8], given: &mut [u8], at: usize, next: usize) -> Step
     ensures given_after { given.new ≡ given_after (fault_of given.old at bytes.now) given.old bytes.now }
 {
     match fault(bytes, given, at) {
-        Check::Refused(refusal) => Step::Refused(refusal),
-        Check::Passed => {
+        Err(refusal) => Step::Refused(refusal),
+        Ok(()) => {
             store(bytes, given);
             if bytes[3] == 1 {
                 Step::Last(next)

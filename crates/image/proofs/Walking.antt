@@ -9,8 +9,8 @@ use lib.Dec.{eqb}
 use lib.ListN.{length, drop}
 use lib.Seq.{drop-drop}
 use Rattle.lemmas.proofs.Lists.{next}
-use Rattle.sheet.specs.declared.Check.{Check}
-use Rattle.sheet.specs.declared.Check.TheVariants.{Passed, Refused}
+use Rattle.std.specs.Prelude.{Err, Ok}
+use Rattle.sheet.specs.Results.{Check}
 use Rattle.image_sheet.specs.Images.{bytes_of, digits_in, size_in, kind_of, stored, image, ended, or_fault, fault_in, image_from, a-record}
 use Rattle.hexrecord.specs.declared.Step.{Step}
 use Rattle.hexrecord.specs.declared.Step.TheVariants.{Next, Last}
@@ -21,7 +21,7 @@ module _ (file : List ℕ) (given : List ℕ) (at : ℕ) where
   abbrev pub Stepped : List ℕ → Step → Type 0
   Stepped after (Next next) = (at < next) × (image_from at given (drop at file) ≡ image_from next after (drop next file))
   Stepped after (Last end) = image_from at given (drop at file) ≡ ended after (drop end file)
-  Stepped after (Step.Refused r) = image_from at given (drop at file) ≡ image (Refused r) after
+  Stepped after (Step.Refused r) = image_from at given (drop at file) ≡ image (Err r) after
 
   -- what is left there
   abbrev text : List ℕ
@@ -44,13 +44,13 @@ module _ (file : List ℕ) (given : List ℕ) (at : ℕ) where
   unfolding size_in
   further = omega arith
 
-  by_kind : at < length file → fault_in given at text ≡ Passed → (b : Bool) → eqb (kind_of bytes) 1 ≡ b → Stepped (stored given bytes) (cond b (Last after_it) (Next after_it))
+  by_kind : at < length file → fault_in given at text ≡ Ok tt → (b : Bool) → eqb (kind_of bytes) 1 ≡ b → Stepped (stored given bytes) (cond b (Last after_it) (Next after_it))
   by_kind h e true t = walk h ∙ rw (e, t)
   by_kind h e false t = (further, walk h ∙ rw (e, t))
 
   by-fault : at < length file → (k : Check) → fault_in given at text ≡ k → Stepped (given_after k given bytes) (step_of k (kind_of bytes) after_it)
-  by-fault h Passed e = by_kind h e (eqb (kind_of bytes) 1) refl
-  by-fault h (Refused r) e = walk h ∙ rw e
+  by-fault h (Ok _) e = by_kind h e (eqb (kind_of bytes) 1) refl
+  by-fault h (Err r) e = walk h ∙ rw e
 
   pub stepped : at < length file → (s : Step) (after : List ℕ) → s ≡ step_of (fault_in given at text) (kind_of bytes) after_it → after ≡ given_after (fault_in given at text) given bytes → Stepped after s
   stepped h s after e f = subst (λ (l : List ℕ). Stepped l s) (sym f) (subst (Stepped (given_after (fault_in given at text) given bytes)) (sym e) (by-fault h (fault_in given at text) refl))

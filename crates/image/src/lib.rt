@@ -62,14 +62,14 @@ pub fn write(part: u8, chips: u8, ram: &[u8], out: &mut [u8]) -> Written
     ensures result_value { written_numbers result ≡ written_numbers (hex_write_part part chips ram.now out.old).result }
 {
     match refused::check_power_on(part, one_group(chips), ram, false) {
-        Check::Refused(refusal) => Written::Refused(refusal),
-        Check::Passed => {
+        Err(refusal) => Err(refusal),
+        Ok(()) => {
             let size = file_size(ram.len());
             if out.len() < size {
-                return Written::Refused(Refusal::OutputLength);
+                return Err(Refusal::OutputLength);
             }
             put_file(out, ram);
-            Written::Bytes(size)
+            Ok(size)
         }
     }
 }
@@ -89,7 +89,7 @@ fn finish(file: &[u8], given: &[u8], end: usize) -> Check
     ensures { result ≡ (ended given.now (drop end file.now)).check }
 {
     if end < file.len() {
-        Check::Refused(Refusal::NoEnd)
+        Err(Refusal::NoEnd)
     } else {
         first_missing(given)
     }
@@ -105,10 +105,10 @@ fn read_records(file: &[u8], given: &mut [u8]) -> Check
         match hexrecord::read_record(file, given, at) {
             Step::Next(next) => at = next,
             Step::Last(end) => return finish(file, given, end),
-            Step::Refused(refusal) => return Check::Refused(refusal),
+            Step::Refused(refusal) => return Err(refusal),
         }
     }
-    Check::Refused(Refusal::NoEnd)
+    Err(Refusal::NoEnd)
 }
 
 // 16, 3, 14, 4.
@@ -117,17 +117,17 @@ fn check_file(part: u8, chips: u8, file: usize, out: usize) -> Check
     ensures { result ≡ check_file part chips file out }
 {
     match checks::check_part(part) {
-        Check::Refused(refusal) => Check::Refused(refusal),
-        Check::Passed => match checks::check_chips(part, one_group(chips)) {
-            Check::Refused(refusal) => Check::Refused(refusal),
-            Check::Passed => {
+        Err(refusal) => Err(refusal),
+        Ok(()) => match checks::check_chips(part, one_group(chips)) {
+            Err(refusal) => Err(refusal),
+            Ok(()) => {
                 if file <= 65536 {
                     checks::unless(
                         out == arithmetic::columns_in(part, chips as u16),
                         Refusal::RamLength,
                     )
                 } else {
-                    Check::Refused(Refusal::LongLog)
+                    Err(Refusal::LongLog)
                 }
             }
         },
@@ -148,15 +148,15 @@ pub fn read(part: u8, chips: u8, file: &[u8], ram: &mut [u8]) -> Written
     ensures result_value { written_numbers result ≡ written_numbers (hex_read_part part chips file.now ram.old).result }
 {
     match check_file(part, chips, file.len(), ram.len()) {
-        Check::Refused(refusal) => Written::Refused(refusal),
-        Check::Passed => {
+        Err(refusal) => Err(refusal),
+        Ok(()) => {
             let mut given = none_given();
             let size = ram.len();
             match read_records(file, &mut given[..size]) {
-                Check::Refused(refusal) => Written::Refused(refusal),
-                Check::Passed => {
+                Err(refusal) => Err(refusal),
+                Ok(()) => {
                     copies::copy(&given[..size], ram);
-                    Written::Bytes(size)
+                    Ok(size)
                 }
             }
         }

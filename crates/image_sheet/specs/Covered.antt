@@ -1,9 +1,8 @@
 -- Request 13's laws, stated: "Writing then reading gives the RAM back; each address must be covered exactly once." Proved in `imagelaws`.
 -- Assumes nothing.
-use Rattle.std.specs.Prelude.{◌≡◌, ℕ, zero, suc, ◌≤◌, ◌<◌, cond, List, [], ◌∷◌, ◌++◌, eqb, length, get_or, take, drop}
-use Rattle.sheet.specs.declared.Written.{Written}
+use Rattle.std.specs.Prelude.{◌≡◌, ℕ, zero, suc, ◌≤◌, ◌<◌, cond, List, [], ◌∷◌, ◌++◌, eqb, length, get_or, take, drop, Err, Ok}
+use Rattle.sheet.specs.Results.{Written}
 use Rattle.sheet.specs.declared.Refusal.{Refusal}
-use Rattle.sheet.specs.declared.Check.TheVariants.{Passed}
 use Rattle.image_sheet.specs.Hex.{hex_write_part}
 use Rattle.image_sheet.specs.Images.{bytes_of, digits_in, size_in, address_of, kind_of, data_of, image, image_of, hex_read_part}
 
@@ -11,12 +10,12 @@ use Rattle.image_sheet.specs.Images.{bytes_of, digits_in, size_in, address_of, k
 
 abbrev pub GivesBack : ℕ → ℕ → List ℕ → List ℕ → List ℕ → Type 0
 GivesBack part n ram out back =
-    (size : ℕ) → (hex_write_part part n ram out).result ≡ Written.Bytes size → length back ≡ length ram
-    → hex_read_part part n (take size (hex_write_part part n ram out).out) back ≡ record { result = Written.Bytes (length ram); out = ram }
+    (size : ℕ) → (hex_write_part part n ram out).result ≡ Ok size → length back ≡ length ram
+    → hex_read_part part n (take size (hex_write_part part n ram out).out) back ≡ record { result = Ok (length ram); out = ram }
 
 -- and a file that is refused changes nothing, wherever its fault is
 abbrev pub Untouched : ℕ → ℕ → List ℕ → List ℕ → Type 0
-Untouched part n file out = (r : Refusal) → (hex_read_part part n file out).result ≡ Written.Refused r → (hex_read_part part n file out).out ≡ out
+Untouched part n file out = (r : Refusal) → (hex_read_part part n file out).result ≡ Err r → (hex_read_part part n file out).out ≡ out
 
 -- ---- what a file gives: every value that its records hold for column c, in the order of the file
 
@@ -43,4 +42,4 @@ pub record Covered (size : ℕ) (file ram : List ℕ) : Type 0 where
   pub no_other : (c : ℕ) → size ≤ c → values_of c file ≡ []
 
 abbrev pub Accepted : ℕ → List ℕ → List ℕ → Type 0
-Accepted size file ram = image_of size file ≡ image Passed ram
+Accepted size file ram = image_of size file ≡ image (Ok tt) ram

@@ -1,11 +1,10 @@
 -- RAM images read back (paper 02, request 13): what is at fault in a record, and the columns that a file's records give. What holds of it is stated in `Covered`.
 -- A column is given by no record yet where it is 16, which no column can be.
 -- Assumes nothing.
-use Rattle.std.specs.Prelude.{◌≡◌, refl, ℕ, zero, suc, ◌+◌, ◌-◌, ◌*◌, ◌%◌, ◌≤◌, Bool, true, cond, ◌&&◌, ◌||◌, List, [], ◌∷◌, eqb, ltb, leb, length, get_or, take, drop, replicate}
+use Rattle.std.specs.Prelude.{◌≡◌, refl, ℕ, zero, suc, ◌+◌, ◌-◌, ◌*◌, ◌%◌, ◌≤◌, Bool, true, cond, ◌&&◌, ◌||◌, List, [], ◌∷◌, eqb, ltb, leb, length, get_or, take, drop, replicate, Err, Ok}
 use Rattle.std.proofs.Common.{arith, length-drop}
 use Rattle.std.proofs.lemmas.List.Edits.{sets}
-use Rattle.sheet.specs.declared.Check.{Check}
-use Rattle.sheet.specs.declared.Check.TheVariants.{Passed, Refused}
+use Rattle.sheet.specs.Results.{Check}
 use Rattle.sheet.specs.declared.Refusal.TheVariants.{RamLength, RamByte, LongLog, RecordForm, Checksum, RecordType, AddressOutside, AddressTwice, AddressMissing, NoEnd}
 use Rattle.sheet.specs.Parts.{within, part_of}
 use Rattle.sheet.specs.Checks.{unless, or_else, passed, over_in, check_part, check_chips}
@@ -108,26 +107,26 @@ image check columns = record { check = check; columns = columns }
 
 -- 26: the first column that no record gave, counted from i
 unfoldable pub missing_in : ℕ → List ℕ → Check
-missing_in i [] = Passed
-missing_in i (q ∷ qs) = cond (ltb 15 q) (Refused (AddressMissing i)) (missing_in (suc i) qs)
+missing_in i [] = Ok tt
+missing_in i (q ∷ qs) = cond (ltb 15 q) (Err (AddressMissing i)) (missing_in (suc i) qs)
 
 -- after the end record: 27 if there is anything more, then 26
 abbrev pub ended : List ℕ → List ℕ → Image
 ended given [] = image (missing_in 0 given) given
-ended given (c ∷ cs) = image (Refused NoEnd) given
+ended given (c ∷ cs) = image (Err NoEnd) given
 
 -- 21 to 25 and 5 of the record at the head of a text; else it is stored, and the file ends, or goes on after it
 abbrev pub or_fault : Check → List ℕ → Image → Image
-or_fault Passed given next = next
-or_fault (Refused r) given next = image (Refused r) given
+or_fault (Ok _) given next = next
+or_fault (Err r) given next = image (Err r) given
 
 abbrev pub fault_in : List ℕ → ℕ → List ℕ → Check
 fault_in given at text = or_else (unless (is_line text) (RecordForm at)) (fault_of given at (bytes_of (digits_in text)))
 
 -- k bounds how many records there are, for the recursion. 27 where no end record comes
 unfoldable pub image_in : ℕ → ℕ → List ℕ → List ℕ → Image
-image_in zero at given text = image (Refused NoEnd) given
-image_in (suc k) at given [] = image (Refused NoEnd) given
+image_in zero at given text = image (Err NoEnd) given
+image_in (suc k) at given [] = image (Err NoEnd) given
 image_in (suc k) at given (c ∷ cs) =
     let text = c ∷ cs in
     let bytes = bytes_of (digits_in text) in
@@ -158,7 +157,7 @@ enough (suc k) (suc j) at given (c ∷ cs) m n =
     let less = length-drop (size_in text) text in
     rw (enough k j (at + size_in text) (stored given (bytes_of (digits_in text))) (drop (size_in text) text) (omega arith) (omega arith))
 
-pub no-records : (at : ℕ) (given : List ℕ) → image_from at given [] ≡ image (Refused NoEnd) given
+pub no-records : (at : ℕ) (given : List ℕ) → image_from at given [] ≡ image (Err NoEnd) given
 unfolding image_from image_in
 no-records at given = refl
 

@@ -6,10 +6,9 @@ use Prim.Native.Nat.{ℕ, zero, suc, ◌*◌, ◌≤◌}
 use native.Mathlib.Nat.{le_refl}
 use native.Mathlib.Omega.{arith}
 use lib.ListN.{length, take, drop, replicate, drop_of_length-le}
-use Rattle.sheet.specs.declared.Written.{Written}
+use Rattle.std.specs.Prelude.{Err, Ok}
+use Rattle.sheet.specs.Results.{Written, Check}
 use Rattle.sheet.specs.declared.Refusal.{Refusal}
-use Rattle.sheet.specs.declared.Check.{Check}
-use Rattle.sheet.specs.declared.Check.TheVariants.{Passed, Refused}
 use Rattle.sheet.specs.Parts.{part_of}
 use Rattle.sheet.specs.Checks.{or_else}
 use Rattle.sheet.specs.Written.{written_by}
@@ -33,12 +32,12 @@ module _ (part n : ℕ) (file out : List ℕ) where
   unfolding hex_read_part
   by-checks k i e f = ap₂ (λ (x : Check) (y : Image). written_by (or_else x y.check) y.columns out) (sym e) f
 
-  pub not-read : (r : Refusal) → check_file part n (length file) (length out) ≡ Refused r → record { result = Written.Refused r; out = out } ≡ hex_read_part part n file out
-  not-read r e = by-checks (Refused r) its e refl
+  pub not-read : (r : Refusal) → check_file part n (length file) (length out) ≡ Err r → record { result = Err r; out = out } ≡ hex_read_part part n file out
+  not-read r e = by-checks (Err r) its e refl
 
-  module _ (passes : check_file part n (length file) (length out) ≡ Passed) (columns : List ℕ) where
-    pub faulty : (r : Refusal) → image (Refused r) columns ≡ its → record { result = Written.Refused r; out = out } ≡ hex_read_part part n file out
-    faulty r e = by-checks Passed (image (Refused r) columns) passes e
+  module _ (passes : check_file part n (length file) (length out) ≡ Ok tt) (columns : List ℕ) where
+    pub faulty : (r : Refusal) → image (Err r) columns ≡ its → record { result = Err r; out = out } ≡ hex_read_part part n file out
+    faulty r e = by-checks (Ok tt) (image (Err r) columns) passes e
 
-    pub all_read : image Passed columns ≡ its → length columns ≡ length out → record { result = Written.Bytes (length out); out = columns } ≡ hex_read_part part n file out
-    all_read e size = ap₂ (λ (k : ℕ) (l : List ℕ). record { result = Written.Bytes k; out = l }) (sym size) (sym (into columns out size)) ∙ by-checks Passed (image Passed columns) passes e
+    pub all_read : image (Ok tt) columns ≡ its → length columns ≡ length out → record { result = Ok (length out); out = columns } ≡ hex_read_part part n file out
+    all_read e size = ap₂ (λ (k : ℕ) (l : List ℕ). record { result = Ok k; out = l }) (sym size) (sym (into columns out size)) ∙ by-checks (Ok tt) (image (Ok tt) columns) passes e

@@ -9,8 +9,8 @@ use lib.Dec.{eqb, leb}
 use lib.ListN.{length, take, drop, replicate, length-append, length-take, length-drop, length-replicate, take-append-drop}
 use lib.Seq.{sets, sets-eq, take_at, take-append_seam, drop-append_seam, drop-append-add}
 use borrow.Author.Tests.{eq-eqb, le-leb, le-ltb}
-use Rattle.sheet.specs.declared.Check.{Check}
-use Rattle.sheet.specs.declared.Check.TheVariants.{Passed}
+use Rattle.std.specs.Prelude.{Ok}
+use Rattle.sheet.specs.Results.{Check}
 use Rattle.sheet.specs.declared.Refusal.TheVariants.{RamByte, AddressOutside, AddressTwice}
 use Rattle.sheet.specs.Parts.{within}
 use Rattle.sheet.specs.Checks.{unless, or_else, passed, over_in}
@@ -32,7 +32,7 @@ drop-replicate zero m a = let all : m - 0 ≡ m = omega arith in rw all
 drop-replicate (suc n) zero a = let none : 0 - suc n ≡ 0 = omega arith in rw none
 drop-replicate (suc n) (suc m) a = let less : suc m - suc n ≡ m - n = omega arith in rw less (drop-replicate n m a)
 
-none_missing : (i : ℕ) (given : List ℕ) → Nibbles given → missing_in i given ≡ Passed
+none_missing : (i : ℕ) (given : List ℕ) → Nibbles given → missing_in i given ≡ Ok tt
 unfolding missing_in
 none_missing i [] w = refl
 none_missing i (q ∷ qs) w = rw (le-ltb 15 q (omega (arith, w 0))) (none_missing (suc i) qs (λ j. w (suc j)))
@@ -68,7 +68,7 @@ module _ (address : ℕ) (columns : List ℕ) (few : length columns < 256) (near
   many : length after-length ≡ 4 + length columns
   many = omega (arith, length-append columns (checksum_of (head_of 0 address columns ++ columns) ∷ []))
 
-  head-passes : (at : ℕ) → head_fault at its ≡ Passed
+  head-passes : (at : ℕ) → head_fault at its ≡ Ok tt
   unfolding head_fault record_of
   head-passes at = rw (eq-eqb (sum_of its % 256) 0 (sum-zero (head_of 0 address columns ++ columns)))
 
@@ -104,14 +104,14 @@ module _ (address : ℕ) (columns : List ℕ) (few : length columns < 256) (near
 
   module _ (given : List ℕ) (room : address + length columns ≤ length given) (free : none_given (take (length columns) (drop address given)) ≡ true) (at : ℕ) where
     by_parts : (n a : ℕ) (l : List ℕ) → n ≡ length columns → a ≡ address → l ≡ columns
-        → or_else (unless (eqb n 0 || leb (a + n) (length given)) (AddressOutside at)) (or_else (unless (none_given (take n (drop a given))) (AddressTwice at)) (unless (passed (over_in 0 l)) (RamByte at))) ≡ Passed
+        → or_else (unless (eqb n 0 || leb (a + n) (length given)) (AddressOutside at)) (or_else (unless (none_given (take n (drop a given))) (AddressTwice at)) (unless (passed (over_in 0 l)) (RamByte at))) ≡ Ok tt
     by_parts n a l e f g = rw (e, f, g, le-leb (address + length columns) (length given) room, or_true (eqb (length columns) 0), free, check-nibbles 0 columns low)
 
-    data_passes : data_fault given at its ≡ Passed
+    data_passes : data_fault given at its ≡ Ok tt
     unfolding data_fault
     data_passes = by_parts (count_of its) (address_of its) (data_of its) count-is address_is data_is
 
-    passes : fault_of given at its ≡ Passed
+    passes : fault_of given at its ≡ Ok tt
     passes = rw (head-passes at) data_passes
 
     -- it is read, and the rest is read with its columns given
@@ -122,7 +122,7 @@ module _ (address : ℕ) (columns : List ℕ) (few : length columns < 256) (near
       abbrev goes_on : Check → List ℕ → List ℕ → Image
       goes_on f bytes more = or_fault f given (cond (eqb (kind_of bytes) 1) (ended (stored given bytes) more) (image_from (at + size_in text) (stored given bytes) more))
 
-      no-fault : fault_in given at text ≡ Passed
+      no-fault : fault_in given at text ≡ Ok tt
       no-fault = rw (line rest) (ap (fault_of given at) (bytes-are rest) ∙ passes)
 
       pub read_data : image_from at given text ≡ image_from (at + size_in text) (sets given address columns) rest
@@ -134,7 +134,7 @@ module _ (address : ℕ) (columns : List ℕ) (few : length columns < 256) (near
 
 -- ---- the end record
 
-read-end : (at : ℕ) (given : List ℕ) → Nibbles given → image_from at given (line_of (record_of 1 0 [])) ≡ image Passed given
+read-end : (at : ℕ) (given : List ℕ) → Nibbles given → image_from at given (line_of (record_of 1 0 [])) ≡ image (Ok tt) given
 unfolding text_of record_of sum_of value_of within are_digits bytes_of digits_in line_end end_in is_line size_in head_fault data_fault none_given over_in
 read-end at given low = a-record at given 58 (text_of (record_of 1 0 []) ++ (10 ∷ [])) ∙ ap (λ (k : Check). image k given) (none_missing 0 given low)
 
@@ -154,7 +154,7 @@ given-more before columns m h =
     ∙ ap₂ (λ (x y : List ℕ). (x ++ columns) ++ y) (take-append_seam before blank) (drop-append-add before blank (length columns) ∙ drop-replicate (length columns) m 16)
 
 back : (k at : ℕ) (before columns : List ℕ) → length columns ≤ 16 * k → 16 * k < length columns + 16 → Nibbles before → Nibbles columns → length before + length columns ≤ 65536
-    → image_from at (before ++ replicate (length columns) 16) (data_lines k (length before) columns ++ line_of (record_of 1 0 [])) ≡ image Passed (before ++ columns)
+    → image_from at (before ++ replicate (length columns) 16) (data_lines k (length before) columns ++ line_of (record_of 1 0 [])) ≡ image (Ok tt) (before ++ columns)
 unfolding data_lines
 back zero at before [] h l wb wc near = read-end at (before ++ []) (join_nibbles before [] wb wc)
 back zero at before (x ∷ xs) h l wb wc near = absurd (omega arith)
@@ -175,11 +175,11 @@ back (suc k) at before columns h l wb wc near =
     (given-more before sixteen (length columns) (omega arith) ∙ ap (λ (n : ℕ). (before ++ sixteen) ++ replicate n 16) {x = length columns - length sixteen} {y = length others} (omega arith))
     (other-address k (length before + 16) (length (before ++ sixteen)) others (λ some. omega arith))
     ∙ back k next (before ++ sixteen) others (omega arith) (omega arith) (join_nibbles before sixteen wb low) (drop-nibbles 16 columns wc) (omega arith)
-    ∙ ap (image Passed) (append_assoc before sixteen others ∙ ap (λ (l : List ℕ). before ++ l) (take-append-drop 16 columns))
+    ∙ ap (image (Ok tt)) (append_assoc before sixteen others ∙ ap (λ (l : List ℕ). before ++ l) (take-append-drop 16 columns))
 
 -- ---- the laws
 
 -- of any RAM of columns whose addresses fit two bytes
-pub file-back : (ram : List ℕ) → Nibbles ram → length ram ≤ 65536 → image_of (length ram) (file_of ram) ≡ image Passed ram
+pub file-back : (ram : List ℕ) → Nibbles ram → length ram ≤ 65536 → image_of (length ram) (file_of ram) ≡ image (Ok tt) ram
 unfolding image_of file_of
 file-back ram low near = back ((length ram + 15) / 16) 0 [] ram (omega arith) (omega arith) (λ i. omega arith) low (omega arith)

@@ -8,11 +8,10 @@ use native.Mathlib.Omega.{arith}
 use lib.ListN.{length, take, drop}
 use lib.Seq.{take_at}
 use borrow.Author.Tests.{le-leb, leb-true, eq-eqb}
-use Rattle.sheet.specs.declared.Written.{Written}
+use Rattle.std.specs.Prelude.{Err, Ok}
+use Rattle.sheet.specs.Results.{Written, Check}
 use Rattle.sheet.specs.declared.Refusal.{Refusal}
 use Rattle.sheet.specs.declared.Refusal.TheVariants.{OutputLength}
-use Rattle.sheet.specs.declared.Check.{Check}
-use Rattle.sheet.specs.declared.Check.TheVariants.{Passed, Refused}
 use Rattle.sheet.specs.Parts.{part_of}
 use Rattle.sheet.specs.Checks.{or_else, check_part, check_power_on}
 use Rattle.sheet.specs.Written.{written_by, check_room}
@@ -26,21 +25,21 @@ use Rattle.imagelaws.proofs.Answers.{all_read}
 use Rattle.imagelaws.proofs.Back.{file-back}
 
 is-taken : Written → Bool
-is-taken (Written.Bytes n) = true
-is-taken (Written.Refused r) = false
+is-taken (Ok n) = true
+is-taken (Err r) = false
 
 bytes-in : Written → ℕ
-bytes-in (Written.Bytes n) = n
-bytes-in (Written.Refused r) = 0
+bytes-in (Ok n) = n
+bytes-in (Err r) = 0
 
 -- a writer's call that says how many bytes it wrote passed its checks, and wrote its text
-wrote : (k : Check) (text out : List ℕ) (size : ℕ) → (written_by k text out).result ≡ Written.Bytes size → (k ≡ Passed) × (take size (written_by k text out).out ≡ text)
+wrote : (k : Check) (text out : List ℕ) (size : ℕ) → (written_by k text out).result ≡ Ok size → (k ≡ Ok tt) × (take size (written_by k text out).out ≡ text)
 unfolding is-taken bytes-in
-wrote Passed text out size e = (refl, take_at text (drop (length text) out) size (ap bytes-in e))
-wrote (Refused r) text out size e = absurd (true≢false (sym (ap is-taken e)))
+wrote (Ok _) text out size e = (refl, take_at text (drop (length text) out) size (ap bytes-in e))
+wrote (Err r) text out size e = absurd (true≢false (sym (ap is-taken e)))
 
 -- and what it wrote lies inside the output
-pub written-inside : (part n : ℕ) (ram out : List ℕ) (size : ℕ) → (hex_write_part part n ram out).result ≡ Written.Bytes size → size ≤ length out
+pub written-inside : (part n : ℕ) (ram out : List ℕ) (size : ℕ) → (hex_write_part part n ram out).result ≡ Ok size → size ≤ length out
 unfolding hex_write_part is-taken bytes-in
 written-inside part n ram out size e =
     let wants = check_power_on (part_of part) (one_group n) ram in
@@ -52,7 +51,7 @@ written-inside part n ram out size e =
     omega arith
 
 -- a group's file is short enough to be read, for as many columns
-can_read : (part n : ℕ) (ram back : List ℕ) → check_part part ≡ Passed → Group part n ram → length back ≡ length ram → check_file part n (length (file_of ram)) (length back) ≡ Passed
+can_read : (part n : ℕ) (ram back : List ℕ) → check_part part ≡ Ok tt → Group part n ram → length back ≡ length ram → check_file part n (length (file_of ram)) (length back) ≡ Ok tt
 unfolding check_file
 can_read part n ram back p g size =
     rw (p, g.chips, le-leb (length (file_of ram)) 65536 (omega (arith, length-file ram, g.few)), eq-eqb (length back) ((part_of part).columns * n) (size ∙ g.size))
@@ -68,13 +67,13 @@ gives_back part n ram out back size taken same =
     ap (λ (l : List ℕ). hex_read_part part n l back) w.1
     ∙ sym (all_read part n (file_of ram) back (can_read part n ram back (both_pass (check_part part) wants passes).0 g same) ram
     (sym (file-back ram g.low (omega (arith, g.few))) ∙ ap (λ (k : ℕ). image_of k (file_of ram)) g.size) (sym same))
-    ∙ ap (λ (k : ℕ). record { result = Written.Bytes k; out = ram }) same
+    ∙ ap (λ (k : ℕ). record { result = Ok k; out = ram }) same
 
 -- whatever refuses a file, and wherever
-untouched-by : (k : Check) (columns out : List ℕ) (r : Refusal) → (written_by k columns out).result ≡ Written.Refused r → (written_by k columns out).out ≡ out
+untouched-by : (k : Check) (columns out : List ℕ) (r : Refusal) → (written_by k columns out).result ≡ Err r → (written_by k columns out).out ≡ out
 unfolding is-taken
-untouched-by Passed columns out r e = absurd (true≢false (ap is-taken e))
-untouched-by (Refused x) columns out r e = refl
+untouched-by (Ok _) columns out r e = absurd (true≢false (ap is-taken e))
+untouched-by (Err x) columns out r e = refl
 
 pub untouched : (part n : ℕ) (file out : List ℕ) → Untouched part n file out
 unfolding hex_read_part

@@ -12,8 +12,8 @@ use lib.Seq.{sets, length-sets, get_or-set_same, get_or-set_other, drop-cons, dr
 use borrow.Author.Tests.{eq-eqb, ne_eqb, ltb-true, ltb-false, leb-true}
 use Rattle.lemmas.proofs.Tests.{both_true}
 use Rattle.lemmas.proofs.Order.{equal_or_not}
-use Rattle.sheet.specs.declared.Check.{Check}
-use Rattle.sheet.specs.declared.Check.TheVariants.{Passed, Refused}
+use Rattle.std.specs.Prelude.{Err, Ok}
+use Rattle.sheet.specs.Results.{Check}
 use Rattle.sheet.specs.declared.Refusal.{Refusal}
 use Rattle.sheet.specs.declared.Refusal.TheVariants.{RamByte, RecordForm, AddressOutside, AddressTwice, NoEnd}
 use Rattle.sheet.specs.Checks.{unless, passed, over_in}
@@ -73,19 +73,19 @@ fewer (suc m) (suc n) (q ∷ qs) h e =
     let both = both_true (ltb 15 q) (none_given (take n qs)) e in
     rw both.0 (fewer m n qs (omega arith) both.1)
 
-passed-of : (k : Check) → passed k ≡ true → k ≡ Passed
-passed-of Passed e = refl
-passed-of (Refused r) e = absurd (true≢false (sym e))
+passed-of : (k : Check) → passed k ≡ true → k ≡ Ok tt
+passed-of (Ok _) e = refl
+passed-of (Err r) e = absurd (true≢false (sym e))
 
-module _ (given : List ℕ) (at : ℕ) (bytes : List ℕ) (passes : fault_of given at bytes ≡ Passed) where
-  rest : data_fault given at bytes ≡ Passed
+module _ (given : List ℕ) (at : ℕ) (bytes : List ℕ) (passes : fault_of given at bytes ≡ Ok tt) where
+  rest : data_fault given at bytes ≡ Ok tt
   rest = (both_pass (head_fault at bytes) (data_fault given at bytes) passes).1
 
   is-inside : inside given bytes ≡ true
   unfolding data_fault
   is-inside = unless-passes (inside given bytes) (AddressOutside at) (both_pass _ _ rest).0
 
-  values : (none_given (take (count_of bytes) (drop (address_of bytes) given)) ≡ true) × (over_in 0 (data_of bytes) ≡ Passed)
+  values : (none_given (take (count_of bytes) (drop (address_of bytes) given)) ≡ true) × (over_in 0 (data_of bytes) ≡ Ok tt)
   unfolding data_fault
   values =
       let v = both_pass (unless (none_given (take (count_of bytes) (drop (address_of bytes) given))) (AddressTwice at)) (unless (passed (over_in 0 (data_of bytes))) (RamByte at)) (both_pass (unless (inside given bytes) (AddressOutside at)) _ rest).1 in
@@ -131,21 +131,21 @@ with-record c a columns given more ram (inl g) r =
 with-record c a columns given more ram (inr g) r = rw g.1 (rw g.0 at r)
 
 -- after an end record every column is there
-first-there : (t : Bool) (r : Refusal) (k : Check) → cond t (Refused r) k ≡ Passed → (t ≡ false) × (k ≡ Passed)
+first-there : (t : Bool) (r : Refusal) (k : Check) → cond t (Err r) k ≡ Ok tt → (t ≡ false) × (k ≡ Ok tt)
 first-there true r k e = absurd (true≢false (sym (ap passed e)))
 first-there false r k e = (refl, e)
 
-none_missing : (i c : ℕ) (given : List ℕ) → missing_in i given ≡ Passed → c < length given → get_or given c 0 < 16
+none_missing : (i c : ℕ) (given : List ℕ) → missing_in i given ≡ Ok tt → c < length given → get_or given c 0 < 16
 unfolding missing_in
 none_missing i c [] e h = absurd (omega arith)
 none_missing i zero (q ∷ qs) e h = let t = ltb-false 15 q (first-there (ltb 15 q) _ _ e).0 in omega arith
 none_missing i (suc c) (q ∷ qs) e h = none_missing (suc i) c qs (first-there (ltb 15 q) _ _ e).1 (omega arith)
 
 -- an image that passed
-refused-not : (r : Refusal) (given ram : List ℕ) → image (Refused r) given ≡ image Passed ram → ⊥
+refused-not : (r : Refusal) (given ram : List ℕ) → image (Err r) given ≡ image (Ok tt) ram → ⊥
 refused-not r given ram e = true≢false (sym (ap (λ (i : Image). passed i.check) e))
 
-at-end : (c : ℕ) (given more ram : List ℕ) → ended given more ≡ image Passed ram → c < length given → Rest c given [] ram
+at-end : (c : ℕ) (given more ram : List ℕ) → ended given more ≡ image (Ok tt) ram → c < length given → Rest c given [] ram
 at-end c given (x ∷ xs) ram e h = absurd (refused-not NoEnd given ram e)
 at-end c given [] ram e h =
     let there = none_missing 0 c given (ap (λ (i : Image). i.check) e) h in
@@ -153,15 +153,15 @@ at-end c given [] ram e h =
 
 -- one record and what follows it
 one-record : (c at : ℕ) (given text next ram more : List ℕ) (f : Check) → fault_in given at text ≡ f → (after : Image)
-    → (after ≡ image Passed ram → Rest c (stored given (bytes_of (digits_in text))) more ram)
-    → or_fault f given after ≡ image Passed ram → Rest c given (values_at c (address_of (bytes_of (digits_in text))) (data_of (bytes_of (digits_in text))) ++ more) ram
-one-record c at given text next ram more (Refused r) e after then p = absurd (refused-not r given ram p)
-one-record c at given text next ram more Passed e after then p =
+    → (after ≡ image (Ok tt) ram → Rest c (stored given (bytes_of (digits_in text))) more ram)
+    → or_fault f given after ≡ image (Ok tt) ram → Rest c given (values_at c (address_of (bytes_of (digits_in text))) (data_of (bytes_of (digits_in text))) ++ more) ram
+one-record c at given text next ram more (Err r) e after then p = absurd (refused-not r given ram p)
+one-record c at given text next ram more (Ok tt) e after then p =
     let bytes = bytes_of (digits_in text) in
     let passes = (both_pass (unless (is_line text) (RecordForm at)) (fault_of given at bytes) e).1 in
     with-record c (address_of bytes) (data_of bytes) given more ram (record-gives given at bytes passes c) (then p)
 
-each : (k c at : ℕ) (given text ram : List ℕ) → image_in k at given text ≡ image Passed ram → c < length given → Rest c given (values_in k c text) ram
+each : (k c at : ℕ) (given text ram : List ℕ) → image_in k at given text ≡ image (Ok tt) ram → c < length given → Rest c given (values_in k c text) ram
 unfolding image_in values_in
 each zero c at given text ram e h = absurd (refused-not NoEnd given ram e)
 each (suc k) c at given [] ram e h = absurd (refused-not NoEnd given ram e)
@@ -175,14 +175,14 @@ each (suc k) c at given (x ∷ xs) ram e h =
     (λ p. at-end c (stored given bytes) rest ram p (omega (arith, size)))
     (λ p. each k c (at + size_in text) (stored given bytes) rest ram p (omega (arith, size)))) e
   where
-    by_kind : (b : Bool) (given rest more : List ℕ) (next : Image) → (ended given rest ≡ image Passed ram → Rest c given [] ram) → (next ≡ image Passed ram → Rest c given more ram)
-        → cond b (ended given rest) next ≡ image Passed ram → Rest c given (cond b [] more) ram
+    by_kind : (b : Bool) (given rest more : List ℕ) (next : Image) → (ended given rest ≡ image (Ok tt) ram → Rest c given [] ram) → (next ≡ image (Ok tt) ram → Rest c given more ram)
+        → cond b (ended given rest) next ≡ image (Ok tt) ram → Rest c given (cond b [] more) ram
     by_kind true given rest more next last on p = last p
     by_kind false given rest more next last on p = on p
 
 -- ---- and no column that is not there
 
-none-behind : (k c at : ℕ) (given text ram : List ℕ) → image_in k at given text ≡ image Passed ram → length given ≤ c → values_in k c text ≡ []
+none-behind : (k c at : ℕ) (given text ram : List ℕ) → image_in k at given text ≡ image (Ok tt) ram → length given ≤ c → values_in k c text ≡ []
 unfolding image_in values_in
 none-behind zero c at given text ram e h = refl
 none-behind (suc k) c at given [] ram e h = refl
@@ -193,14 +193,14 @@ none-behind (suc k) c at given (x ∷ xs) ram e h =
     let size = length-sets given (address_of bytes) (data_of bytes) in
     by-fault (fault_in given at text) refl (λ p. by_kind (eqb (kind_of bytes) 1) (ended (stored given bytes) rest) (image_in k (at + size_in text) (stored given bytes) rest) (values_in k c rest) (λ q. none-behind k c (at + size_in text) (stored given bytes) rest ram q (omega (arith, size))) p) e
   where
-    by_kind : (b : Bool) (last next : Image) (more : List ℕ) → (next ≡ image Passed ram → more ≡ []) → cond b last next ≡ image Passed ram → cond b [] more ≡ []
+    by_kind : (b : Bool) (last next : Image) (more : List ℕ) → (next ≡ image (Ok tt) ram → more ≡ []) → cond b last next ≡ image (Ok tt) ram → cond b [] more ≡ []
     by_kind true last next more on p = refl
     by_kind false last next more on p = on p
 
-    by-fault : (f : Check) {after : Image} {more : List ℕ} → fault_in given at (x ∷ xs) ≡ f → (after ≡ image Passed ram → more ≡ []) → or_fault f given after ≡ image Passed ram
+    by-fault : (f : Check) {after : Image} {more : List ℕ} → fault_in given at (x ∷ xs) ≡ f → (after ≡ image (Ok tt) ram → more ≡ []) → or_fault f given after ≡ image (Ok tt) ram
         → values_at c (address_of (bytes_of (digits_in (x ∷ xs)))) (data_of (bytes_of (digits_in (x ∷ xs)))) ++ more ≡ []
-    by-fault (Refused r) f on p = absurd (refused-not r given ram p)
-    by-fault Passed f on p =
+    by-fault (Err r) f on p = absurd (refused-not r given ram p)
+    by-fault (Ok tt) f on p =
         let bytes = bytes_of (digits_in (x ∷ xs)) in
         ap₂ (λ (a b : List ℕ). a ++ b) (record-behind given at bytes (both_pass (unless (is_line (x ∷ xs)) (RecordForm at)) (fault_of given at bytes) f).1 c h) (on p)
 

@@ -9,7 +9,7 @@ use lib.Dec.{eqb, leb}
 use lib.ListN.{length, take, drop, length-take, length-drop, length-append}
 use lib.Seq.{drop-drop}
 use borrow.Author.Tests.{eqb-true, leb-true}
-use Rattle.sheet.specs.declared.Check.TheVariants.{Passed}
+use Rattle.std.specs.Prelude.{Ok}
 use Rattle.sheet.specs.declared.Refusal.TheVariants.{RamLength, LongLog}
 use Rattle.sheet.specs.Parts.{part_of}
 use Rattle.sheet.specs.Checks.{unless, or_else, over_in, check_part, check_chips, check_ram, check_power_on}
@@ -53,13 +53,13 @@ no_line ram address h = let none : (length ram - address + 15) / 16 ≡ 0 = omeg
 -- ---- a group's RAM that passed: whole sixteens, and 640 columns at most
 
 pub record Group (part n : ℕ) (ram : List ℕ) : Type 0 where
-  pub chips : check_chips (part_of part) (one_group n) ≡ Passed
+  pub chips : check_chips (part_of part) (one_group n) ≡ Ok tt
   pub size : length ram ≡ (part_of part).columns * n
   pub low : Nibbles ram
   pub sixteens : length ram % 16 ≡ 0
   pub few : length ram ≤ 640
 
-pub group_of : (part n : ℕ) (ram : List ℕ) → or_else (check_part part) (check_power_on (part_of part) (one_group n) ram) ≡ Passed → Group part n ram
+pub group_of : (part n : ℕ) (ram : List ℕ) → or_else (check_part part) (check_power_on (part_of part) (one_group n) ram) ≡ Ok tt → Group part n ram
 unfolding check_power_on check_ram
 group_of part n ram e =
     let K = part_of part in
@@ -82,7 +82,7 @@ pub record Asked (part n file out : ℕ) : Type 0 where
   pub size : out ≡ (part_of part).columns * n
   pub few : out ≤ 640
 
-pub asked_of : (part n file out : ℕ) → check_file part n file out ≡ Passed → Asked part n file out
+pub asked_of : (part n file out : ℕ) → check_file part n file out ≡ Ok tt → Asked part n file out
 unfolding check_file
 asked_of part n file out e =
     let K = part_of part in

@@ -10,7 +10,8 @@ use lib.Dec.{ltb}
 use lib.ListN.{length}
 use borrow.Author.Tests.{ltb-true, ltb-false}
 use Rattle.sheet.specs.declared.Chip.{Chip}
-use Rattle.sheet.specs.declared.Acknowledger.{Acknowledger}
+use Rattle.std.specs.Prelude.{None, Some}
+use Rattle.sheet.specs.Results.{Acknowledger}
 use Rattle.sheet.specs.Parts.{Part}
 use Rattle.sheet.specs.Registers.{backplanes}
 use Rattle.sheet.specs.Places.{position}
@@ -32,8 +33,8 @@ once-any f [] = refl
 once-any f (c ∷ cs) = go (f c) (smallest f cs) (any f cs) (once-any f cs)
   where
     go : (t : Bool) (who : Acknowledger) (u : Bool) → once who ≡ cond u 1 0 → once (cond t (lower c.subaddress who) who) ≡ cond (t || u) 1 0
-    go true (Acknowledger.Subaddress a) u e = refl
-    go true Acknowledger.None u e = refl
+    go true (Some a) u e = refl
+    go true None u e = refl
     go false who u e = e
 
 -- a byte is acknowledged just if somebody acknowledges it
@@ -41,7 +42,7 @@ pub once-present : (K : Part) (m v size : ℕ) → once (acknowledger K m v size
 unfolding acknowledger
 once-present K m v size = go (ltb (v + 7 / m) size)
   where
-    go : (t : Bool) → once (cond t (Acknowledger.Subaddress ((v + 7 / m) / K.columns)) Acknowledger.None) ≡ cond t 1 0
+    go : (t : Bool) → once (cond t (Some ((v + 7 / m) / K.columns)) None) ≡ cond t 1 0
     go true = refl
     go false = refl
 
@@ -51,14 +52,14 @@ last_column K g = position K g.registers + 7 / backplanes g.registers
 
 -- what is said of who acknowledged: that column is chip c's, and chip c is there; or it is past the last chip
 abbrev pub Said : Part → ℕ → ℕ → Acknowledger → Type 0
-Said K n column (Acknowledger.Subaddress c) = (K.columns * c ≤ column) × (column < K.columns * suc c) × (c < n)
-Said K n column Acknowledger.None = K.columns * n ≤ column
+Said K n column (Some c) = (K.columns * c ≤ column) × (column < K.columns * suc c) × (c < n)
+Said K n column None = K.columns * n ≤ column
 
 pub acknowledged-by : (K : Part) (n x : ℕ) (g : Group) → 0 < K.columns → length g.ram ≡ K.columns * n → Said K n (last_column K g) (data_byte K x g).last
 unfolding data_byte acknowledger
 acknowledged-by K n x g pc e = go (ltb (last_column K g) (length g.ram)) refl
   where
-    go : (t : Bool) → ltb (last_column K g) (length g.ram) ≡ t → Said K n (last_column K g) (cond t (Acknowledger.Subaddress (last_column K g / K.columns)) Acknowledger.None)
+    go : (t : Bool) → ltb (last_column K g) (length g.ram) ≡ t → Said K n (last_column K g) (cond t (Some (last_column K g / K.columns)) None)
     go true h =
         let below : last_column K g < K.columns * n = subst (λ (k : ℕ). last_column K g < k) e (ltb-true _ _ h) in
         let q = last_column K g / K.columns in
@@ -72,16 +73,16 @@ acknowledged-by K n x g pc e = go (ltb (last_column K g) (length g.ram)) refl
 
 -- none, or one of the n chips
 abbrev pub Among : ℕ → Acknowledger → Type 0
-Among n (Acknowledger.Subaddress c) = c < n
-Among n Acknowledger.None = Unit {0}
+Among n (Some c) = c < n
+Among n None = Unit {0}
 
 module _ (K : Part) (keeps : Keeps K) (n : ℕ) where
   data_among : (x : ℕ) (g : Group) → Kept K (K.columns * n) g → Among n (data_byte K x g).last
   data_among x g k = go (data_byte K x g).last (acknowledged-by K n x g (omega (arith, k.range.p-in)) k.columns)
     where
       go : (who : Acknowledger) → Said K n (last_column K g) who → Among n who
-      go (Acknowledger.Subaddress c) s = s.2
-      go Acknowledger.None s = tt
+      go (Some c) s = s.2
+      go None s = tt
 
   kind_among : (t : Kind) (x : ℕ) (g : Group) → Kept K (K.columns * n) g → Among n g.last → Among n (byte_of K t x g).last
   kind_among Kind.Command x g k a = a
@@ -99,5 +100,5 @@ module _ (K : Part) (keeps : Keeps K) (n : ℕ) where
 
 -- so its number is at most the limit
 pub last-few : (K : Part) (n : ℕ) (who : Acknowledger) → n ≤ K.limit → Among n who → last_number K who ≤ K.limit
-last-few K n (Acknowledger.Subaddress c) l a = omega arith
-last-few K n Acknowledger.None l a = omega arith
+last-few K n (Some c) l a = omega arith
+last-few K n None l a = omega arith

@@ -11,7 +11,7 @@ use Rattle.lemmas.proofs.Tests.{both_true}
 use Rattle.sheet.specs.declared.Both.{Both}
 use Rattle.sheet.specs.declared.Chips.{Chips}
 use Rattle.sheet.specs.declared.Refusal.TheVariants.{RamLength, Register, GroupOrPhase}
-use Rattle.sheet.specs.declared.Check.TheVariants.{Passed}
+use Rattle.std.specs.Prelude.{Ok}
 use Rattle.sheet.specs.Parts.{Part, part_of}
 use Rattle.sheet.specs.Registers.{in_range, registers_of}
 use Rattle.sheet.specs.Protocol.{chips_in}
@@ -37,7 +37,7 @@ of-group {A} P g zero one a b = go (eqb g 0)
     go true = a
     go false = b
 
-pub asked_of : (K : Part) (n : Chips) (r : Both) (g mode bank : ℕ) (wanted : List ℕ) → check_wanted K n r g mode bank wanted ≡ Passed → Asked K n r g mode bank wanted
+pub asked_of : (K : Part) (n : Chips) (r : Both) (g mode bank : ℕ) (wanted : List ℕ) → check_wanted K n r g mode bank wanted ≡ Ok tt → Asked K n r g mode bank wanted
 unfolding check_wanted check_registers
 asked_of K n r g mode bank wanted e =
     let a = both_pass (check_chips K n) _ e in

@@ -12,7 +12,7 @@ use Rattle.sheet.specs.declared.Marks.{Marks}
 use Rattle.sheet.specs.declared.Registers.{Registers}
 use Rattle.sheet.specs.declared.Kind.{Kind}
 use Rattle.sheet.specs.declared.Expect.TheVariants.{Control, All}
-use Rattle.sheet.specs.declared.Check.TheVariants.{Passed}
+use Rattle.std.specs.Prelude.{Ok}
 use Rattle.sheet.specs.Parts.{Part}
 use Rattle.sheet.specs.Registers.{known}
 use Rattle.sheet.specs.Commands.{defined, obeyed, obeyed_all, all_defined}
@@ -49,7 +49,7 @@ fault-commands K (x ∷ xs) ys r i e =
     ∙ ap (λ (n : ℕ). fault_in K false (obeyed_all K xs (obeyed r (K.command x))).unknown Control n ys) (omega arith))
 
 -- data while nothing is unknown
-pub fault_data : (K : Part) (u : Marks) (xs : List ℕ) (i : ℕ) → known u ≡ true → fault_in K false u (All Kind.Data) i xs ≡ Passed
+pub fault_data : (K : Part) (u : Marks) (xs : List ℕ) (i : ℕ) → known u ≡ true → fault_in K false u (All Kind.Data) i xs ≡ Ok tt
 unfolding fault_in
 fault_data K u [] i e = refl
 fault_data K u (x ∷ xs) i e = rw e (fault_data K u xs (suc i) e)

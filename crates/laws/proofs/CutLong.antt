@@ -14,13 +14,9 @@ use borrow.Author.Tests.{lt-ltb}
 use Rattle.sheet.specs.declared.Registers.{Registers}
 use Rattle.sheet.specs.declared.Both.{Both}
 use Rattle.sheet.specs.declared.Chips.{Chips}
-use Rattle.sheet.specs.declared.Acknowledger.{Acknowledger}
-use Rattle.sheet.specs.declared.Answer.{Answer}
-use Rattle.sheet.specs.declared.Addressed.{Addressed}
-use Rattle.sheet.specs.declared.Addressed.TheVariants.{To, Nobody}
+use Rattle.std.specs.Prelude.{Err, None, Ok, Some}
+use Rattle.sheet.specs.Results.{Acknowledger, Answer, Addressed, Check}
 use Rattle.sheet.specs.declared.Expect.TheVariants.{Control}
-use Rattle.sheet.specs.declared.Check.{Check}
-use Rattle.sheet.specs.declared.Check.TheVariants.{Passed, Refused}
 use Rattle.sheet.specs.Parts.{Part}
 use Rattle.sheet.specs.Registers.{lost_by, registers_of}
 use Rattle.sheet.specs.Protocol.{heard_by, chips_in, Sent, whole, cut, whole_of, address_byte, cut_data}
@@ -47,13 +43,13 @@ module _ (K : Part) (n : Chips) (r : Both) (ram : List ℕ) where
 
   -- 7, 17 and 18 of the bytes after the address, by whether a byte is cut behind them
   abbrev checked : Bool → List ℕ → Addressed → Check
-  checked cut xs (To g) = fault_in K cut (registers_of g r).unknown Control 1 xs
-  checked cut xs Nobody = Passed
+  checked cut xs (Some g) = fault_in K cut (registers_of g r).unknown Control 1 xs
+  checked cut xs None = Ok tt
 
   -- and what they do, by whether that byte is data
   abbrev took : Bool → List ℕ → Addressed → After
-  took lost xs (To g) = heard_in K n g r ram (losing lost (heard K Control xs (begun (registers_of g r) (columns_of K n g ram))))
-  took lost xs Nobody = record { result = record { answer = Answer.Taken no_counts Acknowledger.None; registers = r }; ram = ram }
+  took lost xs (Some g) = heard_in K n g r ram (losing lost (heard K Control xs (begun (registers_of g r) (columns_of K n g ram))))
+  took lost xs None = record { result = record { answer = Ok (record { counts = no_counts; last = None }); registers = r }; ram = ram }
 
   abbrev checked_all : Bool → List ℕ → Check
   checked_all cut bytes = after_state (checked cut (drop 1 bytes) (heard_by n (get_or bytes 0 0)))
@@ -62,21 +58,21 @@ module _ (K : Part) (n : Chips) (r : Both) (ram : List ℕ) where
   called cut lost bytes = answered (checked_all cut bytes) r ram (took lost (drop 1 bytes) (heard_by n (get_or bytes 0 0)))
 
   -- a call, by the whole bytes of its transfer
-  check-is : (t : Sent) → check_sent t ≡ Passed → check_transfer K n r ram t ≡ checked_all (cut t) (whole_of t)
+  check-is : (t : Sent) → check_sent t ≡ Ok tt → check_transfer K n r ram t ≡ checked_all (cut t) (whole_of t)
   unfolding check_transfer
   check-is t p = rw p (ap after_state (go (heard_by n (address_byte t))))
     where
       go : (to : Addressed) → check_bytes K r to t ≡ checked (cut t) (drop 1 (whole_of t)) to
-      go (To g) = refl
-      go Nobody = refl
+      go (Some g) = refl
+      go None = refl
 
-  call-is : (t : Sent) → check_sent t ≡ Passed → transfer_call K n r ram t ≡ called (cut t) (cut_data t) (whole_of t)
+  call-is : (t : Sent) → check_sent t ≡ Ok tt → transfer_call K n r ram t ≡ called (cut t) (cut_data t) (whole_of t)
   unfolding transfer_call
   call-is t p = ap₂ (λ (k : Check) (a : After). answered k r ram a) (check-is t p) (go (heard_by n (address_byte t)))
     where
       go : (to : Addressed) → taken K n r ram t to ≡ took (cut_data t) (drop 1 (whole_of t)) to
-      go (To g) = refl
-      go Nobody = refl
+      go (Some g) = refl
+      go None = refl
 
   -- two calls that differ in marks at most
   record Same (a b : After) : Type 0 where
@@ -85,7 +81,7 @@ module _ (K : Part) (n : Chips) (r : Both) (ram : List ℕ) where
     pub registers-same : both_unmarked a.result.registers ≡ both_unmarked b.result.registers
 
   took-same : (lost : Bool) (xs : List ℕ) (to : Addressed) → Same (took lost xs to) (took false xs to)
-  took-same lost xs (To g) = record { ram-same = refl; answer-same = refl; registers-same = go (eqb g 0) }
+  took-same lost xs (Some g) = record { ram-same = refl; answer-same = refl; registers-same = go (eqb g 0) }
     where
       s : Bool → Registers
       s lost = (losing lost (heard K Control xs (begun (registers_of g r) (columns_of K n g ram)))).registers
@@ -94,11 +90,11 @@ module _ (K : Part) (n : Chips) (r : Both) (ram : List ℕ) where
           ≡ both_unmarked (cond b (record { zero = s false; one = r.one }) (record { zero = r.zero; one = s false }))
       go true = refl
       go false = refl
-  took-same lost xs Nobody = record { ram-same = refl; answer-same = refl; registers-same = refl }
+  took-same lost xs None = record { ram-same = refl; answer-same = refl; registers-same = refl }
 
   answered-same : (k : Check) (a b : After) → Same a b → Same (answered k r ram a) (answered k r ram b)
-  answered-same Passed a b s = s
-  answered-same (Refused x) a b s = record { ram-same = refl; answer-same = refl; registers-same = refl }
+  answered-same (Ok _) a b s = s
+  answered-same (Err x) a b s = record { ram-same = refl; answer-same = refl; registers-same = refl }
 
   -- a call that changes nothing but its answer
   record Still (a : After) : Type 0 where
@@ -106,16 +102,16 @@ module _ (K : Part) (n : Chips) (r : Both) (ram : List ℕ) where
     pub registers-still : a.result.registers ≡ r
 
   answered-still : (k : Check) (a : After) → Still a → Still (answered k r ram a)
-  answered-still Passed a s = s
-  answered-still (Refused x) a s = record { ram-still = refl; registers-still = refl }
+  answered-still (Ok _) a s = s
+  answered-still (Err x) a s = record { ram-still = refl; registers-still = refl }
 
   ram-stays : (k : Check) (a : After) → a.ram ≡ ram → (answered k r ram a).ram ≡ ram
-  ram-stays Passed a e = e
-  ram-stays (Refused x) a e = refl
+  ram-stays (Ok _) a e = e
+  ram-stays (Err x) a e = refl
 
   ram-refused : (k : Check) (a : After) → passed k ≡ false → (answered k r ram a).ram ≡ ram
-  ram-refused Passed a h = absurd (true≢false h)
-  ram-refused (Refused x) a h = refl
+  ram-refused (Ok _) a h = absurd (true≢false h)
+  ram-refused (Err x) a h = refl
 
   -- with the byte that is cut and without: the same but for marks, or it is refused and the RAM stays either way
   abbrev Alike : After → After → Check → Type 0
@@ -126,15 +122,15 @@ module _ (K : Part) (n : Chips) (r : Both) (ram : List ℕ) where
   called_by cut lost xs to = answered (after_state (checked cut xs to)) r ram (took lost xs to)
 
   alike-by : (lost : Bool) (xs : List ℕ) (to : Addressed) → Alike (called_by true lost xs to) (called_by false false xs to) (after_state (checked true xs to))
-  alike-by lost xs Nobody = inl (answered-same (after_state Passed) _ _ (took-same lost xs Nobody))
-  alike-by lost xs (To g) = ⊎_elim
-      (λ (e : checked true xs (To g) ≡ checked false xs (To g)).
-      inl (subst (λ (k : Check). Same (answered (after_state k) r ram (took lost xs (To g))) (called_by false false xs (To g))) (sym e)
-      (answered-same (after_state (checked false xs (To g))) _ _ (took-same lost xs (To g)))))
-      (λ (l : (passed (checked true xs (To g)) ≡ false) × Quiet Control xs).
-      let refused = refused-after (check_state K n r ram) (checked true xs (To g)) l.0 in
-      let still : (took false xs (To g)).ram ≡ ram = ap (λ (l : List ℕ). with_columns K n g l ram) (quiet-ram K Control xs _ l.1) ∙ put_back K n g ram in
-      inr (refused, ram-refused (after_state (checked true xs (To g))) (took lost xs (To g)) refused ∙ sym (ram-stays (after_state (checked false xs (To g))) (took false xs (To g)) still)))
+  alike-by lost xs None = inl (answered-same (after_state (Ok tt)) _ _ (took-same lost xs None))
+  alike-by lost xs (Some g) = ⊎_elim
+      (λ (e : checked true xs (Some g) ≡ checked false xs (Some g)).
+      inl (subst (λ (k : Check). Same (answered (after_state k) r ram (took lost xs (Some g))) (called_by false false xs (Some g))) (sym e)
+      (answered-same (after_state (checked false xs (Some g))) _ _ (took-same lost xs (Some g)))))
+      (λ (l : (passed (checked true xs (Some g)) ≡ false) × Quiet Control xs).
+      let refused = refused-after (check_state K n r ram) (checked true xs (Some g)) l.0 in
+      let still : (took false xs (Some g)).ram ≡ ram = ap (λ (l : List ℕ). with_columns K n g l ram) (quiet-ram K Control xs _ l.1) ∙ put_back K n g ram in
+      inr (refused, ram-refused (after_state (checked true xs (Some g))) (took lost xs (Some g)) refused ∙ sym (ram-stays (after_state (checked false xs (Some g))) (took false xs (Some g)) still)))
       (outcome K (registers_of g r).unknown Control 1 xs)
 
   -- where byte 0 did not come, nothing changes
@@ -162,7 +158,7 @@ module _ (K : Part) (n : Chips) (r : Both) (ram : List ℕ) where
     alike = alike-by lost (drop 1 bytes) (heard_by n (get_or bytes 0 0))
 
     -- where the cut byte is taken
-    same : check_transfer K n r ram (cut_after bytes x bits) ≡ Passed → Same (called true lost bytes) (called false false bytes)
+    same : check_transfer K n r ram (cut_after bytes x bits) ≡ Ok tt → Same (called true lost bytes) (called false false bytes)
     same h = ⊎_elim (λ (s : Same _ _). s) (λ l. not-passed (checked_all true bytes) l.0 (sym cut-check ∙ h)) alike
 
     -- where it is no data
@@ -170,8 +166,8 @@ module _ (K : Part) (n : Chips) (r : Both) (ram : List ℕ) where
     no_data h = ap₂ (λ (k : Check) (b : Bool). answered (after_state k) r ram (took b (drop 1 bytes) (heard_by n (get_or bytes 0 0)))) (go (heard_by n (get_or bytes 0 0))) h
       where
         go : (to : Addressed) → checked true (drop 1 bytes) to ≡ checked false (drop 1 bytes) to
-        go (To g) = other-alike K (registers_of g r).unknown Control 1 (drop 1 bytes) (cut-other bytes x bits few h)
-        go Nobody = refl
+        go (Some g) = other-alike K (registers_of g r).unknown Control 1 (drop 1 bytes) (cut-other bytes x bits few h)
+        go None = refl
 
     -- after some whole bytes
     long-some : 0 < length bytes → LongCut K n r ram bytes x bits

@@ -16,14 +16,13 @@ use Rattle.sheet.specs.declared.Chips.{Chips}
 use Rattle.sheet.specs.declared.Chip.{Chip}
 use Rattle.sheet.specs.declared.Command.{Command}
 use Rattle.sheet.specs.declared.Command.TheVariants.{PointerHigh, PointerLow, Pointer, ModeSet, DeviceSelect, FrequencyCtrl, BlinkSelect, BankSelect, Undefined}
-use Rattle.sheet.specs.declared.Addressed.TheVariants.{Nobody}
+use Rattle.std.specs.Prelude.{Err, None, Ok}
+use Rattle.sheet.specs.Results.{Check}
 use Rattle.sheet.specs.declared.Kind.{Kind}
 use Rattle.sheet.specs.declared.Expect.{Expect}
 use Rattle.sheet.specs.declared.Expect.TheVariants.{Control, One, All}
 use Rattle.sheet.specs.declared.Refusal.{Refusal}
 use Rattle.sheet.specs.declared.Refusal.TheVariants.{UnknownPlace}
-use Rattle.sheet.specs.declared.Check.{Check}
-use Rattle.sheet.specs.declared.Check.TheVariants.{Passed, Refused}
 use Rattle.sheet.specs.Parts.{Part, within}
 use Rattle.sheet.specs.Registers.{known}
 use Rattle.sheet.specs.Commands.{restored}
@@ -37,11 +36,11 @@ use Rattle.sheet.specs.Cuts.{cut_after}
 
 -- a check that is refused is refused after any other
 pub refused-after : (a b : Check) → passed b ≡ false → passed (or_else a b) ≡ false
-refused-after Passed b h = h
-refused-after (Refused r) b h = refl
+refused-after (Ok _) b h = h
+refused-after (Err r) b h = refl
 
 -- and did not pass
-pub not-passed : {P : Type 0} (k : Check) → passed k ≡ false → k ≡ Passed → P
+pub not-passed : {P : Type 0} (k : Check) → passed k ≡ false → k ≡ Ok tt → P
 not-passed k h e = absurd (true≢false (sym (ap passed e) ∙ h))
 
 -- ---- the walk over the whole bytes, with a byte that is cut behind them and without
@@ -77,7 +76,7 @@ known_alike : (K : Part) (u : Marks) (e : Expect) (i : ℕ) (xs : List ℕ) → 
 unfolding fault_in
 known_alike K u e i [] h = rw h (go (is_data e))
   where
-    go : (b : Bool) → cond b Passed Passed ≡ Passed
+    go : (b : Bool) → cond b (Ok tt) (Ok tt) ≡ Ok tt
     go true = refl
     go false = refl
 known_alike K u e i (x ∷ xs) h = ap (or_else (fault K u e i x)) (known_alike K (marks_after K u e x) (next e x) (suc i) xs (known-after K u e x h))
@@ -88,8 +87,8 @@ Outcome with-cut without quiet = (with-cut ≡ without) ⊎ ((passed with-cut �
 
 -- after a byte that is no data
 after-other : (f : Check) {a b : Check} {Q P : Type 0} → P → Outcome a b Q → Outcome (or_else f a) (or_else f b) (P × Q)
-after-other Passed {a} {b} {Q} p o = ⊎_elim (λ (e : a ≡ b). inl e) (λ (l : (passed a ≡ false) × Q). inr (l.0, (p, l.1))) o
-after-other (Refused r) p o = inl refl
+after-other (Ok _) {a} {b} {Q} p o = ⊎_elim (λ (e : a ≡ b). inl e) (λ (l : (passed a ≡ false) × Q). inr (l.0, (p, l.1))) o
+after-other (Err r) p o = inl refl
 
 -- after data, which is refused itself or finds the marks known
 after_data : (t : Bool) (r : Refusal) {a b : Check} → (t ≡ true → a ≡ b) → or_else (unless t r) a ≡ or_else (unless t r) b
@@ -112,7 +111,7 @@ pub outcome : (K : Part) (u : Marks) (e : Expect) (i : ℕ) (xs : List ℕ) → 
 unfolding fault_in
 outcome K u e i [] = go (is_data e) (known u)
   where
-    go : (b k : Bool) → Outcome (cond b (unless k (UnknownPlace i)) Passed) Passed (Unit {0})
+    go : (b k : Bool) → Outcome (cond b (unless k (UnknownPlace i)) (Ok tt)) (Ok tt) (Unit {0})
     go true true = inl refl
     go true false = inr (refl, tt)
     go false k = inl refl
@@ -172,16 +171,16 @@ unfolding whole_of
 whole_is bytes x bits h = rw (lt-ltb bits 8 h) (take_at bytes (x ∷ []) _ (sym (ap (λ (k : ℕ). k - 1) (length-append bytes (x ∷ [])) ∙ omega arith)))
 
 -- 1 to 4096 bytes, and 1 to 8 bits of the last
-sent-passes : (t : Sent) → 0 < length t.bytes → length t.bytes ≤ 4096 → 0 < t.bits → t.bits ≤ 8 → check_sent t ≡ Passed
+sent-passes : (t : Sent) → 0 < length t.bytes → length t.bytes ≤ 4096 → 0 < t.bits → t.bits ≤ 8 → check_sent t ≡ Ok tt
 unfolding check_sent check_length check_bits within
 sent-passes t some few from to = rw (lt-ltb 0 (length t.bytes) some, le-leb (length t.bytes) 4096 few, le-leb 1 t.bits from, le-leb t.bits 8 to)
 
-pub cut-passes : (bytes : List ℕ) (x bits : ℕ) → length bytes < 4096 → 0 < bits → bits < 8 → check_sent (cut_after bytes x bits) ≡ Passed
+pub cut-passes : (bytes : List ℕ) (x bits : ℕ) → length bytes < 4096 → 0 < bits → bits < 8 → check_sent (cut_after bytes x bits) ≡ Ok tt
 cut-passes bytes x bits l from to =
     let e = length-append bytes (x ∷ []) in
     sent-passes (cut_after bytes x bits) (omega (arith, e)) (omega (arith, e)) from (omega arith)
 
-pub whole-passes : (bytes : List ℕ) → 0 < length bytes → length bytes < 4096 → check_sent (whole bytes) ≡ Passed
+pub whole-passes : (bytes : List ℕ) → 0 < length bytes → length bytes < 4096 → check_sent (whole bytes) ≡ Ok tt
 whole-passes bytes some l = sent-passes (whole bytes) some (omega arith) (omega arith) (omega arith)
 
 -- the byte that is cut is data or not by what the whole bytes leave to come
@@ -199,6 +198,6 @@ unfolding whole_of
 none-whole = refl
 
 -- 0 is nobody's address
-pub nobody : (n : Chips) → heard_by n 0 ≡ Nobody
+pub nobody : (n : Chips) → heard_by n 0 ≡ None
 unfolding heard_by
 nobody n = refl

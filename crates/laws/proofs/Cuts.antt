@@ -14,8 +14,8 @@ use Rattle.sheet.specs.declared.Marks.{Marks}
 use Rattle.sheet.specs.declared.Chip.{Chip}
 use Rattle.sheet.specs.declared.Expect.TheVariants.{Control}
 use Rattle.sheet.specs.declared.Refusal.TheVariants.{ManyChips}
-use Rattle.sheet.specs.declared.Check.{Check}
-use Rattle.sheet.specs.declared.Check.TheVariants.{Passed, Refused}
+use Rattle.std.specs.Prelude.{Err, Ok}
+use Rattle.sheet.specs.Results.{Check}
 use Rattle.sheet.specs.Parts.{Part}
 use Rattle.sheet.specs.Registers.{with_marks}
 use Rattle.sheet.specs.Protocol.{address_of, Sent, whole, cut, whole_of, address_byte, cut_data}
@@ -36,7 +36,7 @@ module _ (K : Part) (cs : List Chip) where
 
   -- where some chip hears them
   abbrev plain_checked : Bool → Bool → ℕ → List ℕ → Check
-  plain_checked some cut address xs = first (cond some (walk address xs cut) Passed)
+  plain_checked some cut address xs = first (cond some (walk address xs cut) (Ok tt))
 
   -- the chips after the bytes, and after a cut one that is data or is not
   abbrev followed : ℕ → List ℕ → Plain
@@ -52,11 +52,11 @@ module _ (K : Part) (cs : List Chip) where
   plain_called cut lost bytes = plain_answered (checked_by cut bytes) cs (plain_took (any (hears (get_or bytes 0 0)) cs) lost (get_or bytes 0 0) (drop 1 bytes))
 
   -- a call, by the whole bytes of its transfer
-  plain-check-is : (t : Sent) → check_sent t ≡ Passed → check_plain K cs t ≡ checked_by (cut t) (whole_of t)
+  plain-check-is : (t : Sent) → check_sent t ≡ Ok tt → check_plain K cs t ≡ checked_by (cut t) (whole_of t)
   unfolding check_plain
   plain-check-is t p = rw p
 
-  plain-call-is : (t : Sent) → check_sent t ≡ Passed → plain_call K cs t ≡ plain_called (cut t) (cut_data t) (whole_of t)
+  plain-call-is : (t : Sent) → check_sent t ≡ Ok tt → plain_call K cs t ≡ plain_called (cut t) (cut_data t) (whole_of t)
   unfolding plain_call
   plain-call-is t p = ap (λ (k : Check). plain_answered k cs (plain_said (plain_taken K cs t))) (plain-check-is t p)
 
@@ -88,16 +88,16 @@ module _ (K : Part) (cs : List Chip) where
   plain-took-same false lost address xs = record { columns-same = refl; answer-same = refl; chips-same = refl }
 
   plain-answered-same : (k : Check) (a b : PlainAfter) → PlainSame a b → PlainSame (plain_answered k cs a) (plain_answered k cs b)
-  plain-answered-same Passed a b s = s
-  plain-answered-same (Refused x) a b s = record { columns-same = refl; answer-same = refl; chips-same = refl }
+  plain-answered-same (Ok _) a b s = s
+  plain-answered-same (Err x) a b s = record { columns-same = refl; answer-same = refl; chips-same = refl }
 
   columns_stay : (k : Check) (a : PlainAfter) → map (λ c. c.columns) a.chips ≡ map (λ c. c.columns) cs → map (λ c. c.columns) (plain_answered k cs a).chips ≡ map (λ c. c.columns) cs
-  columns_stay Passed a e = e
-  columns_stay (Refused x) a e = refl
+  columns_stay (Ok _) a e = e
+  columns_stay (Err x) a e = refl
 
   chips-refused : (k : Check) (a : PlainAfter) → passed k ≡ false → (plain_answered k cs a).chips ≡ cs
-  chips-refused Passed a h = absurd (true≢false h)
-  chips-refused (Refused x) a h = refl
+  chips-refused (Ok _) a h = absurd (true≢false h)
+  chips-refused (Err x) a h = refl
 
   -- with the byte that is cut and without: the same but for marks, or it is refused and the columns stay either way
   abbrev PlainAlike : PlainAfter → PlainAfter → Check → Type 0
@@ -130,9 +130,9 @@ module _ (K : Part) (cs : List Chip) where
   plain-unheard t e = go (check_plain K cs t) (any (hears (address_byte t)) cs) (ap (λ (address : ℕ). any (hears address) cs) e ∙ none-hears cs)
     where
       go : (k : Check) (some : Bool) → some ≡ false → (plain_answered k cs (plain_said (cond some (plain_whole K (address_byte t) t (begun_by 1 cs)) (begun_by 0 cs)))).chips ≡ cs
-      go Passed true h = absurd (true≢false h)
-      go Passed false h = refl
-      go (Refused x) some h = refl
+      go (Ok _) true h = absurd (true≢false h)
+      go (Ok _) false h = refl
+      go (Err x) some h = refl
 
   module _ (bytes : List ℕ) (x bits : ℕ) (room : length bytes < 4096) (some : 0 < bits) (few : bits < 8) where
     abbrev plain_lost : Bool
@@ -152,14 +152,14 @@ module _ (K : Part) (cs : List Chip) where
     plain-alike = plain-alike-by (any (hears (get_or bytes 0 0)) cs) plain_lost (get_or bytes 0 0) (drop 1 bytes)
 
     -- where the cut byte is taken
-    plain-same : check_plain K cs (cut_after bytes x bits) ≡ Passed → PlainSame (plain_called true plain_lost bytes) (plain_called false false bytes)
+    plain-same : check_plain K cs (cut_after bytes x bits) ≡ Ok tt → PlainSame (plain_called true plain_lost bytes) (plain_called false false bytes)
     plain-same h = ⊎_elim (λ (s : PlainSame _ _). s) (λ l. not-passed (checked_by true bytes) l.0 (sym plain-cut-check ∙ h)) plain-alike
 
     -- where it is no data
     plain_no_data : plain_lost ≡ false → plain_called true plain_lost bytes ≡ plain_called false false bytes
     plain_no_data h =
         let address = get_or bytes 0 0 in
-        ap₂ (λ (k : Check) (b : Bool). plain_answered (first (cond (any (hears address) cs) k Passed)) cs (plain_took (any (hears address) cs) b address (drop 1 bytes)))
+        ap₂ (λ (k : Check) (b : Bool). plain_answered (first (cond (any (hears address) cs) k (Ok tt))) cs (plain_took (any (hears address) cs) b address (drop 1 bytes)))
         (other-alike K (marks_in address cs) Control 1 (drop 1 bytes) (cut-other bytes x bits few h)) h
 
     -- after some whole bytes

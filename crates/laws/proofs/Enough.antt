@@ -8,7 +8,8 @@ use native.Mathlib.Omega.{arith}
 use lib.Arith.{digits_div}
 use borrow.Author.Tests.{eq-eqb, ne_eqb, lt-ltb, le-ltb}
 use Rattle.lemmas.proofs.Order.{equal_or_not}
-use Rattle.sheet.specs.declared.Acknowledger.{Acknowledger}
+use Rattle.std.specs.Prelude.{None}
+use Rattle.sheet.specs.Results.{Acknowledger}
 use Rattle.sheet.specs.Parts.{Part}
 use Rattle.sheet.specs.Data.{width_of, acknowledger}
 use Rattle.sheet.specs.Runs.{last_run, counted_run}
@@ -48,14 +49,14 @@ module _ (m size : ℕ) (pm : 0 < m) where
       rw (all, ne_eqb (size % w) 0 ne, odd-bytes ne) (counts-alike _ _ (omega arith) (omega (arith, rest)) (omega (arith, rest))))
       (equal_or_not (size % w) 0)
 
-  last_of : (K : Part) (j : ℕ) → last_run K (suc j) m 0 size Acknowledger.None ≡ acknowledger K m (w * j) size
-  last_of K j = last-at-once K j m 0 size Acknowledger.None ∙ ap (λ (v : ℕ). acknowledger K m v size) (zero-add (w * j))
+  last_of : (K : Part) (j : ℕ) → last_run K (suc j) m 0 size None ≡ acknowledger K m (w * j) size
+  last_of K j = last-at-once K j m 0 size None ∙ ap (λ (v : ℕ). acknowledger K m v size) (zero-add (w * j))
 
   -- the last byte ends with the last column, or past it
-  by-rest : (K : Part) (c j : ℕ) → 0 < K.columns → size ≡ K.columns * suc c → bytes_for m size ≡ suc j → last_run K (bytes_for m size) m 0 size Acknowledger.None ≡ put_last m size (suc c)
+  by-rest : (K : Part) (c j : ℕ) → 0 < K.columns → size ≡ K.columns * suc c → bytes_for m size ≡ suc j → last_run K (bytes_for m size) m 0 size None ≡ put_last m size (suc c)
   unfolding acknowledger
   by-rest K c j pc es ej =
-      ap (λ (k : ℕ). last_run K k m 0 size Acknowledger.None) ej ∙ last_of K j
+      ap (λ (k : ℕ). last_run K k m 0 size None) ej ∙ last_of K j
       ∙ ⊎_elim
       (λ (e : size % w ≡ 0).
       let q : size / w ≡ suc j = sym (even-bytes e) ∙ ej in
@@ -69,7 +70,7 @@ module _ (m size : ℕ) (pm : 0 < m) where
       rw (ne_eqb (size % w) 0 ne, le-ltb (w * j + 7 / m) size (omega (arith, over, mod-lt size {m = w} (omega arith)))))
       (equal_or_not (size % w) 0)
 
-  pub run-last : (K : Part) (chips : ℕ) → 0 < K.columns → 0 < chips → size ≡ K.columns * chips → last_run K (bytes_for m size) m 0 size Acknowledger.None ≡ put_last m size chips
+  pub run-last : (K : Part) (chips : ℕ) → 0 < K.columns → 0 < chips → size ≡ K.columns * chips → last_run K (bytes_for m size) m 0 size None ≡ put_last m size chips
   run-last K zero pc ph es = absurd (omega arith)
   run-last K (suc c) pc ph es =
       let some : 0 < bytes_for m size = omega (arith, byte-there m 0 size (omega arith)) in

@@ -14,8 +14,8 @@ use Rattle.sheet.specs.declared.Chip.{Chip}
 use Rattle.sheet.specs.declared.Chips.{Chips}
 use Rattle.sheet.specs.declared.Refusal.{Refusal}
 use Rattle.sheet.specs.declared.Refusal.TheVariants.{EmptyTransfer, LongTransfer, ChipCount, RamLength, Register, GroupOrPhase, OutputLength, ChipField}
-use Rattle.sheet.specs.declared.Check.{Check}
-use Rattle.sheet.specs.declared.Check.TheVariants.{Passed, Refused}
+use Rattle.std.specs.Prelude.{Err, Ok}
+use Rattle.sheet.specs.Results.{Check}
 use Rattle.sheet.specs.Parts.{Part}
 use Rattle.sheet.specs.Registers.{in_range, power_on}
 use Rattle.sheet.specs.Protocol.{chips_in, Sent}
@@ -29,17 +29,17 @@ use Rattle.laws.proofs.Nibbles.{Nibbles, nibbles-of, check-nibbles}
 -- ---- one check
 
 -- of two checks that pass, each passes
-pub both_pass : (a b : Check) → or_else a b ≡ Passed → (a ≡ Passed) × (b ≡ Passed)
-both_pass Passed b e = (refl, e)
-both_pass (Refused r) b e = absurd (subst (λ (c : Check). T (passed c)) (sym e) tt)
+pub both_pass : (a b : Check) → or_else a b ≡ Ok tt → (a ≡ Ok tt) × (b ≡ Ok tt)
+both_pass (Ok _) b e = (refl, e)
+both_pass (Err r) b e = absurd (subst (λ (c : Check). T (passed c)) (sym e) tt)
 
 -- a test that passes is true
-pub unless-passes : (t : Bool) (r : Refusal) → unless t r ≡ Passed → t ≡ true
+pub unless-passes : (t : Bool) (r : Refusal) → unless t r ≡ Ok tt → t ≡ true
 unless-passes true r e = refl
 unless-passes false r e = absurd (subst (λ (c : Check). T (passed c)) (sym e) tt)
 
 -- L chips at most in each group
-pub few-chips : (K : Part) (n : Chips) → check_chips K n ≡ Passed → (n.zero ≤ K.limit) × (n.one ≤ K.limit)
+pub few-chips : (K : Part) (n : Chips) → check_chips K n ≡ Ok tt → (n.zero ≤ K.limit) × (n.one ≤ K.limit)
 unfolding check_chips
 few-chips K n e =
     let few = both_true (leb n.zero K.limit) (leb n.one K.limit) (unless-passes _ ChipCount e) in
@@ -55,7 +55,7 @@ pub record Fits (K : Part) (n : Chips) (r : Both) (ram : List ℕ) : Type 0 wher
   pub columns : length ram ≡ K.columns * (n.zero + n.one)
   pub nibbles : Nibbles ram
 
-pub fits-of : (K : Part) (n : Chips) (r : Both) (ram : List ℕ) → check_state K n r ram ≡ Passed → Fits K n r ram
+pub fits-of : (K : Part) (n : Chips) (r : Both) (ram : List ℕ) → check_state K n r ram ≡ Ok tt → Fits K n r ram
 unfolding check_state check_registers check_ram
 fits-of K n r ram e =
     let s = both_pass (check_chips K n) _ e in
@@ -73,7 +73,7 @@ fits-of K n r ram e =
     }
 
 -- and back
-pub check-fits : (K : Part) (n : Chips) (r : Both) (ram : List ℕ) → Fits K n r ram → check_state K n r ram ≡ Passed
+pub check-fits : (K : Part) (n : Chips) (r : Both) (ram : List ℕ) → Fits K n r ram → check_state K n r ram ≡ Ok tt
 unfolding check_state check_chips check_registers check_ram
 check-fits K n r ram f =
     rw (le-leb n.zero K.limit f.zero-few, le-leb n.one K.limit f.one-few, in-range K r.zero f.zero_in, in-range K r.one f.one_in, eq-eqb (length ram) (K.columns * (n.zero + n.one)) f.columns)
@@ -86,30 +86,30 @@ power_on_in K pc =
     let four : 0 < 4 = omega arith in
     record { e-in = two; b-in = two; m-in = four; p-in = pc; a_in = zero-le; i-in = two; o-in = two; ab-in = two; bf-in = four; marks-in = record { high-in = two; low-in = two; device-in = two } }
 
-pub powered_passes : (K : Part) (n : Chips) (ram : List ℕ) → 0 < K.columns → check_power_on K n ram ≡ Passed
-    → check_state K n both_on ram ≡ Passed
+pub powered_passes : (K : Part) (n : Chips) (ram : List ℕ) → 0 < K.columns → check_power_on K n ram ≡ Ok tt
+    → check_state K n both_on ram ≡ Ok tt
 unfolding check_state check_power_on check_registers
 powered_passes K n ram pc e = rw (in-range K power_on (power_on_in K pc)) e
 
 -- ---- what a call that passed its checks may rely on
 
 -- 1, 2 and 19 of a transfer
-pub sent-passed : (t : Sent) → check_sent t ≡ Passed → (0 < length t.bytes) × (length t.bytes < 4097)
+pub sent-passed : (t : Sent) → check_sent t ≡ Ok tt → (0 < length t.bytes) × (length t.bytes < 4097)
 unfolding check_sent check_length
 sent-passed t e =
     let s = both_pass (check_length (length t.bytes)) _ e in
     let u = both_pass (unless (ltb 0 (length t.bytes)) EmptyTransfer) _ s.0 in
     (ltb-true 0 (length t.bytes) (unless-passes _ EmptyTransfer u.0), suc-le-suc (leb-true (length t.bytes) 4096 (unless-passes _ LongTransfer u.1)))
 
-pub transfer-passed : (K : Part) (n : Chips) (r : Both) (ram : List ℕ) (t : Sent) → check_transfer K n r ram t ≡ Passed
-    → (check_state K n r ram ≡ Passed) × ((0 < length t.bytes) × (length t.bytes < 4097))
+pub transfer-passed : (K : Part) (n : Chips) (r : Both) (ram : List ℕ) (t : Sent) → check_transfer K n r ram t ≡ Ok tt
+    → (check_state K n r ram ≡ Ok tt) × ((0 < length t.bytes) × (length t.bytes < 4097))
 unfolding check_transfer
 transfer-passed K n r ram t e =
     let s = both_pass (check_state K n r ram) _ e in
     (s.0, sent-passed t (both_pass (check_sent t) _ s.1).0)
 
-pub picture-passed : (K : Part) (n : Chips) (r : Both) (ram : List ℕ) (group phase size : ℕ) → check_picture K n r ram group phase size ≡ Passed
-    → (check_state K n r ram ≡ Passed) × (size ≡ K.columns * chips_in group n)
+pub picture-passed : (K : Part) (n : Chips) (r : Both) (ram : List ℕ) (group phase size : ℕ) → check_picture K n r ram group phase size ≡ Ok tt
+    → (check_state K n r ram ≡ Ok tt) × (size ≡ K.columns * chips_in group n)
 unfolding check_picture
 picture-passed K n r ram group phase size e =
     let s = both_pass (check_state K n r ram) _ e in
@@ -127,17 +127,17 @@ registers-in K c t =
     (both_true (in_range K c.registers) _ u.1).0
 
 -- where no chip is a misfit, all are in range
-pub all_in : (K : Part) (i : ℕ) (cs : List Chip) → misfit_in K i cs ≡ Passed → AllIn K cs
+pub all_in : (K : Part) (i : ℕ) (cs : List Chip) → misfit_in K i cs ≡ Ok tt → AllIn K cs
 unfolding misfit_in
 all_in K i [] e = tt
 all_in K i (c ∷ cs) e = by-test (chip_fits K c) refl (all_in K (suc i) cs) e
   where
-    by-test : (t : Bool) → chip_fits K c ≡ t → (misfit_in K (suc i) cs ≡ Passed → AllIn K cs) → cond t (misfit_in K (suc i) cs) (Refused (ChipField i)) ≡ Passed → AllIn K (c ∷ cs)
+    by-test : (t : Bool) → chip_fits K c ≡ t → (misfit_in K (suc i) cs ≡ Ok tt → AllIn K cs) → cond t (misfit_in K (suc i) cs) (Err (ChipField i)) ≡ Ok tt → AllIn K (c ∷ cs)
     by-test true f rest e = (registers-in K c f, rest e)
     by-test false f rest e = absurd (subst (λ (k : Check). T (passed k)) (sym e) tt)
 
 -- and so has one whose picture is taken, into a buffer of its columns
-pub chip-picture-passed : (K : Part) (c : Chip) (phase size : ℕ) → check_chip_picture K c phase size ≡ Passed → (in_range K c.registers ≡ true) × (size ≡ K.columns)
+pub chip-picture-passed : (K : Part) (c : Chip) (phase size : ℕ) → check_chip_picture K c phase size ≡ Ok tt → (in_range K c.registers ≡ true) × (size ≡ K.columns)
 unfolding check_chip_picture
 chip-picture-passed K c phase size e =
     let s = both_pass (unless (chip_fits K c) (ChipField 0)) _ e in

@@ -11,10 +11,8 @@ use borrow.Author.Tests.{eqb-true}
 use Rattle.lemmas.proofs.Tests.{both_true}
 use Rattle.sheet.specs.declared.Both.{Both}
 use Rattle.sheet.specs.declared.Chips.{Chips}
-use Rattle.sheet.specs.declared.Check.{Check}
-use Rattle.sheet.specs.declared.Check.TheVariants.{Passed, Refused}
-use Rattle.sheet.specs.declared.Addressed.{Addressed}
-use Rattle.sheet.specs.declared.Addressed.TheVariants.{To, Nobody}
+use Rattle.std.specs.Prelude.{Err, None, Ok, Some}
+use Rattle.sheet.specs.Results.{Check, Addressed}
 use Rattle.sheet.specs.declared.Kind.{Kind}
 use Rattle.sheet.specs.declared.Expect.{Expect}
 use Rattle.sheet.specs.declared.Expect.TheVariants.{Control, One, All}
@@ -47,8 +45,8 @@ length-heard K e (x ∷ xs) s = length-heard K (next e x) xs (byte K e x s) ∙ 
 -- ---- who hears byte 0: a group whose address it is
 
 abbrev pub Calls : ℕ → Addressed → Type 0
-Calls x (To g) = (g < 2) × (x ≡ address_of g)
-Calls x Nobody = Unit {0}
+Calls x (Some g) = (g < 2) × (x ≡ address_of g)
+Calls x None = Unit {0}
 
 pub calls : (n : Chips) (x : ℕ) → Calls x (heard_by n x)
 unfolding heard_by
@@ -57,7 +55,7 @@ calls n x = go (eqb x (address_of 0) && ltb 0 n.zero) (eqb x (address_of 1) && l
     is : (g k : ℕ) → (eqb x (address_of g) && ltb 0 k) ≡ true → x ≡ address_of g
     is g k e = eqb-true x (address_of g) (both_true (eqb x (address_of g)) (ltb 0 k) e).0
 
-    go : (t u : Bool) → (t ≡ true → x ≡ address_of 0) → (u ≡ true → x ≡ address_of 1) → Calls x (cond t (To 0) (cond u (To 1) Nobody))
+    go : (t u : Bool) → (t ≡ true → x ≡ address_of 0) → (u ≡ true → x ≡ address_of 1) → Calls x (cond t (Some 0) (cond u (Some 1) None))
     go true u hz ho = (omega arith, hz refl)
     go false true hz ho = (omega arith, ho refl)
     go false false hz ho = tt
@@ -65,7 +63,7 @@ calls n x = go (eqb x (address_of 0) && ltb 0 n.zero) (eqb x (address_of 1) && l
 -- ---- what holds of a state that fits and a transfer that is taken holds of the call
 
 module _ (K : Part) (n : Chips) (r : Both) (ram : List ℕ) (t : Sent) where
-  fitting : check_transfer K n r ram t ≡ Passed → Fits K n r ram
+  fitting : check_transfer K n r ram t ≡ Ok tt → Fits K n r ram
   unfolding check_transfer
   fitting e = fits-of K n r ram (both_pass (check_state K n r ram) _ e).0
 
@@ -74,9 +72,9 @@ module _ (K : Part) (n : Chips) (r : Both) (ram : List ℕ) (t : Sent) where
   unfolding transfer_call
   of-call P same took = go (check_transfer K n r ram t) fitting
     where
-      go : (k : Check) → (k ≡ Passed → Fits K n r ram) → P (answered k r ram (taken K n r ram t (heard_by n (address_byte t))))
-      go Passed fits = took (fits refl)
-      go (Refused x) fits = same _ refl refl
+      go : (k : Check) → (k ≡ Ok tt → Fits K n r ram) → P (answered k r ram (taken K n r ram t (heard_by n (address_byte t))))
+      go (Ok _) fits = took (fits refl)
+      go (Err x) fits = same _ refl refl
 
 -- group h after a call is as it was
 pub record Stays (K : Part) (n : Chips) (h : ℕ) (r : Both) (ram : List ℕ) (a : After) : Type 0 where
@@ -93,13 +91,13 @@ length-after K n r ram t f g = length-heard K Control (drop 1 (whole_of t)) (beg
 module _ (K : Part) (n : Chips) (r : Both) (ram : List ℕ) (t : Sent) (h : ℕ) (ph : h < 2) where
   -- by who hears
   pub stays_by : Fits K n r ram → (to : Addressed) → Calls (address_byte t) to → (address_byte t ≡ address_of h → ⊥) → Stays K n h r ram (taken K n r ram t to)
-  stays_by f (To g) c other =
+  stays_by f (Some g) c other =
       let ne : g ≡ h → ⊥ = λ e. other (c.1 ∙ (λ j. address_of (e j))) in
       record {
         registers = other-registers g h c.0 ph ne (group_after K n r ram t g).registers r;
         columns = other-columns K n r ram f g h c.0 ph ne (group_after K n r ram t g).ram (length-after K n r ram t f g);
       }
-  stays_by f Nobody c other = record { registers = refl; columns = refl }
+  stays_by f None c other = record { registers = refl; columns = refl }
 
   -- the law
   pub stays : (address_byte t ≡ address_of h → ⊥) → Stays K n h r ram (transfer_call K n r ram t)

@@ -9,10 +9,8 @@ use lib.Dec.{eqb}
 use lib.ListN.{length, take, drop}
 use Rattle.sheet.specs.declared.Both.{Both}
 use Rattle.sheet.specs.declared.Chips.{Chips}
-use Rattle.sheet.specs.declared.Addressed.{Addressed}
-use Rattle.sheet.specs.declared.Addressed.TheVariants.{To, Nobody}
-use Rattle.sheet.specs.declared.Check.{Check}
-use Rattle.sheet.specs.declared.Check.TheVariants.{Passed, Refused}
+use Rattle.std.specs.Prelude.{Err, None, Ok, Some}
+use Rattle.sheet.specs.Results.{Addressed, Check}
 use Rattle.sheet.specs.declared.Refusal.TheVariants.{RamLength}
 use Rattle.sheet.specs.Parts.{Part, part_of}
 use Rattle.sheet.specs.Registers.{registers_of}
@@ -39,7 +37,7 @@ module _ (K : Part) (keeps : Keeps K) (even : K.columns ≡ 2 * (K.columns / 2))
 
   -- what a group that hears leaves has as many columns as before, all below 16
   module _ (n : Chips) (r : Both) (ram : List ℕ) (t : Sent) where
-    heard_packs : Fits K n r (unpacked ram) → (g : ℕ) → let after = (taken K n r (unpacked ram) t (To g)).ram in unpacked (packed after) ≡ after
+    heard_packs : Fits K n r (unpacked ram) → (g : ℕ) → let after = (taken K n r (unpacked ram) t (Some g)).ram in unpacked (packed after) ≡ after
     heard_packs f g =
         let columns = unpacked ram in
         let before = begun (registers_of g r) (columns_of K n g columns) in
@@ -50,16 +48,16 @@ module _ (K : Part) (keeps : Keeps K) (even : K.columns ≡ 2 * (K.columns / 2))
         (join_nibbles (take (start_of K n g) columns) (own ++ rest) (take-nibbles (start_of K n g) columns f.nibbles) (join_nibbles own rest kept.nibbles (drop-nibbles (end_of K n g) columns f.nibbles)))
 
     taken_packs : Fits K n r (unpacked ram) → (to : Addressed) → let after = (taken K n r (unpacked ram) t to).ram in unpacked (packed after) ≡ after
-    taken_packs f (To g) = heard_packs f g
-    taken_packs f Nobody = ap unpacked (packed-unpacked ram)
+    taken_packs f (Some g) = heard_packs f g
+    taken_packs f None = ap unpacked (packed-unpacked ram)
 
     result : unpacked (packed (transfer_call K n r (unpacked ram) t).ram) ≡ (transfer_call K n r (unpacked ram) t).ram
     unfolding transfer_call
     result = go (check_transfer K n r (unpacked ram) t) refl
       where
         go : (k : Check) → check_transfer K n r (unpacked ram) t ≡ k → let after = (answered k r (unpacked ram) (taken K n r (unpacked ram) t (heard_by n (address_byte t)))).ram in unpacked (packed after) ≡ after
-        go Passed e = taken_packs (fits-of K n r (unpacked ram) (transfer-passed K n r (unpacked ram) t e).0) (heard_by n (address_byte t))
-        go (Refused x) e = ap unpacked (packed-unpacked ram)
+        go (Ok _) e = taken_packs (fits-of K n r (unpacked ram) (transfer-passed K n r (unpacked ram) t e).0) (heard_by n (address_byte t))
+        go (Err x) e = ap unpacked (packed-unpacked ram)
 
   pub halves : Halves K
   halves = record { checked = checked; back = packed-unpacked; result = result }

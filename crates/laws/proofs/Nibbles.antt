@@ -12,8 +12,8 @@ use lib.Seq.{get_or-drop}
 use lib.Arith.{digits_lt}
 use lib.Pow.{shr_lt, pow_pos, pow-add}
 use borrow.Author.Tests.{le-ltb, ltb-false}
-use Rattle.sheet.specs.declared.Check.{Check}
-use Rattle.sheet.specs.declared.Check.TheVariants.{Passed, Refused}
+use Rattle.std.specs.Prelude.{Err, Ok}
+use Rattle.sheet.specs.Results.{Check}
 use Rattle.sheet.specs.declared.Refusal.{Refusal}
 use Rattle.sheet.specs.Checks.{over_in, passed}
 use Rattle.sheet.specs.Data.{bit_of, with_row, changed, put_bits, width_of}
@@ -26,17 +26,17 @@ Nibbles ram = (i : ℕ) → get_or ram i 0 < 16
 
 -- ---- the check
 
-pub check-nibbles : (i : ℕ) (ram : List ℕ) → Nibbles ram → over_in i ram ≡ Passed
+pub check-nibbles : (i : ℕ) (ram : List ℕ) → Nibbles ram → over_in i ram ≡ Ok tt
 unfolding over_in
 check-nibbles i [] w = refl
 check-nibbles i (q ∷ qs) w = rw (le-ltb 15 q (omega (arith, w 0))) (check-nibbles (suc i) qs (λ j. w (suc j)))
 
 -- the first column and the others of a RAM that passes
-first_passes : (t : Bool) (r : Refusal) (k : Check) → cond t (Refused r) k ≡ Passed → (t ≡ false) × (k ≡ Passed)
+first_passes : (t : Bool) (r : Refusal) (k : Check) → cond t (Err r) k ≡ Ok tt → (t ≡ false) × (k ≡ Ok tt)
 first_passes true r k e = absurd (subst (λ (c : Check). T (passed c)) (sym e) tt)
 first_passes false r k e = (refl, e)
 
-pub nibbles-of : (i : ℕ) (ram : List ℕ) → over_in i ram ≡ Passed → Nibbles ram
+pub nibbles-of : (i : ℕ) (ram : List ℕ) → over_in i ram ≡ Ok tt → Nibbles ram
 unfolding over_in
 nibbles-of i [] e j = omega arith
 nibbles-of i (q ∷ qs) e zero = suc-le-suc (ltb-false 15 q (first_passes (ltb 15 q) _ _ e).0)

@@ -14,7 +14,7 @@ use lib.Pow.{shr_lt}
 use borrow.Author.Tests.{eq-eqb, ne_eqb}
 use Rattle.lemmas.proofs.Order.{equal_or_not}
 use Rattle.sheet.specs.declared.Chips.{Chips}
-use Rattle.sheet.specs.declared.Check.TheVariants.{Passed}
+use Rattle.std.specs.Prelude.{Ok}
 use Rattle.sheet.specs.Parts.{Part}
 use Rattle.sheet.specs.Protocol.{chips_in}
 use Rattle.sheet.specs.Checks.{over_in}
@@ -125,7 +125,7 @@ unpacked-nibbles (x ∷ xs) w zero = mod-lt x {m = 16} (omega arith)
 unpacked-nibbles (x ∷ xs) w (suc zero) = shr_lt 4 4 (w 0)
 unpacked-nibbles (x ∷ xs) w (suc (suc i)) = unpacked-nibbles xs (λ j. w (suc j)) i
 
-pub never-over : (xs : List ℕ) → Bytes xs → over_in 0 (unpacked xs) ≡ Passed
+pub never-over : (xs : List ℕ) → Bytes xs → over_in 0 (unpacked xs) ≡ Ok tt
 never-over xs w = check-nibbles 0 (unpacked xs) (unpacked-nibbles xs w)
 
 -- ---- and 4 means half the columns, of which a part has an even number

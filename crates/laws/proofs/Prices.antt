@@ -13,10 +13,8 @@ use borrow.Author.Tests.{lt-ltb, le-ltb, ltb-true, ne_eqb, eqb-true, eqb-false, 
 use Rattle.lemmas.proofs.Tests.{both_true, all, all-at}
 use Rattle.price_sheet.specs.declared.Symbol.{Symbol}
 use Rattle.price_sheet.specs.declared.Symbol.TheVariants.{Digit, Pointed, Space, Minus, LongMinus}
-use Rattle.price_sheet.specs.declared.Found.{Found}
-use Rattle.sheet.specs.declared.Written.{Written}
-use Rattle.sheet.specs.declared.Check.{Check}
-use Rattle.sheet.specs.declared.Check.TheVariants.{Passed, Refused}
+use Rattle.std.specs.Prelude.{Err, None, Ok, Option, Some}
+use Rattle.sheet.specs.Results.{Written, Check}
 use Rattle.sheet.specs.Parts.{within}
 use Rattle.sheet.specs.Checks.{or_else, passed}
 use Rattle.sheet.specs.Written.{written_by}
@@ -42,14 +40,14 @@ same_byte mode k j false false e f same test = absurd (eqb-false (byte_of mode (
 
 -- the symbol of number k is found below any n over it
 found-by : (mode k n : ℕ) (t : Bool) → mode < 4 → k < 22 → n < 22 → eqb (byte_of mode (shown_as k)) (byte_of mode (shown_as n)) ≡ t
-    → (k ≢ n → shown_below n mode (byte_of mode (shown_as k)) ≡ Found.Symbol (shown_as k))
-    → cond t (Found.Symbol (shown_as n)) (shown_below n mode (byte_of mode (shown_as k))) ≡ Found.Symbol (shown_as k)
+    → (k ≢ n → shown_below n mode (byte_of mode (shown_as k)) ≡ Some (shown_as k))
+    → cond t (Some (shown_as n)) (shown_below n mode (byte_of mode (shown_as k))) ≡ Some (shown_as k)
 found-by mode k n true hm hk hn e others =
-    ap (λ (j : ℕ). Found.Symbol (shown_as j))
+    ap (λ (j : ℕ). Some (shown_as j))
     (sym (same_byte mode k n (eqb k n) (eqb (byte_of mode (shown_as k)) (byte_of mode (shown_as n))) refl refl (eqb-true (byte_of mode (shown_as k)) (byte_of mode (shown_as n)) e) (all_apart mode k n hm hk hn)))
 found-by mode k n false hm hk hn e others = others (λ same. eqb-false (byte_of mode (shown_as k)) (byte_of mode (shown_as n)) e (ap (λ (j : ℕ). byte_of mode (shown_as j)) same))
 
-found : (mode k n : ℕ) → mode < 4 → k < n → n ≤ 22 → shown_below n mode (byte_of mode (shown_as k)) ≡ Found.Symbol (shown_as k)
+found : (mode k n : ℕ) → mode < 4 → k < n → n ≤ 22 → shown_below n mode (byte_of mode (shown_as k)) ≡ Some (shown_as k)
 unfolding shown_below
 found mode k zero hm hk hn = absurd (omega arith)
 found mode k (suc n) hm hk hn =
@@ -87,10 +85,10 @@ plain_byte mode Space = refl
 plain_byte mode Minus = refl
 plain_byte mode LongMinus = refl
 
-shown-back : (mode : ℕ) (s : Symbol) → mode < 4 → is_symbol s ≡ true → shown mode (byte_of mode s) ≡ Found.Symbol (plain s)
+shown-back : (mode : ℕ) (s : Symbol) → mode < 4 → is_symbol s ≡ true → shown mode (byte_of mode s) ≡ Some (plain s)
 shown-back mode s h e =
     let r = ranked s e in
-    ap (shown mode) (plain_byte mode s ∙ ap (byte_of mode) (sym r.is)) ∙ found mode (rank s) 22 h r.low (omega arith) ∙ ap (λ (t : Symbol). Found.Symbol t) r.is
+    ap (shown mode) (plain_byte mode s ∙ ap (byte_of mode) (sym r.is)) ∙ found mode (rank s) 22 h r.low (omega arith) ∙ ap (λ (t : Symbol). Some t) r.is
 
 pub bytes : (mode : ℕ) → mode < 4 → Bytes mode
 bytes mode h = record { read = λ x s e. ((shown-is mode x s e).is.symbol, (shown-is mode x s e).byte); written = λ s e. shown-back mode s h e }
@@ -101,21 +99,21 @@ unfolding read_from
 read-symbols mode at [] h e = refl
 read-symbols mode at (s ∷ ss) h e =
     let both = both_true (is_symbol s) (are_symbols ss) e in
-    ap₂ (λ (f : Found) (p : Spelled). and_then at f p) (shown-back mode s h both.0) (read-symbols mode (suc at) ss h both.1)
+    ap₂ (λ (f : Option Symbol) (p : Spelled). and_then at f p) (shown-back mode s h both.0) (read-symbols mode (suc at) ss h both.1)
 
 -- what bytes show has those bytes, and is symbols
 record Shows (mode : ℕ) (segments : List ℕ) (p : Spelled) : Type 0 where
   are : are_symbols p.symbols ≡ true
-  back : p.fault ≡ Passed → map (byte_of mode) p.symbols ≡ segments
+  back : p.fault ≡ Ok tt → map (byte_of mode) p.symbols ≡ segments
 
-refused-passed : {A : Type 0} {k : Check} → k ≡ Passed → T (cond (passed k) false true) → A
+refused-passed : {A : Type 0} {k : Check} → k ≡ Ok tt → T (cond (passed k) false true) → A
 refused-passed e t = absurd (subst (λ (k : Check). T (cond (passed k) false true)) e t)
 
-shows-after : (mode at x : ℕ) (rest : List ℕ) (f : Found) (p : Spelled) → shown mode x ≡ f → Shows mode rest p → Shows mode (x ∷ rest) (and_then at f p)
-shows-after mode at x rest (Found.Symbol s) p e h =
+shows-after : (mode at x : ℕ) (rest : List ℕ) (f : Option Symbol) (p : Spelled) → shown mode x ≡ f → Shows mode rest p → Shows mode (x ∷ rest) (and_then at f p)
+shows-after mode at x rest (Some s) p e h =
     let is = shown-is mode x s e in
     record { are = rw is.is.symbol h.are; back = λ ok. ap₂ (λ (b : ℕ) (l : List ℕ). b ∷ l) is.byte (h.back ok) }
-shows-after mode at x rest Found.None p e h = record { are = refl; back = λ ok. refused-passed ok tt }
+shows-after mode at x rest None p e h = record { are = refl; back = λ ok. refused-passed ok tt }
 
 shows : (mode at : ℕ) (segments : List ℕ) → Shows mode segments (read_from mode at segments)
 unfolding read_from
@@ -137,11 +135,11 @@ digit-begins : (n : ℕ) → n < 10 → within 48 57 (48 + n) ≡ true
 unfolding within
 digit-begins n h = rw (le-leb 48 (48 + n) (omega arith), le-leb (48 + n) 57 (omega arith)) refl
 
-begun-digit : (n y z : ℕ) → n < 10 → eqb y 0x2E ≡ false → begun (48 + n) y z ≡ Found.Symbol (Digit n)
+begun-digit : (n y z : ℕ) → n < 10 → eqb y 0x2E ≡ false → begun (48 + n) y z ≡ Some (Digit n)
 unfolding begun
 begun-digit n y z h e = let back : 48 + n - 48 ≡ n = omega arith in rw (digit-begins n h, e, back) refl
 
-begun_pointed : (n z : ℕ) → n < 10 → begun (48 + n) 0x2E z ≡ Found.Symbol (Pointed n)
+begun_pointed : (n z : ℕ) → n < 10 → begun (48 + n) 0x2E z ≡ Some (Pointed n)
 unfolding begun
 begun_pointed n z h = let back : 48 + n - 48 ≡ n = omega arith in rw (digit-begins n h, back) refl
 
@@ -150,15 +148,15 @@ unfolding spelled_from begun within
 spell at [] e = refl
 spell at (Digit n ∷ ss) e =
     let both = both_true (ltb n 10) (are_symbols ss) e in
-    ap (λ (f : Found). and_then at f (spelled_from (suc at) (more_of f) (texts_of ss))) (begun-digit n (get_or (texts_of ss) 0 0) (get_or (texts_of ss) 1 0) (ltb-true n 10 both.0) (no_point ss))
-    ∙ ap (and_then at (Found.Symbol (Digit n))) (spell (suc at) ss both.1)
+    ap (λ (f : Option Symbol). and_then at f (spelled_from (suc at) (more_of f) (texts_of ss))) (begun-digit n (get_or (texts_of ss) 0 0) (get_or (texts_of ss) 1 0) (ltb-true n 10 both.0) (no_point ss))
+    ∙ ap (and_then at (Some (Digit n))) (spell (suc at) ss both.1)
 spell at (Pointed n ∷ ss) e =
     let both = both_true (ltb n 10) (are_symbols ss) e in
-    ap (λ (f : Found). and_then at f (spelled_from (suc at) (more_of f) (0x2E ∷ texts_of ss))) (begun_pointed n (get_or (texts_of ss) 0 0) (ltb-true n 10 both.0))
-    ∙ ap (and_then at (Found.Symbol (Pointed n))) (spell (suc (suc at)) ss both.1)
-spell at (Space ∷ ss) e = ap (and_then at (Found.Symbol Space)) (spell (suc at) ss e)
-spell at (Minus ∷ ss) e = ap (and_then at (Found.Symbol Minus)) (spell (suc at) ss e)
-spell at (LongMinus ∷ ss) e = ap (and_then at (Found.Symbol LongMinus)) (spell (suc (suc (suc at))) ss e)
+    ap (λ (f : Option Symbol). and_then at f (spelled_from (suc at) (more_of f) (0x2E ∷ texts_of ss))) (begun_pointed n (get_or (texts_of ss) 0 0) (ltb-true n 10 both.0))
+    ∙ ap (and_then at (Some (Pointed n))) (spell (suc (suc at)) ss both.1)
+spell at (Space ∷ ss) e = ap (and_then at (Some Space)) (spell (suc at) ss e)
+spell at (Minus ∷ ss) e = ap (and_then at (Some Minus)) (spell (suc at) ss e)
+spell at (LongMinus ∷ ss) e = ap (and_then at (Some LongMinus)) (spell (suc (suc (suc at))) ss e)
 
 -- bytes that are not 0 are there
 one-there : (rest : List ℕ) (j : ℕ) → 0 < j → get_or rest 0 0 ≡ j → rest ≡ j ∷ drop 1 rest
@@ -176,7 +174,7 @@ Front x rest s = x ∷ rest ≡ text_of s ++ drop (length (text_of s) - 1) rest
 
 front_by : (x : ℕ) (rest : List ℕ) (s : Symbol) (t₁ t₂ t₃ t₄ t₅ : Bool) → within 48 57 x ≡ t₁ → eqb (get_or rest 0 0) 0x2E ≡ t₂ → eqb x 0x20 ≡ t₃ → eqb x 0x2D ≡ t₄
     → (eqb x 0xE2 && (eqb (get_or rest 0 0) 0x88 && eqb (get_or rest 1 0) 0x92)) ≡ t₅
-    → cond t₁ (cond t₂ (Found.Symbol (Pointed (x - 48))) (Found.Symbol (Digit (x - 48)))) (cond t₃ (Found.Symbol Space) (cond t₄ (Found.Symbol Minus) (cond t₅ (Found.Symbol LongMinus) Found.None))) ≡ Found.Symbol s
+    → cond t₁ (cond t₂ (Some (Pointed (x - 48))) (Some (Digit (x - 48)))) (cond t₃ (Some Space) (cond t₄ (Some Minus) (cond t₅ (Some LongMinus) None))) ≡ Some s
     → Front x rest s
 unfolding within
 front_by x rest s true true t₃ t₄ t₅ a b c d e is =
@@ -194,7 +192,7 @@ front_by x rest s false t₂ false false true a b c d e is =
     (ap₂ (λ (k : ℕ) (r : List ℕ). k ∷ r) (eqb-true x 0xE2 both.0) (two-there rest 0x88 0x92 (omega arith) (omega arith) (eqb-true (get_or rest 0 0) 0x88 others.0) (eqb-true (get_or rest 1 0) 0x92 others.1)))
 front_by x rest s false t₂ false false false a b c d e is = nothing s is
 
-front : (x : ℕ) (rest : List ℕ) (s : Symbol) → begun_at 0 (x ∷ rest) ≡ Found.Symbol s → Front x rest s
+front : (x : ℕ) (rest : List ℕ) (s : Symbol) → begun_at 0 (x ∷ rest) ≡ Some s → Front x rest s
 unfolding begun
 front x rest s e =
     front_by x rest s (within 48 57 x) (eqb (get_or rest 0 0) 0x2E) (eqb x 0x20) (eqb x 0x2D) (eqb x 0xE2 && (eqb (get_or rest 0 0) 0x88 && eqb (get_or rest 1 0) 0x92)) refl refl refl refl refl e
@@ -202,13 +200,13 @@ front x rest s e =
 -- a text from a place on is its symbols' texts
 record Texts (rest : List ℕ) (p : Spelled) : Type 0 where
   are : are_symbols p.symbols ≡ true
-  texts : p.fault ≡ Passed → rest ≡ texts_of p.symbols
+  texts : p.fault ≡ Ok tt → rest ≡ texts_of p.symbols
 
-texts-after : (at x : ℕ) (rest : List ℕ) (f : Found) → begun_at 0 (x ∷ rest) ≡ f → ((k : ℕ) → Texts (drop k rest) (spelled_from (suc at) k rest)) → Texts (x ∷ rest) (and_then at f (spelled_from (suc at) (more_of f) rest))
-texts-after at x rest (Found.Symbol s) e h =
+texts-after : (at x : ℕ) (rest : List ℕ) (f : Option Symbol) → begun_at 0 (x ∷ rest) ≡ f → ((k : ℕ) → Texts (drop k rest) (spelled_from (suc at) k rest)) → Texts (x ∷ rest) (and_then at f (spelled_from (suc at) (more_of f) rest))
+texts-after at x rest (Some s) e h =
     let t = h (length (text_of s) - 1) in
     record { are = rw (begun-symbol x (get_or rest 0 0) (get_or rest 1 0) s e) t.are; texts = λ ok. front x rest s e ∙ ap (λ (l : List ℕ). text_of s ++ l) (t.texts ok) }
-texts-after at x rest Found.None e h = record { are = refl; texts = λ ok. refused-passed ok tt }
+texts-after at x rest None e h = record { are = refl; texts = λ ok. refused-passed ok tt }
 
 texts-from : (at left : ℕ) (text : List ℕ) → Texts (drop left text) (spelled_from at left text)
 unfolding spelled_from
@@ -223,30 +221,30 @@ grammar = record { spelled_back = λ ss e. spell 0 ss e; its-texts = λ text ok.
 -- ---- the calls
 
 abbrev bytes-in : Written → ℕ
-bytes-in (Written.Bytes n) = n
-bytes-in (Written.Refused x) = 0
+bytes-in (Ok n) = n
+bytes-in (Err x) = 0
 
 abbrev is-bytes : Written → Bool
-is-bytes (Written.Bytes n) = true
-is-bytes (Written.Refused x) = false
+is-bytes (Ok n) = true
+is-bytes (Err x) = false
 
 -- a call that wrote passed its checks, and its bytes are at the output's start
 record Wrote (k : Check) (bytes out : List ℕ) (size : ℕ) : Type 0 where
-  passes : k ≡ Passed
+  passes : k ≡ Ok tt
   long : size ≡ length bytes
   start : take size (written_by k bytes out).out ≡ bytes
 
-wrote : (k : Check) (bytes out : List ℕ) (size : ℕ) → (written_by k bytes out).result ≡ Written.Bytes size → Wrote k bytes out size
-wrote Passed bytes out size e =
+wrote : (k : Check) (bytes out : List ℕ) (size : ℕ) → (written_by k bytes out).result ≡ Ok size → Wrote k bytes out size
+wrote (Ok tt) bytes out size e =
     let long : size ≡ length bytes = sym (ap bytes-in e) in record { passes = refl; long = long; start = take_at bytes (drop (length bytes) out) size (sym long) }
-wrote (Refused x) bytes out size e = absurd (subst (λ (w : Written). T (is-bytes w)) (sym e) tt)
+wrote (Err x) bytes out size e = absurd (subst (λ (w : Written). T (is-bytes w)) (sym e) tt)
 
-both-passed : (a b : Check) → or_else a b ≡ Passed → (a ≡ Passed) × (b ≡ Passed)
-both-passed Passed b e = (refl, e)
-both-passed (Refused x) b e = refused-passed e tt
+both-passed : (a b : Check) → or_else a b ≡ Ok tt → (a ≡ Ok tt) × (b ≡ Ok tt)
+both-passed (Ok _) b e = (refl, e)
+both-passed (Err x) b e = refused-passed e tt
 
 -- what fits passes
-passes : (size mode room out : ℕ) → Sizes size mode room out → check_price size mode room out ≡ Passed
+passes : (size mode room out : ℕ) → Sizes size mode room out → check_price size mode room out ≡ Ok tt
 unfolding check_price
 passes size mode room out s = rw (le-leb size 80 s.bytes, lt-ltb mode 4 s.four, le-leb room out s.enough) refl
 

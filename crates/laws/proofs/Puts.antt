@@ -13,10 +13,9 @@ use borrow.Author.Tests.{ne_eqb}
 use Rattle.sheet.specs.declared.Registers.{Registers}
 use Rattle.sheet.specs.declared.Both.{Both}
 use Rattle.sheet.specs.declared.Chips.{Chips}
-use Rattle.sheet.specs.declared.Acknowledger.{Acknowledger}
-use Rattle.sheet.specs.declared.Answer.{Answer}
+use Rattle.std.specs.Prelude.{None, Ok}
+use Rattle.sheet.specs.Results.{Acknowledger, Answer}
 use Rattle.sheet.specs.declared.Command.TheVariants.{ModeSet, BankSelect}
-use Rattle.sheet.specs.declared.Check.TheVariants.{Passed}
 use Rattle.sheet.specs.Parts.{Part, part_of}
 use Rattle.sheet.specs.Registers.{backplanes, bank_row, registers_of}
 use Rattle.sheet.specs.Commands.{defined, obeyed, obeyed_all, all_defined}
@@ -78,8 +77,8 @@ length-rows K n r g mode bank wanted some =
 
 -- ---- the law
 
-module _ (K : Part) (u : Settable K) (n : Chips) (r : Both) (ram : List ℕ) (g mode bank : ℕ) (wanted : List ℕ) (es : check_state K n r ram ≡ Passed)
-    (ew : check_wanted K n r g mode bank wanted ≡ Passed) (some : 0 < chips_in g n) where
+module _ (K : Part) (u : Settable K) (n : Chips) (r : Both) (ram : List ℕ) (g mode bank : ℕ) (wanted : List ℕ) (es : check_state K n r ram ≡ Ok tt)
+    (ew : check_wanted K n r g mode bank wanted ≡ Ok tt) (some : 0 < chips_in g n) where
   abbrev own : Registers
   own = registers_of g r
 
@@ -150,13 +149,14 @@ module _ (K : Part) (u : Settable K) (n : Chips) (r : Both) (ram : List ℕ) (g 
         refl few
         ∙ ap (heard_in K n g r ram) (run-at-once K rows (ready K n r ram g commands s) u.columns zero-le few-columns)
 
-    answers : called.result.answer ≡ Answer.Taken (put_counts m (length wanted) (length bytes)) (put_last m (length wanted) (chips_in g n))
+    answers : called.result.answer ≡ Ok (record { counts = put_counts m (length wanted) (length bytes); last = put_last m (length wanted) (chips_in g n) })
     answers =
         (λ i. (is-called i).result.answer)
-        ∙ (λ i. Answer.Taken
-        (counted_run (length_data_rows i) m (at_zero i) (as_many i) (record { acknowledged = 0 + 1 + 2 * length commands + 1; stored = 0; discarded = 0 }))
-        (last_run K (length_data_rows i) m (at_zero i) (as_many i) Acknowledger.None))
-        ∙ ap₂ Answer.Taken
+        ∙ (λ i. Ok (record {
+          counts = counted_run (length_data_rows i) m (at_zero i) (as_many i) (record { acknowledged = 0 + 1 + 2 * length commands + 1; stored = 0; discarded = 0 });
+          last = last_run K (length_data_rows i) m (at_zero i) (as_many i) None;
+        }))
+        ∙ ap₂ (λ (t : Counts) (l : Acknowledger). Ok (record { counts = t; last = l }))
         (run-counts m (length wanted) (planes_pos s) (0 + 1 + 2 * length commands + 1) ∙ ap (put_counts m (length wanted)) length-bytes)
         (run-last m (length wanted) (planes_pos s) K (chips_in g n) u.columns some asked.columns)
 
@@ -233,8 +233,8 @@ part-writes-rows part = writes-rows (part_of part) (part_settable part)
 short : (part m size : ℕ) → size ≤ 640 → 8 + 2 * length ((part_of part).pointer 0) + bytes_for m size ≤ 4096
 short part m size h = omega (arith, (pointer-bytes part).1, div-le_self (size + (width_of m - 1)) (width_of m), div-le_self 7 m)
 
-pub part-puts : (part : ℕ) (n : Chips) (r : Both) (ram : List ℕ) (g mode bank : ℕ) (wanted : List ℕ) → check_state (part_of part) n r ram ≡ Passed
-    → check_wanted (part_of part) n r g mode bank wanted ≡ Passed → 0 < chips_in g n
+pub part-puts : (part : ℕ) (n : Chips) (r : Both) (ram : List ℕ) (g mode bank : ℕ) (wanted : List ℕ) → check_state (part_of part) n r ram ≡ Ok tt
+    → check_wanted (part_of part) n r g mode bank wanted ≡ Ok tt → 0 < chips_in g n
     → let s = set_to mode bank (registers_of g r) in
     let transfer = rows_transfer (part_of part) n r g mode bank wanted in
     Puts (part_of part) n r ram g mode bank wanted (backplanes s) (bank_row (backplanes s) bank) transfer (transfer_call (part_of part) n r ram (whole transfer))

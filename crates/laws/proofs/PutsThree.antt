@@ -11,10 +11,10 @@ use borrow.Author.Tests.{ne_eqb}
 use Rattle.sheet.specs.declared.Registers.{Registers}
 use Rattle.sheet.specs.declared.Both.{Both}
 use Rattle.sheet.specs.declared.Chips.{Chips}
-use Rattle.sheet.specs.declared.Answer.{Answer}
+use Rattle.std.specs.Prelude.{Ok}
+use Rattle.sheet.specs.Results.{Answer}
 use Rattle.sheet.specs.declared.Command.TheVariants.{ModeSet}
 use Rattle.sheet.specs.declared.Expect.TheVariants.{Control}
-use Rattle.sheet.specs.declared.Check.TheVariants.{Passed}
 use Rattle.sheet.specs.Parts.{Part, part_of}
 use Rattle.sheet.specs.Registers.{registers_of}
 use Rattle.sheet.specs.Commands.{defined, obeyed, obeyed_all}
@@ -43,8 +43,8 @@ pub is-three : (K : Part) (n : Chips) (r : Both) (g : ℕ) (wanted : List ℕ) �
 unfolding three_transfer
 is-three K n r g wanted some = rw (ne_eqb (chips_in g n) 0 (omega arith))
 
-module _ (K : Part) (u : Settable K) (even : K.columns % 2 ≡ 0) (n : Chips) (r : Both) (ram : List ℕ) (g : ℕ) (wanted : List ℕ) (es : check_state K n r ram ≡ Passed)
-    (ew : check_wanted K n r g 3 0 wanted ≡ Passed) (some : 0 < chips_in g n) where
+module _ (K : Part) (u : Settable K) (even : K.columns % 2 ≡ 0) (n : Chips) (r : Both) (ram : List ℕ) (g : ℕ) (wanted : List ℕ) (es : check_state K n r ram ≡ Ok tt)
+    (ew : check_wanted K n r g 3 0 wanted ≡ Ok tt) (some : 0 < chips_in g n) where
   abbrev own : Registers
   own = registers_of g r
 
@@ -89,7 +89,7 @@ module _ (K : Part) (u : Settable K) (even : K.columns % 2 ≡ 0) (n : Chips) (r
   is-mode : K.command (mode_set_of own 3) ≡ ModeSet (record { e = own.e; b = own.b; m = 3 })
   is-mode = u.mode-set own.e own.b 3 asked.own_in.e-in asked.own_in.b-in (omega arith)
 
-  clean : fault_in K false own.unknown Control 1 bytes ≡ Passed
+  clean : fault_in K false own.unknown Control 1 bytes ≡ Ok tt
   clean =
       fault-commands K mode (pairs_from K N 0 wanted) own 1 (λ i. defined (is-mode i) && true)
       ∙ fault-all K u wanted N 0 _ (obeyed_all K mode own) (omega (arith, whole_pairs, few-columns))
@@ -156,7 +156,7 @@ module _ (K : Part) (u : Settable K) (even : K.columns % 2 ≡ 0) (n : Chips) (r
     puts = record {
       answer =
           (λ i. (is-sent i).result.answer)
-          ∙ ap₂ Answer.Taken
+          ∙ ap₂ (λ (t : Counts) (l : Acknowledger). Ok (record { counts = t; last = l }))
           (last-counts K u wanted columns base refl last _ before done-before ends ∙ ap (λ (k : ℕ). record { acknowledged = k - 1; stored = 4 * length wanted - 2; discarded = 2 }) length-bytes)
           (last-by K u wanted columns base refl last _ before done-before ends);
       registers =
@@ -212,7 +212,7 @@ length-of-part part n r g wanted some = length_three (part_of part) (has_columns
 pub pairs_small : (part size : ℕ) → size ≤ 640 → (4 + 2 * length ((part_of part).pointer 0)) * (size / 2) ≤ 2560
 pairs_small part size h = mul-le-mul {n₁ = 4 + 2 * length ((part_of part).pointer 0)} {m₁ = size / 2} {n₂ = 8} {m₂ = 320} (omega (arith, (pointer-bytes part).1)) (omega (arith, h))
 
-pub part-puts-three : (part : ℕ) (n : Chips) (r : Both) (ram : List ℕ) (g : ℕ) (wanted : List ℕ) → check_state (part_of part) n r ram ≡ Passed → check_wanted (part_of part) n r g 3 0 wanted ≡ Passed
+pub part-puts-three : (part : ℕ) (n : Chips) (r : Both) (ram : List ℕ) (g : ℕ) (wanted : List ℕ) → check_state (part_of part) n r ram ≡ Ok tt → check_wanted (part_of part) n r g 3 0 wanted ≡ Ok tt
     → 0 < chips_in g n
     → PutsThree (part_of part) n r ram g wanted (three_transfer (part_of part) n r g wanted) (transfer_call (part_of part) n r ram (whole (three_transfer (part_of part) n r g wanted)))
 part-puts-three part n r ram g wanted es ew some =

@@ -13,11 +13,10 @@ use borrow.Author.Tests.{le-leb, lt-leb, leb-true}
 use Rattle.lemmas.proofs.Order.{lt_or_le}
 use Rattle.lemmas.proofs.Lists.{drop-take}
 use Rattle.lemmas.proofs.Tests.{both_true}
-use Rattle.sheet.specs.declared.Check.{Check}
-use Rattle.sheet.specs.declared.Check.TheVariants.{Passed, Refused}
+use Rattle.std.specs.Prelude.{Err, Ok}
+use Rattle.sheet.specs.Results.{Check, Rescued}
 use Rattle.sheet.specs.declared.Refusal.{Refusal}
 use Rattle.sheet.specs.declared.Refusal.TheVariants.{LogHead, LongLog, OutputLength}
-use Rattle.sheet.specs.declared.Rescued.{Rescued}
 use Rattle.sheet.specs.Parts.{pcf8532}
 use Rattle.sheet.specs.Checks.{unless, check_chips}
 use Rattle.log_sheet.specs.Records.{Records, no_records, length_of, size_of, read_in, records_from}
@@ -30,8 +29,8 @@ use Rattle.laws.proofs.Fits.{both_pass, unless-passes}
 -- what of their bytes is whole, read again; and all is, if nothing is torn
 record Again (k seen at : ℕ) (rest : List ℕ) (r : Records) : Type 0 where
   few : size_of r.bodies ≤ length rest
-  same : (j : ℕ) → size_of r.bodies ≤ j → read_in j seen at (take (size_of r.bodies) rest) ≡ record { bodies = r.bodies; tear = Passed }
-  all : r.tear ≡ Passed → length rest ≤ k → size_of r.bodies ≡ length rest
+  same : (j : ℕ) → size_of r.bodies ≤ j → read_in j seen at (take (size_of r.bodies) rest) ≡ record { bodies = r.bodies; tear = (Ok tt) }
+  all : r.tear ≡ Ok tt → length rest ≤ k → size_of r.bodies ≡ length rest
   next : TornAt (at + size_of r.bodies) r.tear
 
 nothing : (j seen at : ℕ) → read_in j seen at [] ≡ no_records
@@ -40,7 +39,7 @@ nothing zero seen at = refl
 nothing (suc j) seen at = refl
 
 -- what is refused has not passed
-pub never : (r : Refusal) {A : Type 0} → Refused r ≡ Passed → A
+pub never : (r : Refusal) {A : Type 0} → Err r ≡ Ok tt → A
 never r e = let no : ◌≡◌ {A = ℕ} 0 1 = cc in absurd (omega arith)
 
 -- a whole record and those after it
@@ -60,7 +59,7 @@ whole_again k seen at h l rest after m n a =
     }
   where
     again-from : (j : ℕ) → length (take (length_of h l) rest) + 2 + size_of after.bodies ≤ j
-        → read_in j seen at (take (length (take (length_of h l) rest) + 2 + size_of after.bodies) (h ∷ l ∷ rest)) ≡ record { bodies = take (length_of h l) rest ∷ after.bodies; tear = Passed }
+        → read_in j seen at (take (length (take (length_of h l) rest) + 2 + size_of after.bodies) (h ∷ l ∷ rest)) ≡ record { bodies = take (length_of h l) rest ∷ after.bodies; tear = (Ok tt) }
     again-from zero lj = absurd (omega arith)
     again-from (suc j) lj =
         let size = length_of h l in
@@ -94,9 +93,9 @@ again (suc k) seen at (h ∷ l ∷ rest) =
 pub record Headed (log : List ℕ) : Type 0 where
   pub short : length log ≤ 65536
   pub three : 3 ≤ length log
-  pub chips : check_chips pcf8532 (log_chips log) ≡ Passed
+  pub chips : check_chips pcf8532 (log_chips log) ≡ Ok tt
 
-pub headed : (log : List ℕ) → check_head log ≡ Passed → Headed log
+pub headed : (log : List ℕ) → check_head log ≡ Ok tt → Headed log
 unfolding check_head
 headed log e =
     let long = both_pass (unless (leb (length log) 65536) LongLog) _ e in
@@ -107,7 +106,7 @@ headed log e =
       chips = head.1;
     }
 
-module _ (log : List ℕ) (e : check_head log ≡ Passed) where
+module _ (log : List ℕ) (e : check_head log ≡ Ok tt) where
   long : length log ≤ 65536
   long = (headed log e).short
 
@@ -131,14 +130,14 @@ module _ (log : List ℕ) (e : check_head log ≡ Passed) where
   head : (i : ℕ) → i < 3 → get_or (kept log) i 0 ≡ get_or log i 0
   head i l = get_or-take (kept_of log) log i 0 (omega arith)
 
-  same-records : log_records (kept log) ≡ record { bodies = (log_records log).bodies; tear = Passed }
+  same-records : log_records (kept log) ≡ record { bodies = (log_records log).bodies; tear = (Ok tt) }
   unfolding records_from
   same-records =
       let less : 3 + bytes - 3 ≡ bytes = omega arith in
       let left = length-drop 3 log in
       rw (head 0 (omega arith), drop-take 3 (kept_of log) log (omega arith), less) (read.same (length (take bytes (drop 3 log))) (omega (arith, length-take-le bytes (drop 3 log) read.few)))
 
-  head-kept : check_head (kept log) ≡ Passed
+  head-kept : check_head (kept log) ≡ Ok tt
   unfolding check_head
   head-kept =
       rw (le-leb (length (kept log)) 65536 (omega (arith, kept-length, few, long)), le-leb 3 (length (kept log)) (omega (arith, kept-length)), head 0 (omega arith), head 1 (omega arith), head 2 (omega arith))
@@ -166,19 +165,19 @@ pub record Fits (log : List ℕ) (size : ℕ) : Type 0 where
   pub few : kept_of log ≤ length log
   pub room : length log ≤ size
 
-pub fits : (log : List ℕ) (size : ℕ) → check_rescue log size ≡ Passed → Fits log size
+pub fits : (log : List ℕ) (size : ℕ) → check_rescue log size ≡ Ok tt → Fits log size
 unfolding check_rescue
 fits log size e =
     let both = both_pass (check_head log) (unless (leb (length log) size) OutputLength) e in
     record { few = few log both.0; room = leb-true (length log) size (unless-passes _ OutputLength both.1) }
 
 -- so what is kept lies inside the output
-pub kept-inside : (log out : List ℕ) (records bytes dropped tear : ℕ) → (rescue_call log out).result ≡ Rescued.Kept records bytes dropped tear → bytes ≤ length out
+pub kept-inside : (log out : List ℕ) (records bytes dropped tear : ℕ) → (rescue_call log out).result ≡ Ok (record { records = records; bytes = bytes; dropped = dropped; tear = tear }) → bytes ≤ length out
 unfolding rescue_call
 kept-inside log out records bytes dropped tear e = by-check (check_rescue log (length out)) refl e
   where
-    by-check : (k : Check) → check_rescue log (length out) ≡ k → (rescued_by k log out).result ≡ Rescued.Kept records bytes dropped tear → bytes ≤ length out
-    by-check Passed c e = let same : kept_of log ≡ bytes = cc in
+    by-check : (k : Check) → check_rescue log (length out) ≡ k → (rescued_by k log out).result ≡ Ok (record { records = records; bytes = bytes; dropped = dropped; tear = tear }) → bytes ≤ length out
+    by-check (Ok _) c e = let same : kept_of log ≡ bytes = cc in
         let f = fits log (length out) c in
         omega (arith, f.few, f.room, same)
-    by-check (Refused r) c e = let no : ◌≡◌ {A = ℕ} 0 1 = cc in absurd (omega arith)
+    by-check (Err r) c e = let no : ◌≡◌ {A = ℕ} 0 1 = cc in absurd (omega arith)

@@ -11,7 +11,8 @@ use lib.Seq.{set-get_or, set_out}
 use borrow.Author.Tests.{le-ltb}
 use Rattle.sheet.specs.declared.Registers.{Registers}
 use Rattle.sheet.specs.declared.Counts.{Counts}
-use Rattle.sheet.specs.declared.Acknowledger.{Acknowledger}
+use Rattle.std.specs.Prelude.{None}
+use Rattle.sheet.specs.Results.{Acknowledger}
 use Rattle.sheet.specs.declared.Kind.{Kind}
 use Rattle.sheet.specs.declared.Expect.TheVariants.{All}
 use Rattle.sheet.specs.Parts.{Part}
@@ -94,7 +95,7 @@ counts_past (suc n) m v size t h =
     (ap (λ (d : ℕ). record { acknowledged = t.acknowledged; stored = t.stored; discarded = d }) (omega arith))
 
 -- and nobody acknowledges a byte
-none-past : (K : Part) (m v size : ℕ) → size ≤ v → acknowledger K m v size ≡ Acknowledger.None
+none-past : (K : Part) (m v size : ℕ) → size ≤ v → acknowledger K m v size ≡ None
 unfolding acknowledger
 none-past K m v size h = rw (le-ltb (v + 7 / m) size (omega arith))
 
@@ -102,7 +103,7 @@ last-past : (K : Part) (n m u v size : ℕ) (before : Acknowledger) → size ≤
 unfolding last_run
 last-past K zero m u v size before hu hv = refl
 last-past K (suc n) m u v size before hu hv =
-    rw (none-past K m u size hu, none-past K m v size hv) (last-past K n m (u + width_of m) (v + width_of m) size Acknowledger.None (omega arith) (omega arith))
+    rw (none-past K m u size hu, none-past K m v size hv) (last-past K n m (u + width_of m) (v + width_of m) size None (omega arith) (omega arith))
 
 -- n bytes from the next byte on
 along : (v w n : ℕ) → v + w + w * n ≡ v + w * suc n

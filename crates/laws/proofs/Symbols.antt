@@ -10,7 +10,7 @@ use borrow.Author.Tests.{lt-ltb, ltb-true, ltb-false, eqb-true, leb-true}
 use Rattle.lemmas.proofs.Tests.{both_true}
 use Rattle.price_sheet.specs.declared.Symbol.{Symbol}
 use Rattle.price_sheet.specs.declared.Symbol.TheVariants.{Digit, Pointed, Space, Minus, LongMinus}
-use Rattle.price_sheet.specs.declared.Found.{Found}
+use Rattle.std.specs.Prelude.{None, Option, Some}
 use Rattle.sheet.specs.Parts.{within}
 use Rattle.price_sheet.specs.Price.{is_symbol, text_of, plain, byte_of, begun, shown_as, shown_below, shown}
 
@@ -48,37 +48,37 @@ pub record Shown (mode x : ℕ) (s : Symbol) : Type 0 where
   pub is : Plain s
   pub byte : byte_of mode s ≡ x
 
-abbrev symbol_in : Found → Symbol → Symbol
-symbol_in (Found.Symbol s) other = s
-symbol_in Found.None other = other
+abbrev symbol_in : Option Symbol → Symbol → Symbol
+symbol_in (Some s) other = s
+symbol_in None other = other
 
-abbrev is_found : Found → Bool
-is_found (Found.Symbol s) = true
-is_found Found.None = false
+abbrev is_found : Option Symbol → Bool
+is_found (Some s) = true
+is_found None = false
 
-pub nothing : {A : Type 0} (s : Symbol) → Found.None ≡ Found.Symbol s → A
-nothing s e = absurd (subst (λ (f : Found). T (is_found f)) (sym e) tt)
+pub nothing : {A : Type 0} (s : Symbol) → None ≡ Some s → A
+nothing s e = absurd (subst (λ (f : Option Symbol). T (is_found f)) (sym e) tt)
 
-pub inside : (s t : Symbol) → Found.Symbol s ≡ Found.Symbol t → s ≡ t
-inside s t e = ap (λ (f : Found). symbol_in f s) e
+pub inside : (s t : Symbol) → Some s ≡ Some t → s ≡ t
+inside s t e = ap (λ (f : Option Symbol). symbol_in f s) e
 
-by_byte : (n mode x : ℕ) (s : Symbol) (b : Bool) → (shown_below n mode x ≡ Found.Symbol s → Shown mode x s) → eqb x (byte_of mode (shown_as n)) ≡ b
-    → cond b (Found.Symbol (shown_as n)) (shown_below n mode x) ≡ Found.Symbol s → Shown mode x s
+by_byte : (n mode x : ℕ) (s : Symbol) (b : Bool) → (shown_below n mode x ≡ Some s → Shown mode x s) → eqb x (byte_of mode (shown_as n)) ≡ b
+    → cond b (Some (shown_as n)) (shown_below n mode x) ≡ Some s → Shown mode x s
 by_byte n mode x s true others t e = subst (Shown mode x) (inside (shown_as n) s e) (record { is = shown-plain n; byte = sym (eqb-true x (byte_of mode (shown_as n)) t) })
 by_byte n mode x s false others t e = others e
 
-below : (n mode x : ℕ) (s : Symbol) → shown_below n mode x ≡ Found.Symbol s → Shown mode x s
+below : (n mode x : ℕ) (s : Symbol) → shown_below n mode x ≡ Some s → Shown mode x s
 unfolding shown_below
 below zero mode x s e = nothing s e
 below (suc n) mode x s e = by_byte n mode x s (eqb x (byte_of mode (shown_as n))) (below n mode x s) refl e
 
-pub shown-is : (mode x : ℕ) (s : Symbol) → shown mode x ≡ Found.Symbol s → Shown mode x s
+pub shown-is : (mode x : ℕ) (s : Symbol) → shown mode x ≡ Some s → Shown mode x s
 shown-is mode x s e = below 22 mode x s e
 
 -- ---- a text begins with a symbol
 
 begun-by : (x y z : ℕ) (s : Symbol) (t₁ t₂ t₃ t₄ t₅ : Bool) → within 48 57 x ≡ t₁
-    → cond t₁ (cond t₂ (Found.Symbol (Pointed (x - 48))) (Found.Symbol (Digit (x - 48)))) (cond t₃ (Found.Symbol Space) (cond t₄ (Found.Symbol Minus) (cond t₅ (Found.Symbol LongMinus) Found.None))) ≡ Found.Symbol s
+    → cond t₁ (cond t₂ (Some (Pointed (x - 48))) (Some (Digit (x - 48)))) (cond t₃ (Some Space) (cond t₄ (Some Minus) (cond t₅ (Some LongMinus) None))) ≡ Some s
     → is_symbol s ≡ true
 unfolding within
 begun-by x y z s true true t₃ t₄ t₅ d e =
@@ -90,6 +90,6 @@ begun-by x y z s false t₂ false true t₅ d e = ap is_symbol (sym (inside Minu
 begun-by x y z s false t₂ false false true d e = ap is_symbol (sym (inside LongMinus s e))
 begun-by x y z s false t₂ false false false d e = nothing s e
 
-pub begun-symbol : (x y z : ℕ) (s : Symbol) → begun x y z ≡ Found.Symbol s → is_symbol s ≡ true
+pub begun-symbol : (x y z : ℕ) (s : Symbol) → begun x y z ≡ Some s → is_symbol s ≡ true
 unfolding begun
 begun-symbol x y z s e = begun-by x y z s (within 48 57 x) (eqb y 0x2E) (eqb x 0x20) (eqb x 0x2D) (eqb x 0xE2 && (eqb y 0x88 && eqb z 0x92)) refl e

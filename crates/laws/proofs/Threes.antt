@@ -12,9 +12,9 @@ use borrow.Author.Tests.{lt-ltb, le-ltb}
 use Rattle.lemmas.proofs.Order.{lt_or_le}
 use Rattle.sheet.specs.declared.Registers.{Registers}
 use Rattle.sheet.specs.declared.Counts.{Counts}
-use Rattle.sheet.specs.declared.Acknowledger.{Acknowledger}
+use Rattle.std.specs.Prelude.{None, Ok}
+use Rattle.sheet.specs.Results.{Acknowledger}
 use Rattle.sheet.specs.declared.Expect.TheVariants.{Control}
-use Rattle.sheet.specs.declared.Check.TheVariants.{Passed}
 use Rattle.sheet.specs.Parts.{Part}
 use Rattle.sheet.specs.Registers.{marked, at_place, with_marks, backplanes, bank_row}
 use Rattle.sheet.specs.Commands.{defined, obeyed, obeyed_all, all_defined}
@@ -98,7 +98,7 @@ module _ (K : Part) (u : Settable K) where
       ap (λ (l : List ℕ). heard K Control l g) (append_assoc (byte_at K c (pair_of wanted c)) (pairs_from K n (c + 2) wanted) ys)
       ∙ heard-byte wanted (pairs_from K n (c + 2) wanted ++ ys) c g (omega arith) ∙ heard_all wanted ys n (c + 2) (after wanted c g) (omega arith)
 
-  pub fault-all : (wanted : List ℕ) (n c i : ℕ) (r : Registers) → c + 2 * n ≤ K.columns * K.limit → fault_in K false r.unknown Control i (pairs_from K n c wanted) ≡ Passed
+  pub fault-all : (wanted : List ℕ) (n c i : ℕ) (r : Registers) → c + 2 * n ≤ K.columns * K.limit → fault_in K false r.unknown Control i (pairs_from K n c wanted) ≡ Ok tt
   unfolding pairs_from fault_in
   fault-all wanted zero c i r l = refl
   fault-all wanted (suc n) c i r l = fault-byte c (pair_of wanted c) i (pairs_from K n (c + 2) wanted) r (omega arith) ∙ fault-all wanted n (c + 2) _ (with_marks r (marked 0)) (omega arith)
@@ -174,7 +174,7 @@ module _ (K : Part) (u : Settable K) where
         tallied 0 6 (rw (le-ltb (c + 2) (length g.ram) (omega (arith, d.size)))) (stored_closed 8 3 c (length g.ram) (omega arith) ∙ omega (arith, d.size))
         ∙ counts-alike _ _ (omega arith) (omega (arith, e)) (omega arith)
 
-    pub last-by : c + 2 ≡ length wanted → (after wanted c g).last ≡ Acknowledger.None
+    pub last-by : c + 2 ≡ length wanted → (after wanted c g).last ≡ None
     unfolding data_byte backplanes acknowledger
     last-by e =
         ap₂ (λ (m v : ℕ). acknowledger K m v (length g.ram)) planes (place_is c g.registers) ∙ rw (le-ltb (c + 2) (length g.ram) (omega (arith, d.size, e)))

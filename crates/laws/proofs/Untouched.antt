@@ -14,10 +14,8 @@ use Rattle.lemmas.proofs.Tests.{either_false}
 use Rattle.sheet.specs.declared.Both.{Both}
 use Rattle.sheet.specs.declared.Chips.{Chips}
 use Rattle.sheet.specs.declared.Chip.{Chip}
-use Rattle.sheet.specs.declared.Check.{Check}
-use Rattle.sheet.specs.declared.Check.TheVariants.{Passed, Refused}
-use Rattle.sheet.specs.declared.Addressed.{Addressed}
-use Rattle.sheet.specs.declared.Addressed.TheVariants.{To, Nobody}
+use Rattle.std.specs.Prelude.{Err, None, Ok, Some}
+use Rattle.sheet.specs.Results.{Check, Addressed}
 use Rattle.sheet.specs.declared.Expect.{Expect}
 use Rattle.sheet.specs.declared.Kind.{Kind}
 use Rattle.sheet.specs.declared.Expect.TheVariants.{Control, One, All}
@@ -74,14 +72,14 @@ module _ (K : Part) (n : Chips) (r : Both) (ram : List ℕ) (t : Sent) (h : ℕ)
 
   -- the group that hears is this one, or it is not
   row_by : Fits K n r ram → (to : Addressed) → Calls (address_byte t) to → RowStays (taken K n r ram t to)
-  row_by f (To g) calls =
+  row_by f (Some g) calls =
       ⊎_elim
-      (λ (e : g ≡ h). subst (λ (k : ℕ). RowStays (taken K n r ram t (To k))) (sym e)
+      (λ (e : g ≡ h). subst (λ (k : ℕ). RowStays (taken K n r ram t (Some k))) (sym e)
       (ap (λ (l : List ℕ). row_of (get_or l c 0) q) (own-columns K n r ram f h (group_after K n r ram t h).ram (length-after K n r ram t f h))
       ∙ heard_missed K Control (drop 1 (whole_of t)) (begun (registers_of h r) (columns_of K n h ram)) c q (missed (calls.1 ∙ ap address_of e))))
       (λ (ne : g ≢ h). ap (λ (l : List ℕ). row_of (get_or l c 0) q) (other-columns K n r ram f g h calls.0 ph ne (group_after K n r ram t g).ram (length-after K n r ram t f g)))
       (equal_or_not g h)
-  row_by f Nobody calls = refl
+  row_by f None calls = refl
 
   row_stays_so : RowStays (transfer_call K n r ram t)
   row_stays_so =
@@ -209,8 +207,8 @@ module _ (K : Part) (cs : List Chip) (t : Sent) (i : ℕ) (d : Chip) (l : i < le
       by_hearers false = kept
 
       by-check : (k : Check) (s : Plain) → P (get_or s.chips i d) → P (get_or (plain_answered k cs (plain_said s)).chips i d)
-      by-check Passed s h = h
-      by-check (Refused x) s h = kept
+      by-check (Ok _) s h = h
+      by-check (Err x) s h = kept
 
   abbrev before : Chip
   before = get_or cs i d

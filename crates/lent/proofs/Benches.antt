@@ -9,10 +9,9 @@ use lib.ListN.{length, drop, length-append, length-drop, length-map}
 use lib.Seq.{take_at, length-take-le}
 use borrow.Author.Tests.{le-leb, lt-leb}
 use Rattle.sheet.specs.declared.Chip.{Chip}
-use Rattle.sheet.specs.declared.Check.{Check}
-use Rattle.sheet.specs.declared.Check.TheVariants.{Passed, Refused}
+use Rattle.std.specs.Prelude.{Err, Ok}
+use Rattle.sheet.specs.Results.{Check, PlainAnswer}
 use Rattle.sheet.specs.declared.Expect.{Expect}
-use Rattle.sheet.specs.declared.PlainAnswer.{PlainAnswer}
 use Rattle.sheet.specs.declared.Refusal.TheVariants.{ManyChips}
 use Rattle.sheet.specs.Parts.{Part, part_of}
 use Rattle.sheet.specs.Protocol.{next, Sent, whole_of, address_byte, cut_data}
@@ -42,16 +41,16 @@ length-plain K cs t = go (check_plain K cs t)
     taken false = refl
 
     go : (k : Check) → length (plain_answered k cs (plain_said (plain_taken K cs t))).chips ≡ length cs
-    go Passed = taken (any (hears (address_byte t)) cs)
-    go (Refused r) = refl
+    go (Ok _) = taken (any (hears (address_byte t)) cs)
+    go (Err r) = refl
 
 length_part : (part : ℕ) (cs : List Chip) (t : Sent) → length (plain_part part cs t).chips ≡ length cs
 unfolding plain_part
 length_part part cs t = go (check_part part)
   where
     go : (k : Check) → length (plain_answered k cs (plain_call (part_of part) cs t)).chips ≡ length cs
-    go Passed = length-plain (part_of part) cs t
-    go (Refused r) = refl
+    go (Ok _) = length-plain (part_of part) cs t
+    go (Err r) = refl
 
 -- ---- the bench's transfer is the list's
 
@@ -71,15 +70,15 @@ unfolding list_in
 list_length zero l = refl
 list_length (suc n) l = ap suc (list_length n (drop 174 l))
 
-pub many : (part n : ℕ) (chips : List ℕ) (t : Sent) → 16 < n → plain_part part (list_in n chips) t ≡ record { answer = PlainAnswer.Refused (too_many part); chips = list_in n chips }
+pub many : (part n : ℕ) (chips : List ℕ) (t : Sent) → 16 < n → plain_part part (list_in n chips) t ≡ record { answer = Err (too_many part); chips = list_in n chips }
 unfolding plain_part plain_call check_plain
 many part n chips t h = rw (list_length n chips, lt-leb n (2 * (part_of part).limit) (omega (arith, limit-small part))) (by_part (check_part part))
   where
-    by_part : (k : Check) → plain_answered k (list_in n chips) (record { answer = PlainAnswer.Refused ManyChips; chips = list_in n chips }) ≡ record { answer = PlainAnswer.Refused (or_refusal k ManyChips); chips = list_in n chips }
-    by_part Passed = refl
-    by_part (Refused r) = refl
+    by_part : (k : Check) → plain_answered k (list_in n chips) (record { answer = Err ManyChips; chips = list_in n chips }) ≡ record { answer = Err (or_refusal k ManyChips); chips = list_in n chips }
+    by_part (Ok _) = refl
+    by_part (Err r) = refl
 
 -- and so the bytes of more chips than sixteen are as given
-pub refused_many : (part : ℕ) (chips : List ℕ) (t : Sent) → 16 < length chips / 174 → lent_call part chips t ≡ record { answer = PlainAnswer.Refused (too_many part); chips = chips }
+pub refused_many : (part : ℕ) (chips : List ℕ) (t : Sent) → 16 < length chips / 174 → lent_call part chips t ≡ record { answer = Err (too_many part); chips = chips }
 unfolding lent_call
 refused_many part chips t h = rw (many part (length chips / 174) chips t h)

@@ -1,7 +1,7 @@
 -- A transfer to a list of chips that C lends as bytes: what is answered, and what the bytes are after it. Assumes nothing.
-use Rattle.std.specs.Prelude.{◌≡◌, List, ℕ, ◌/◌, ◌%◌, ◌≤◌, length}
+use Rattle.std.specs.Prelude.{◌≡◌, List, ℕ, ◌/◌, ◌%◌, ◌≤◌, length, Err, Ok}
 use Rattle.sheet.specs.declared.Chip.{Chip}
-use Rattle.sheet.specs.declared.PlainAnswer.{PlainAnswer}
+use Rattle.sheet.specs.Results.{PlainAnswer}
 use Rattle.sheet.specs.Protocol.{Sent}
 use Rattle.sheet.specs.Plain.{plain_part}
 use Rattle.wire.specs.Bytes.{list_in, list_bytes}
@@ -12,8 +12,8 @@ pub record Lent : Type 0 where
 
 -- taken, the chips are written; refused, they are as given
 abbrev pub written : PlainAnswer → List Chip → List ℕ → List ℕ
-written (PlainAnswer.Acknowledged n last) after given = list_bytes after
-written (PlainAnswer.Refused r) after given = given
+written (Ok s) after given = list_bytes after
+written (Err r) after given = given
 
 unfoldable pub lent_call : ℕ → List ℕ → Sent → Lent
 lent_call part chips t =

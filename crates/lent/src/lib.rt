@@ -21,7 +21,7 @@ fn transfer_few(part: u8, chips: &mut [u8], bytes: &[u8], bits: u8) -> PlainAnsw
             wire::put_bench(after, chips);
             said
         }
-        PlainAnswer::Refused(refusal) => PlainAnswer::Refused(refusal),
+        Err(refusal) => Err(refusal),
     }
 }
 
@@ -34,6 +34,6 @@ pub fn transfer(part: u8, chips: &mut [u8], bytes: &[u8], bits: u8) -> PlainAnsw
     if chips.len() / 174 <= 16 {
         transfer_few(part, chips, bytes, bits)
     } else {
-        PlainAnswer::Refused(plain::too_many(part))
+        Err(plain::too_many(part))
     }
 }

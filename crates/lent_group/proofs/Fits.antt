@@ -13,7 +13,8 @@ use Rattle.lemmas.proofs.Tests.{both_true}
 use Rattle.sheet.specs.declared.Registers.{Registers}
 use Rattle.sheet.specs.declared.Chips.{Chips}
 use Rattle.sheet.specs.declared.Counts.{Counts}
-use Rattle.sheet.specs.declared.Acknowledger.{Acknowledger}
+use Rattle.std.specs.Prelude.{None, Some}
+use Rattle.sheet.specs.Results.{Acknowledger}
 use Rattle.sheet.specs.declared.Expect.TheVariants.{Control}
 use Rattle.sheet.specs.Parts.{Part}
 use Rattle.sheet.specs.Registers.{backplanes}
@@ -60,7 +61,7 @@ counted-whole n m v size t p h =
     counted-at-once n m v size t p ∙ (λ i. record { acknowledged = t.acknowledged + a i; stored = t.stored + s i; discarded = d i })
 
 last-whole : (K : Part) (n m v size : ℕ) (before : Acknowledger) → 0 < n → v + width_of m * n ≤ size
-    → last_run K n m v size before ≡ Acknowledger.Subaddress ((v + width_of m * n - 1) / K.columns)
+    → last_run K n m v size before ≡ Some ((v + width_of m * n - 1) / K.columns)
 unfolding acknowledger
 last-whole K zero m v size before p h = absurd (not-suc-le-zero p)
 last-whole K (suc n) m v size before p h =
@@ -75,7 +76,7 @@ pub fitting-heard : (K : Part) (r : Registers) (ram bytes : List ℕ) (from : �
       registers = moved_by K (length bytes - (from + 1)) r;
       ram = written_by K r (drop (from + 1) bytes) ram;
       counts = record { acknowledged = length bytes; stored = 8 * (length bytes - (from + 1)); discarded = 0 };
-      last = Acknowledger.Subaddress ((run_end K r bytes from - 1) / K.columns);
+      last = Some ((run_end K r bytes from - 1) / K.columns);
     }
 fitting-heard K r ram bytes from range nibbles few more run fit =
     let n = length bytes - (from + 1) in
@@ -92,7 +93,7 @@ fitting-heard K r ram bytes from range nibbles few more run fit =
       registers = moved_by K (el i) r;
       ram = written_by K r (drop (from + 1) bytes) ram;
       counts = (ap (λ (k : ℕ). counted_run k m v (length ram) (record { acknowledged = from + 1; stored = 0; discarded = 0 })) el ∙ counts ∙ (λ j. record { acknowledged = all j; stored = none j; discarded = 0 })) i;
-      last = (ap (λ (k : ℕ). last_run K k m v (length ram) Acknowledger.None) el ∙ last-whole K n m v (length ram) Acknowledger.None some fit) i;
+      last = (ap (λ (k : ℕ). last_run K k m v (length ram) None) el ∙ last-whole K n m v (length ram) None some fit) i;
     })
 
 -- and in the RAM of both groups
@@ -103,7 +104,7 @@ pub fitting_in_ram : (K : Part) (n : Chips) (g : ℕ) (r : Registers) (ram bytes
       registers = moved_by K (length bytes - (from + 1)) r;
       ram = with_columns K n g (written_by K r (drop (from + 1) bytes) own) ram;
       counts = record { acknowledged = length bytes; stored = 8 * (length bytes - (from + 1)); discarded = 0 };
-      last = Acknowledger.Subaddress ((run_end K r bytes from - 1) / K.columns);
+      last = Some ((run_end K r bytes from - 1) / K.columns);
     })
     (heard_in_ram K n g r ram (whole bytes) from)
 unfolding whole_of

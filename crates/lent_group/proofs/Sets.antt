@@ -5,13 +5,12 @@ use mathlib.Core.Bool.{Bool, true, false, cond, ◌&&◌}
 use mathlib.Core.List.{List}
 use Prim.Native.Nat.{ℕ, ◌≤◌}
 use lib.ListN.{length, get_or, drop, drop_of_length-le}
-use Rattle.sheet.specs.declared.Acknowledger.{Acknowledger}
+use Rattle.std.specs.Prelude.{Err, None, Ok}
+use Rattle.sheet.specs.Results.{Acknowledger, Answer, Check}
 use Rattle.sheet.specs.declared.Expect.TheVariants.{Control}
-use Rattle.sheet.specs.declared.Answer.{Answer}
 use Rattle.sheet.specs.declared.Chips.{Chips}
 use Rattle.sheet.specs.declared.Refusal.{Refusal}
 use Rattle.sheet.specs.declared.Refusal.TheVariants.{UnknownPlace}
-use Rattle.sheet.specs.declared.Check.{Check}
 use Rattle.sheet.specs.Parts.{Part}
 use Rattle.sheet.specs.Refusals.{numbers}
 use Rattle.sheet.specs.Registers.{known, lost_by}
@@ -41,16 +40,16 @@ module _ (K : Part) (n : Chips) (g : ℕ) (before ram : List ℕ) (t : Sent) (o 
   looked k = or_else k (fault_in K (cut t) o.registers.unknown Control o.at (drop o.at (whole_of t)))
 
   -- a command that is undefined refuses it, and the twelve bytes are taken back
-  pub opening-refused : (x : Refusal) → o.fault ≡ Check.Refused x → record { answer = Answer.Refused x; set = before; ram = ram } ≡ set_to K n g before ram t
+  pub opening-refused : (x : Refusal) → o.fault ≡ Err x → record { answer = Err x; set = before; ram = ram } ≡ set_to K n g before ram t
   opening-refused x e = rw (h.fault ∙ ap looked e)
 
   -- else so does a fault of what is left
-  pub rest-refused : (x : Refusal) → o.fault ≡ Check.Passed → fault_in K (cut t) o.registers.unknown Control o.at (drop o.at (whole_of t)) ≡ Check.Refused x
-      → record { answer = Answer.Refused x; set = before; ram = ram } ≡ set_to K n g before ram t
+  pub rest-refused : (x : Refusal) → o.fault ≡ Ok tt → fault_in K (cut t) o.registers.unknown Control o.at (drop o.at (whole_of t)) ≡ Err x
+      → record { answer = Err x; set = before; ram = ram } ≡ set_to K n g before ram t
   rest-refused x e f = rw (h.fault ∙ ap looked e ∙ f)
 
   -- and without one, what the group is after what is left, it is after the transfer
-  pub rest-heard : o.fault ≡ Check.Passed → fault_in K (cut t) o.registers.unknown Control o.at (drop o.at (whole_of t)) ≡ Check.Passed
+  pub rest-heard : o.fault ≡ Ok tt → fault_in K (cut t) o.registers.unknown Control o.at (drop o.at (whole_of t)) ≡ Ok tt
       → heard_set (heard_in_ram K n g o.registers ram t o.at) ≡ set_to K n g before ram t
   rest-heard e f =
       rw (h.fault ∙ ap looked e ∙ f)
@@ -58,11 +57,11 @@ module _ (K : Part) (n : Chips) (g : ℕ) (before ram : List ℕ) (t : Sent) (o 
 
   module _ (all : length (whole_of t) ≤ o.at) where
     -- nothing is left to be at fault
-    pub none-looked : fault_in K (cut t) o.registers.unknown Control o.at (drop o.at (whole_of t)) ≡ Check.Passed
+    pub none-looked : fault_in K (cut t) o.registers.unknown Control o.at (drop o.at (whole_of t)) ≡ Ok tt
     unfolding fault_in
     none-looked = rw (drop_of_length-le (whole_of t) all) (go (cut t))
       where
-        go : (b : Bool) → cond (b && false) (unless (known o.registers.unknown) (UnknownPlace o.at)) Check.Passed ≡ Check.Passed
+        go : (b : Bool) → cond (b && false) (unless (known o.registers.unknown) (UnknownPlace o.at)) (Ok tt) ≡ Ok tt
         go true = refl
         go false = refl
 
@@ -71,6 +70,6 @@ module _ (K : Part) (n : Chips) (g : ℕ) (before ram : List ℕ) (t : Sent) (o 
     unfolding heard
     none-heard = rw (drop_of_length-le (whole_of t) all) (go (cut t))
       where
-        go : (b : Bool) → opened_at o.at o.registers ram ≡ record { registers = lost_by (b && false) o.registers; ram = with_columns K n g (columns_of K n g ram) ram; counts = record { acknowledged = o.at; stored = 0; discarded = 0 }; last = Acknowledger.None }
+        go : (b : Bool) → opened_at o.at o.registers ram ≡ record { registers = lost_by (b && false) o.registers; ram = with_columns K n g (columns_of K n g ram) ram; counts = record { acknowledged = o.at; stored = 0; discarded = 0 }; last = None }
         go true = λ j. opened_at o.at o.registers (sym (put_back K n g ram) j)
         go false = λ j. opened_at o.at o.registers (sym (put_back K n g ram) j)

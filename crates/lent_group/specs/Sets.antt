@@ -1,11 +1,9 @@
 -- One group over its registers as twelve bytes: what it is asked to have passed, and what a transfer leaves and says. Assumes nothing.
-use Rattle.std.specs.Prelude.{ℕ, ◌+◌, ◌-◌, ◌*◌, ◌≤◌, ◌<◌, ◌≡◌, Bool, true, ◌&&◌, List, eqb, ltb, leb, length, get_or, drop}
+use Rattle.std.specs.Prelude.{ℕ, ◌+◌, ◌-◌, ◌*◌, ◌≤◌, ◌<◌, ◌≡◌, Bool, true, ◌&&◌, List, eqb, ltb, leb, length, get_or, drop, Err, Ok}
 use Rattle.sheet.specs.declared.Registers.{Registers}
 use Rattle.sheet.specs.declared.Both.{Both}
 use Rattle.sheet.specs.declared.Chips.{Chips}
-use Rattle.sheet.specs.declared.Answer.{Answer}
-use Rattle.sheet.specs.declared.Check.{Check}
-use Rattle.sheet.specs.declared.Check.TheVariants.{Passed, Refused}
+use Rattle.sheet.specs.Results.{Answer, Check}
 use Rattle.sheet.specs.Refusals.{numbers}
 use Rattle.sheet.specs.Parts.{Part}
 use Rattle.sheet.specs.Registers.{backplanes, in_range}
@@ -26,12 +24,12 @@ pub record SetAfter : Type 0 where
   pub ram : List ℕ
 
 abbrev pub heard_set : Group → SetAfter
-heard_set h = record { answer = Answer.Taken h.counts h.last; set = bytes_of h.registers; ram = h.ram }
+heard_set h = record { answer = Ok (record { counts = h.counts; last = h.last }); set = bytes_of h.registers; ram = h.ram }
 
 -- a refused one leaves all as it was
 abbrev pub answered_set : Check → List ℕ → List ℕ → SetAfter → SetAfter
-answered_set Passed set ram a = a
-answered_set (Refused x) set ram a = record { answer = Answer.Refused x; set = set; ram = ram }
+answered_set (Ok _) set ram a = a
+answered_set (Err x) set ram a = record { answer = Err x; set = set; ram = ram }
 
 -- the group after the whole of a transfer, with the RAM of both groups
 abbrev pub heard_group : Part → Chips → ℕ → Registers → List ℕ → Sent → Group
@@ -59,7 +57,7 @@ numbered_set K a = let k = numbers K a.answer in record { number = get_or k 0 0;
 -- of a group that hears a transfer: byte 0 came, and an answer has six numbers
 pub record Asked (K : Part) (n : Chips) (set ram : List ℕ) (t : Sent) (answer : List ℕ) : Type 0 where
   pub both : Both
-  pub state : check_state K n both ram ≡ Passed
+  pub state : check_state K n both ram ≡ Ok tt
   pub twelve : length set ≡ 12
   pub range : in_range K (registers_in set) ≡ true
   pub short : length t.bytes < 4097
@@ -70,7 +68,7 @@ pub record Asked (K : Part) (n : Chips) (set ram : List ℕ) (t : Sent) (answer 
 pub record Left (K : Part) (n : Chips) (before set ram : List ℕ) (t : Sent) (answer : List ℕ) (from : ℕ) : Type 0 where
   pub asked : Asked K n before ram t answer
   pub twelve : length set ≡ 12
-  pub opening : record { fault = Passed; registers = registers_in set; at = from } ≡ opened K (registers_in before) 1 (drop 1 (whole_of t))
+  pub opening : record { fault = (Ok tt); registers = registers_in set; at = from } ≡ opened K (registers_in before) 1 (drop 1 (whole_of t))
   pub more : from < length (whole_of t)
 
 -- once all its checks have passed

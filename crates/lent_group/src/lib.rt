@@ -81,8 +81,8 @@ fn hear_run(
         stored: 8 * n,
         discarded: 0,
     };
-    let last = Acknowledger::Subaddress(arithmetic::chip_of(part, after - 1));
-    say(part, Answer::Taken { counts, last }, answer)
+    let last = Some(arithmetic::chip_of(part, after - 1));
+    say(part, Ok(Taken { counts, last }), answer)
 }
 
 // Whether all that is left is such a run, where so many columns are there.
@@ -133,7 +133,7 @@ fn hear_rest(
         let counts = heard.counts;
         let last = heard.last;
         wire::put_registers(after, set);
-        say(part, Answer::Taken { counts, last }, answer)
+        say(part, Ok(Taken { counts, last }), answer)
     }
 }
 
@@ -158,11 +158,11 @@ fn send_rest(
     let opened = wire::registers_of(set);
     let whole = checks::whole_count(bytes.len(), bits);
     match protocol::fault_from(part, bits < 8, opened.unknown, &bytes[..whole], from) {
-        Check::Refused(refusal) => {
+        Err(refusal) => {
             lent_opening::take_back(kept, set);
-            say(part, Answer::Refused(refusal), answer)
+            say(part, Err(refusal), answer)
         }
-        Check::Passed => hear_rest(bus, group, set, ram, bytes, bits, from, answer),
+        Ok(()) => hear_rest(bus, group, set, ram, bytes, bits, from, answer),
     }
 }
 
@@ -186,11 +186,11 @@ pub fn send(
     let fault = opening.fault;
     let from = opening.at;
     match fault {
-        Check::Refused(refusal) => {
+        Err(refusal) => {
             lent_opening::take_back(kept, set);
-            say(part, Answer::Refused(refusal), answer)
+            say(part, Err(refusal), answer)
         }
-        Check::Passed => {
+        Ok(()) => {
             if from < whole {
                 send_rest(bus, group, kept, set, ram, bytes, bits, from, answer)
             } else {

@@ -11,13 +11,11 @@ use borrow.Author.Tests.{ltb-true}
 use Rattle.lemmas.proofs.Tests.{both_true}
 use Rattle.sheet.specs.declared.Both.{Both}
 use Rattle.sheet.specs.declared.Registers.{Registers}
-use Rattle.sheet.specs.declared.Answer.{Answer}
-use Rattle.sheet.specs.declared.Addressed.{Addressed}
-use Rattle.sheet.specs.declared.Addressed.TheVariants.{To, Nobody}
+use Rattle.std.specs.Prelude.{Err, None, Ok, Some}
+use Rattle.sheet.specs.Results.{Answer, Addressed, Check}
 use Rattle.sheet.specs.declared.Chips.{Chips}
 use Rattle.sheet.specs.declared.Refusal.{Refusal}
 use Rattle.sheet.specs.declared.Refusal.TheVariants.{GroupOrPhase}
-use Rattle.sheet.specs.declared.Check.{Check}
 use Rattle.sheet.specs.Parts.{Part}
 use Rattle.sheet.specs.Refusals.{numbers}
 use Rattle.sheet.specs.Protocol.{address_of, heard_by, Sent}
@@ -29,26 +27,26 @@ use Rattle.wire.proofs.Given.{Bytes, own-bytes, both-back, replaced-bytes}
 use Rattle.lent_group.specs.Sets.{SetAfter, SetCalled, heard_set, answered_set, heard_group, set_to, numbered_set}
 use Rattle.lent_long.specs.LongCalls.{LentAfter, lent_after, sent_to, Called, numbered}
 
-pub nothing_written : (l ram : List ℕ) (k : Check) (x : Refusal) (a : After) → length l ≡ 24 → Bytes l → k ≡ Check.Refused x
-    → ◌≡◌ {A = LentAfter} (record { answer = Answer.Refused x; registers = l; ram = ram }) (lent_after (answered k (both_of l) ram a))
-nothing_written l ram k x a e w told = rw told (λ j. record { answer = Answer.Refused x; registers = sym (both-back l e w) j; ram = ram })
+pub nothing_written : (l ram : List ℕ) (k : Check) (x : Refusal) (a : After) → length l ≡ 24 → Bytes l → k ≡ Err x
+    → ◌≡◌ {A = LentAfter} (record { answer = Err x; registers = l; ram = ram }) (lent_after (answered k (both_of l) ram a))
+nothing_written l ram k x a e w told = rw told (λ j. record { answer = Err x; registers = sym (both-back l e w) j; ram = ram })
 
 -- a group that hears is 0 or 1
 abbrev small : Addressed → Type 0
-small (To g) = g < 2
-small Nobody = T true
+small (Some g) = g < 2
+small None = T true
 
-pub hearer_small : (n : Chips) (x g : ℕ) → heard_by n x ≡ To g → g < 2
+pub hearer_small : (n : Chips) (x g : ℕ) → heard_by n x ≡ Some g → g < 2
 unfolding heard_by
 hearer_small n x g e = subst small e (go (eqb x (address_of 0) && ltb 0 n.zero) (eqb x (address_of 1) && ltb 0 n.one))
   where
-    go : (s t : Bool) → small (cond s (To 0) (cond t (To 1) Nobody))
+    go : (s t : Bool) → small (cond s (Some 0) (cond t (Some 1) None))
     go true t = omega arith
     go false true = omega arith
     go false false = tt
 
 -- and so is a group whose picture is taken
-pub shown-small : (K : Part) (n : Chips) (r : Both) (ram : List ℕ) (group phase size : ℕ) → check_picture K n r ram group phase size ≡ Check.Passed → group < 2
+pub shown-small : (K : Part) (n : Chips) (r : Both) (ram : List ℕ) (group phase size : ℕ) → check_picture K n r ram group phase size ≡ Ok tt → group < 2
 unfolding check_picture
 shown-small K n r ram group phase size e =
     let t = both_pass (unless (ltb group 2 && ltb phase 2) GroupOrPhase) _ (both_pass (check_state K n r ram) _ e).1 in
@@ -73,11 +71,11 @@ module _ (K : Part) (n : Chips) (g : ℕ) (small : g < 2) (l ram : List ℕ) (t 
   after r = lent_after (answered (fault_of_sent K r.unknown t) (both_of l) ram (heard_in K n g (both_of l) ram (heard_whole K t (begun r (columns_of K n g ram)))))
 
   own_put : (r : Registers) (k : Check) → put (answered_set k own ram (heard_set (heard_group K n g r ram t))) ≡ lent_after (answered k (both_of l) ram (heard_in K n g (both_of l) ram (heard_whole K t (begun r (columns_of K n g ram)))))
-  own_put r Check.Passed =
-      let h = heard_group K n g r ram t in λ i. record { answer = Answer.Taken h.counts h.last; registers = replaced-bytes g small l h.registers size w i; ram = h.ram }
-  own_put r (Check.Refused x) =
+  own_put r (Ok tt) =
+      let h = heard_group K n g r ram t in λ i. record { answer = Ok (record { counts = h.counts; last = h.last }); registers = replaced-bytes g small l h.registers size w i; ram = h.ram }
+  own_put r (Err x) =
       let back = ap (λ (b : List ℕ). take (12 * g) l ++ b) (take-append-drop 12 (drop (12 * g) l)) ∙ take-append-drop (12 * g) l ∙ sym (both-back l size w) in
-      λ i. record { answer = Answer.Refused x; registers = back i; ram = ram }
+      λ i. record { answer = Err x; registers = back i; ram = ram }
 
   pub own-sent : put (set_to K n g own ram t) ≡ sent_to K n g l ram t
   own-sent = own_put (registers_in own) (fault_of_sent K (registers_in own).unknown t) ∙ ap after (own-bytes g small l size)

@@ -1,10 +1,8 @@
 -- The long account as C sees it: registers as bytes, answers as numbers, through the definitions of `sheet`. Assumes nothing.
-use Rattle.std.specs.Prelude.{ℕ, ◌<◌, ◌≡◌, Bool, cond, ◌&&◌, List, eqb, length, get_or}
+use Rattle.std.specs.Prelude.{ℕ, ◌<◌, ◌≡◌, Bool, cond, ◌&&◌, List, eqb, length, get_or, Ok, Some}
 use Rattle.sheet.specs.declared.Chips.{Chips}
-use Rattle.sheet.specs.declared.Answer.{Answer}
+use Rattle.sheet.specs.Results.{Answer}
 use Rattle.sheet.specs.declared.PowerOn.{PowerOn}
-use Rattle.sheet.specs.declared.Addressed.TheVariants.{To}
-use Rattle.sheet.specs.declared.Check.TheVariants.{Passed}
 use Rattle.sheet.specs.Refusals.{numbers, picture_numbers, check_numbers}
 use Rattle.sheet.specs.Parts.{Part, part_of}
 use Rattle.sheet.specs.Protocol.{heard_by, Sent, whole_of, address_byte}
@@ -27,7 +25,7 @@ lent_after a = record { answer = a.result.answer; registers = both_bytes a.resul
 -- a bus that has passed 16, 3, 6, 4 and 5
 pub record Sendable (K : Part) (n : Chips) (registers ram : List ℕ) : Type 0 where
   pub size : length registers ≡ 24
-  pub state : check_state K n (both_of registers) ram ≡ Passed
+  pub state : check_state K n (both_of registers) ram ≡ Ok tt
 
 -- what is left to check then is 1, 2, 19, and 7, 17 and 18
 abbrev pub sent_c : Part → Chips → List ℕ → List ℕ → Sent → LentAfter
@@ -39,7 +37,7 @@ sent_c K n registers ram t =
 -- and 7, 17 and 18 where group g hears it
 abbrev pub sent_to : Part → Chips → ℕ → List ℕ → List ℕ → Sent → LentAfter
 sent_to K n g registers ram t =
-    let r = both_of registers in lent_after (answered (check_bytes K r (To g) t) r ram (taken K n r ram t (To g)))
+    let r = both_of registers in lent_after (answered (check_bytes K r (Some g) t) r ram (taken K n r ram t (Some g)))
 
 -- what a group is asked that hears a transfer: byte 0 came, and an answer has six numbers
 pub record Hearable (K : Part) (n : Chips) (g : ℕ) (registers ram : List ℕ) (t : Sent) (answer : List ℕ) : Type 0 where

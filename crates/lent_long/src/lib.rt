@@ -83,10 +83,10 @@ pub fn send(
     // read once, so that pointer and length are handed on and not where they lie
     let all = &bytes[..];
     match checks::check_sent(all.len(), bits) {
-        Check::Refused(refusal) => lent_group::say(bus.part, Answer::Refused(refusal), answer),
-        Check::Passed => match groups::heard_by(bus.chips, checks::address_byte(all, bits)) {
-            Addressed::To(group) => send_to(bus, group, registers, ram, all, bits, answer),
-            Addressed::Nobody => lent_group::say(bus.part, long::without_data(0), answer),
+        Err(refusal) => lent_group::say(bus.part, Err(refusal), answer),
+        Ok(()) => match groups::heard_by(bus.chips, checks::address_byte(all, bits)) {
+            Some(group) => send_to(bus, group, registers, ram, all, bits, answer),
+            None => lent_group::say(bus.part, long::without_data(0), answer),
         },
     }
 }
@@ -107,8 +107,8 @@ fn answered(
 {
     let fit = fits(bus.part, registers);
     match refused::check_state(bus.part, bus.chips, fit, ram, bus.packed) {
-        Check::Refused(refusal) => lent_group::say(bus.part, Answer::Refused(refusal), answer),
-        Check::Passed => send(bus, registers, ram, bytes, bits, answer),
+        Err(refusal) => lent_group::say(bus.part, Err(refusal), answer),
+        Ok(()) => send(bus, registers, ram, bytes, bits, answer),
     }
 }
 
@@ -128,13 +128,13 @@ fn pictured(
     let packed = bus.packed;
     let fit = fits(part, registers);
     match refused::check_picture(part, bus.chips, fit, group, phase, ram, packed, out.len()) {
-        Check::Refused(refusal) => Pictured::Refused(refusal),
-        Check::Passed => {
+        Err(refusal) => Err(refusal),
+        Ok(()) => {
             let at = 12 * (group as usize);
             let shown = wire::registers_of(&registers[at..at + 12]);
             let start = groups::start_in(part, bus.chips, group, packed);
             let end = groups::end_in(part, bus.chips, group, packed);
-            Pictured::Lit(picture::show(&ram[start..end], packed, shown, phase, out))
+            Ok(picture::show(&ram[start..end], packed, shown, phase, out))
         }
     }
 }

@@ -122,19 +122,19 @@ pub fn open(part: u8, set: &mut [u8], bytes: &[u8]) -> Opening
                 at += 2;
             } else {
                 return Opening {
-                    fault: Check::Refused(Refusal::UndefinedCommand(at + 1)),
+                    fault: Err(Refusal::UndefinedCommand(at + 1)),
                     at,
                 };
             }
         } else {
             return Opening {
-                fault: Check::Passed,
+                fault: Ok(()),
                 at,
             };
         }
     }
     Opening {
-        fault: Check::Passed,
+        fault: Ok(()),
         at,
     }
 }

@@ -32,7 +32,7 @@ pub fn begun(expect: Expect, registers: Registers, acknowledged: usize) -> Liste
             stored: 0,
             discarded: 0,
         },
-        last: Acknowledger::None,
+        last: None,
     }
 }
 
@@ -116,9 +116,9 @@ fn acknowledger(part: u8, v: usize, size: usize, m: usize) -> Acknowledger
 {
     let column = v + 7 / m;
     if column < size {
-        Acknowledger::Subaddress(arithmetic::chip_of(part, column))
+        Some(arithmetic::chip_of(part, column))
     } else {
-        Acknowledger::None
+        None
     }
 }
 

@@ -1,12 +1,10 @@
 -- Bus logs and the program's text (paper 01, "Bus logs"; paper 02, request 10): a log's bytes in, the text's bytes out.
 -- Assumes nothing.
-use Rattle.std.specs.Prelude.{ℕ, zero, suc, ◌+◌, ◌*◌, ◌/◌, ◌%◌, cond, ◌&&◌, ◌||◌, List, [], ◌∷◌, ◌++◌, map, eqb, ltb, leb, length, get_or, drop, replicate}
+use Rattle.std.specs.Prelude.{ℕ, zero, suc, ◌+◌, ◌*◌, ◌/◌, ◌%◌, cond, ◌&&◌, ◌||◌, List, [], ◌∷◌, ◌++◌, map, eqb, ltb, leb, length, get_or, drop, replicate, Err, Ok}
 use Rattle.sheet.specs.declared.Chips.{Chips}
-use Rattle.sheet.specs.declared.Check.{Check}
-use Rattle.sheet.specs.declared.Check.TheVariants.{Passed, Refused}
+use Rattle.sheet.specs.Results.{Check, Answer}
 use Rattle.sheet.specs.declared.Refusal.{Refusal}
 use Rattle.sheet.specs.declared.Refusal.TheVariants.{LogHead, LongLog}
-use Rattle.sheet.specs.declared.Answer.{Answer}
 use Rattle.sheet.specs.Refusals.{number_of, place_of, numbers}
 use Rattle.sheet.specs.Parts.{pcf8532}
 use Rattle.sheet.specs.Registers.{registers_of}
@@ -82,8 +80,8 @@ transfer_line i answer = line transfer_letter (i ∷ numbers pcf8532 answer)
 
 -- the acknowledged bytes that the model has: none of a refused transfer
 abbrev pub modelled : Answer → ℕ
-modelled (Answer.Taken t last) = t.acknowledged
-modelled (Answer.Refused r) = 0
+modelled (Ok t) = t.counts.acknowledged
+modelled (Err r) = 0
 
 -- and those that the analyser saw
 abbrev pub seen_in : List ℕ → ℕ
@@ -153,8 +151,8 @@ refusal_line r = line refusal_letter (number_of r ∷ place_of r ∷ [])
 
 -- a refused log gives that line only
 abbrev pub text_by : Check → ℕ → Chips → List (List ℕ) → List ℕ
-text_by Passed seen n bodies = log_lines seen n bodies
-text_by (Refused r) seen n bodies = refusal_line r
+text_by (Ok _) seen n bodies = log_lines seen n bodies
+text_by (Err r) seen n bodies = refusal_line r
 
 unfoldable pub text_of : List ℕ → List ℕ
 text_of log = text_by (check_log log) (seen_bytes log) (log_chips log) (log_records log).bodies

@@ -1,12 +1,11 @@
 -- The records of a bus log (paper 01, "Bus logs"; paper 02, request 10): one walk gives the bodies and the place where they are torn; its equations are proved below.
 -- seen: the bytes at the start of each body that say what the analyser saw.
 -- Assumes nothing.
-use Rattle.std.specs.Prelude.{◌≡◌, refl, cond, List, [], ◌∷◌, ℕ, zero, suc, ◌+◌, ◌*◌, ◌≤◌, ◌<◌, leb, length, take}
+use Rattle.std.specs.Prelude.{◌≡◌, refl, cond, List, [], ◌∷◌, ℕ, zero, suc, ◌+◌, ◌*◌, ◌≤◌, ◌<◌, leb, length, take, Err, Ok}
 use Rattle.std.proofs.Common.{arith}
 use Rattle.std.proofs.Math.ListN.{drop, length-drop}
 use borrow.Author.Tests.{le-leb, lt-leb}
-use Rattle.sheet.specs.declared.Check.{Check}
-use Rattle.sheet.specs.declared.Check.TheVariants.{Passed, Refused}
+use Rattle.sheet.specs.Results.{Check}
 use Rattle.sheet.specs.declared.Refusal.TheVariants.{CutRecord, ShortBody}
 
 -- the bodies of the records before the first that is cut short or has too short a body, and that one's refusal; place: the offset of its length field
@@ -15,14 +14,14 @@ pub record Records : Type 0 where
   pub tear : Check
 
 abbrev pub no_records : Records
-no_records = record { bodies = []; tear = Passed }
+no_records = record { bodies = []; tear = (Ok tt) }
 
 -- 13, 20
 abbrev pub torn_at : ℕ → Records
-torn_at at = record { bodies = []; tear = Refused (CutRecord at) }
+torn_at at = record { bodies = []; tear = Err (CutRecord at) }
 
 abbrev pub short_at : ℕ → Records
-short_at at = record { bodies = []; tear = Refused (ShortBody at) }
+short_at at = record { bodies = []; tear = Err (ShortBody at) }
 
 abbrev pub with_body : List ℕ → Records → Records
 with_body body after = record { bodies = body ∷ after.bodies; tear = after.tear }

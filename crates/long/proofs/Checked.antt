@@ -6,7 +6,7 @@ use Prim.Native.Nat.{ℕ}
 use lib.ListN.{length}
 use Rattle.sheet.specs.declared.Both.{Both}
 use Rattle.sheet.specs.declared.Chips.{Chips}
-use Rattle.sheet.specs.declared.Check.{Check}
+use Rattle.sheet.specs.Results.{Check}
 use Rattle.sheet.specs.Parts.{part_of}
 use Rattle.sheet.specs.Registers.{registers_of}
 use Rattle.sheet.specs.Protocol.{heard_by, Sent, address_byte}

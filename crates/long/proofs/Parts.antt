@@ -11,7 +11,7 @@ use lib.Seq.{drop-drop}
 use Rattle.sheet.specs.declared.Both.{Both}
 use Rattle.sheet.specs.declared.Chips.{Chips}
 use Rattle.sheet.specs.declared.Registers.{Registers}
-use Rattle.sheet.specs.declared.Check.TheVariants.{Passed}
+use Rattle.std.specs.Prelude.{Ok}
 use Rattle.sheet.specs.Parts.{Part, part_of}
 use Rattle.sheet.specs.Registers.{registers_of}
 use Rattle.sheet.specs.Protocol.{chips_in}
@@ -58,7 +58,7 @@ pub record Cut (K : Part) (n : Chips) (both : Both) (g : ℕ) (packed : Bool) (r
   pub ends : end ≤ length ram
 
 pub cut : (part : ℕ) (n : Chips) (both : Both) (g : ℕ) (packed : Bool) (ram : List ℕ) (start end : ℕ) → let K = part_of part in
-    check_state K n both (columns_in packed ram) ≡ Passed → start ≡ cond packed (start_of K n g / 2) (start_of K n g) → end ≡ cond packed (end_of K n g / 2) (end_of K n g)
+    check_state K n both (columns_in packed ram) ≡ Ok tt → start ≡ cond packed (start_of K n g / 2) (start_of K n g) → end ≡ cond packed (end_of K n g / 2) (end_of K n g)
     → Cut K n both g packed ram start end
 cut part n both g packed ram start end e es ee = let K = part_of part in
     let f = fits-of K n both (columns_in packed ram) e in

@@ -1,7 +1,7 @@
 // THE LONG ACCOUNT: one register set a group and one long RAM, a byte a column or packed. Every input gets an answer; a refused call changes nothing.
 #![tactic(auto)]
 
-ghost use Rattle.std.specs.Prelude.{◌≡◌, ◌*◌, ◌<◌, length};
+ghost use Rattle.std.specs.Prelude.{◌≡◌, ◌*◌, ◌<◌, length, None, Ok, Some};
 ghost use Rattle.sheet.specs.Refusals.{numbers, picture_numbers, check_numbers};
 ghost use Rattle.sheet.specs.Parts.{part_of};
 ghost use Rattle.sheet.specs.Protocol.{chips_in, sent, whole_of};
@@ -70,8 +70,8 @@ fn deliver(
     bits: u8,
     group: u8,
 ) -> Transferred
-    requires { (check_state (part_of part) chips registers (columns_in packed ram.old) ≡ Check.Passed) × (length bytes.now < 4097) × (0 < length (whole_of (sent bytes.now bits))) }
-    ensures { record { result = result; ram = columns_in packed ram.new } ≡ taken (part_of part) chips registers (columns_in packed ram.old) (sent bytes.now bits) (Addressed.To group) }
+    requires { (check_state (part_of part) chips registers (columns_in packed ram.old) ≡ Ok tt) × (length bytes.now < 4097) × (0 < length (whole_of (sent bytes.now bits))) }
+    ensures { record { result = result; ram = columns_in packed ram.new } ≡ taken (part_of part) chips registers (columns_in packed ram.old) (sent bytes.now bits) (Some group) }
 {
     let before = groups::registers_of(group, registers);
     let heard = hear_in(part, chips, group, before, ram, packed, bytes, bits, 1);
@@ -79,14 +79,14 @@ fn deliver(
     let counts = heard.counts;
     let last = heard.last;
     Transferred {
-        answer: Answer::Taken { counts, last },
+        answer: Ok(Taken { counts, last }),
         registers: groups::replaced(group, after, registers),
     }
 }
 
 // What is said of a transfer that brings no data: so many bytes are acknowledged, none where nobody hears it.
 pub fn without_data(acknowledged: usize) -> Answer
-    ensures { result ≡ Answer.Taken (record { acknowledged = acknowledged; stored = 0; discarded = 0 }) Acknowledger.None }
+    ensures { result ≡ Ok (record { counts = record { acknowledged = acknowledged; stored = 0; discarded = 0 }; last = None }) }
 {
     Answer::Taken {
         counts: Counts {
@@ -94,7 +94,7 @@ pub fn without_data(acknowledged: usize) -> Answer
             stored: 0,
             discarded: 0,
         },
-        last: Acknowledger::None,
+        last: None,
     }
 }
 
@@ -112,15 +112,15 @@ pub fn transfer(
     ensures answer_value { numbers (part_of part) result.answer ≡ numbers (part_of part) (transfer_part part chips registers (columns_in packed ram.old) (sent bytes.now bits)).result.answer }
 {
     match refused::check_transfer(part, chips, registers, ram, packed, bytes, bits) {
-        Check::Refused(refusal) => Transferred {
-            answer: Answer::Refused(refusal),
+        Err(refusal) => Transferred {
+            answer: Err(refusal),
             registers,
         },
-        Check::Passed => match groups::heard_by(chips, checks::address_byte(bytes, bits)) {
-            Addressed::To(group) => deliver(
+        Ok(()) => match groups::heard_by(chips, checks::address_byte(bytes, bits)) {
+            Some(group) => deliver(
                 part, chips, registers, ram, packed, bytes, bits, group,
             ),
-            Addressed::Nobody => Transferred {
+            None => Transferred {
                 answer: without_data(0),
                 registers,
             },
@@ -164,10 +164,10 @@ pub fn picture(
 {
     let fit = refused::registers_fit(part, registers);
     match refused::check_picture(part, chips, fit, group, phase, ram, packed, out.len()) {
-        Check::Refused(refusal) => Pictured::Refused(refusal),
-        Check::Passed => {
+        Err(refusal) => Err(refusal),
+        Ok(()) => {
             let shown = groups::registers_of(group, registers);
-            Pictured::Lit(show_in(part, chips, group, shown, ram, packed, phase, out))
+            Ok(show_in(part, chips, group, shown, ram, packed, phase, out))
         }
     }
 }

@@ -13,12 +13,10 @@ use borrow.Author.Tests.{eqb-true, eq-eqb, ne_eqb}
 use Rattle.lemmas.proofs.Lists.{next}
 use Rattle.sheet.specs.declared.Registers.{Registers}
 use Rattle.sheet.specs.declared.Chips.{Chips}
-use Rattle.sheet.specs.declared.Addressed.{Addressed}
-use Rattle.sheet.specs.declared.Addressed.TheVariants.{To, Nobody}
+use Rattle.std.specs.Prelude.{Err, None, Some}
+use Rattle.sheet.specs.Results.{Addressed, Check}
 use Rattle.sheet.specs.declared.Expect.TheVariants.{Control, One, All}
 use Rattle.sheet.specs.declared.Refusal.TheVariants.{UndefinedCommand}
-use Rattle.sheet.specs.declared.Check.{Check}
-use Rattle.sheet.specs.declared.Check.TheVariants.{Passed, Refused}
 use Rattle.sheet.specs.Parts.{Part}
 use Rattle.sheet.specs.Registers.{in_range, lost_by}
 use Rattle.sheet.specs.Commands.{defined, obeyed}
@@ -43,7 +41,7 @@ module _ (K : Part) (r : Registers) (bytes : List ℕ) (i : ℕ) where
     goes_on c d = rw (two h, eq-eqb _ 128 c, d)
 
     pub undefined-at : get_or bytes i 0 ≡ 128 → defined (K.command (get_or bytes (i + 1) 0)) ≡ false
-        → opened K r i (drop i bytes) ≡ record { fault = Refused (UndefinedCommand (i + 1)); registers = r; at = i }
+        → opened K r i (drop i bytes) ≡ record { fault = Err (UndefinedCommand (i + 1)); registers = r; at = i }
     unfolding opened
     undefined-at c d = rw (two h, eq-eqb _ 128 c, d)
 
@@ -66,7 +64,7 @@ module _ (K : Part) (r : Registers) (bytes : List ℕ) (i : ℕ) where
 -- what holds where nothing opens, of a command that is undefined, and of a command before an opening of which it holds, holds of every opening
 by-command : (K : Part) (P : Registers → ℕ → List ℕ → Opening → Type 0)
     → ((r : Registers) (i : ℕ) (xs : List ℕ) → P r i xs (opens r i))
-    → ((r : Registers) (i x : ℕ) (xs : List ℕ) → defined (K.command x) ≡ false → P r i (128 ∷ (x ∷ xs)) (record { fault = Refused (UndefinedCommand (i + 1)); registers = r; at = i }))
+    → ((r : Registers) (i x : ℕ) (xs : List ℕ) → defined (K.command x) ≡ false → P r i (128 ∷ (x ∷ xs)) (record { fault = Err (UndefinedCommand (i + 1)); registers = r; at = i }))
     → ((r : Registers) (i x : ℕ) (xs : List ℕ) (o : Opening) → defined (K.command x) ≡ true → P (obeyed r (K.command x)) (i + 2) xs o → P r i (128 ∷ (x ∷ xs)) o)
     → (r : Registers) (i : ℕ) (xs : List ℕ) → P r i xs (opened K r i xs)
 unfolding opened
@@ -77,9 +75,9 @@ by-command K P none undefined step r i (c ∷ (x ∷ xs)) = go (eqb c 128) (defi
     o : Opening
     o = opened K (obeyed r (K.command x)) (i + 2) xs
 
-    go : (s t : Bool) → eqb c 128 ≡ s → defined (K.command x) ≡ t → P (obeyed r (K.command x)) (i + 2) xs o → P r i (c ∷ (x ∷ xs)) (cond s (cond t o (record { fault = Refused (UndefinedCommand (i + 1)); registers = r; at = i })) (opens r i))
+    go : (s t : Bool) → eqb c 128 ≡ s → defined (K.command x) ≡ t → P (obeyed r (K.command x)) (i + 2) xs o → P r i (c ∷ (x ∷ xs)) (cond s (cond t o (record { fault = Err (UndefinedCommand (i + 1)); registers = r; at = i })) (opens r i))
     go true true e d h = subst (λ (b : ℕ). P r i (b ∷ (x ∷ xs)) o) (sym (eqb-true c 128 e)) (step r i x xs o d h)
-    go true false e d h = subst (λ (b : ℕ). P r i (b ∷ (x ∷ xs)) (record { fault = Refused (UndefinedCommand (i + 1)); registers = r; at = i })) (sym (eqb-true c 128 e)) (undefined r i x xs d)
+    go true false e d h = subst (λ (b : ℕ). P r i (b ∷ (x ∷ xs)) (record { fault = Err (UndefinedCommand (i + 1)); registers = r; at = i })) (sym (eqb-true c 128 e)) (undefined r i x xs d)
     go false t e d h = none r i (c ∷ (x ∷ xs))
 
 record Leaves (K : Part) (r : Registers) (i : ℕ) (xs : List ℕ) (o : Opening) : Type 0 where
@@ -98,7 +96,7 @@ leaves K = by-command K (Leaves K) none undefined step
         let all : i - i ≡ 0 = omega arith in
         record { from = omega arith; most = omega arith; fault = λ cut. rw all; group = λ ram. rw all; then = rw all }
 
-    undefined : (r : Registers) (i x : ℕ) (xs : List ℕ) → defined (K.command x) ≡ false → Leaves K r i (128 ∷ (x ∷ xs)) (record { fault = Refused (UndefinedCommand (i + 1)); registers = r; at = i })
+    undefined : (r : Registers) (i x : ℕ) (xs : List ℕ) → defined (K.command x) ≡ false → Leaves K r i (128 ∷ (x ∷ xs)) (record { fault = Err (UndefinedCommand (i + 1)); registers = r; at = i })
     undefined r i x xs d =
         let all : i - i ≡ 0 = omega arith in
         record { from = omega arith; most = omega arith; fault = λ cut. rw (d, add-one i); group = λ ram. rw all; then = rw all }
@@ -147,14 +145,14 @@ opens-whole K before t o h e =
     }
 
 -- a transfer that a group hears has a byte 0
-pub hearer_some : (n : Chips) (t : Sent) (g : ℕ) → heard_by n (address_byte t) ≡ To g → 0 < length (whole_of t)
+pub hearer_some : (n : Chips) (t : Sent) (g : ℕ) → heard_by n (address_byte t) ≡ Some g → 0 < length (whole_of t)
 unfolding heard_by
 hearer_some n t g e = go (whole_of t) e
   where
     nobody : Addressed → Bool
-    nobody (To h) = false
-    nobody Nobody = true
+    nobody (Some h) = false
+    nobody None = true
 
-    go : (xs : List ℕ) → heard_by n (get_or xs 0 0) ≡ To g → 0 < length xs
+    go : (xs : List ℕ) → heard_by n (get_or xs 0 0) ≡ Some g → 0 < length xs
     go [] e = absurd (false≢true (sym (ap nobody e)))
     go (x ∷ xs) e = omega arith

@@ -12,13 +12,13 @@ use lib.Pow.{pow_pos, pow_mono}
 use lib.Seq.{take-suc, take_all, take-add, take-take, take_at, take-append-add, length-take-le}
 use Rattle.lemmas.proofs.Lists.{drop-take}
 use Rattle.lemmas.proofs.Mapped.{Mapped, mapped-one, mapped-all}
-use Rattle.sheet.specs.declared.Shown.TheVariants.{Rows}
+use Rattle.std.specs.Prelude.{Some}
 use Rattle.sheet.specs.Pictures as pictures
 use Rattle.laws.proofs.Lit.{lit_join, few-lit}
 use Rattle.picture.specs.Drawn.{rows_of, Drawn, drawn, Low}
 
 pub record Drawing (first height : ℕ) (columns out : List ℕ) (lit i : ℕ) : Type 0 where
-  pub mapped : Mapped (pictures.lit height (Rows first)) columns out i
+  pub mapped : Mapped (pictures.lit height (Some first)) columns out i
   pub counted : lit ≡ pictures.lit_in (rows_of first height (take i columns))
 
 -- the elements before end are those before i and the part from i to end
@@ -94,7 +94,7 @@ counted-turn : {lit some : ℕ} (first height : ℕ) (columns : List ℕ) (i end
     → some ≡ pictures.lit_in (rows_of first height (take (end - i) (drop i columns))) → lit + some ≡ pictures.lit_in (rows_of first height (take end columns))
 counted-turn first height columns i end le e s =
     let part = take (end - i) (drop i columns) in
-    rw (up_to columns i end le, map-append (pictures.lit height (Rows first)) (take i columns) part, lit_join (rows_of first height (take i columns)) (rows_of first height part), ← e, ← s)
+    rw (up_to columns i end le, map-append (pictures.lit height (Some first)) (take i columns) part, lit_join (rows_of first height (take i columns)) (rows_of first height part), ← e, ← s)
 
 -- ---- both
 
@@ -111,12 +111,12 @@ module _ {first height : ℕ} {columns : List ℕ} where
         omega (arith, d.counted, few-lit height first (take i columns), mul-le-mul_left {m = length (take i columns)} {n = i} height (omega arith), mul-le-mul_right {m = height} {n = 4} i (omega arith))
 
     -- a column more
-    pub one-turn : {q : ℕ} → i < length columns → q ≡ pictures.lit height (Rows first) (get_or columns i 0) → Drawing first height columns (set out i q) (lit + ones q) (i + 1)
+    pub one-turn : {q : ℕ} → i < length columns → q ≡ pictures.lit height (Some first) (get_or columns i 0) → Drawing first height columns (set out i q) (lit + ones q) (i + 1)
     unfolding pictures.lit_in
     one-turn {q} h e = record {
       mapped = mapped-one _ _ _ _ _ h e d.mapped;
       counted =
-          rw (add-one i, take-suc columns i 0 h, map-append (pictures.lit height (Rows first)) (take i columns) (get_or columns i 0 ∷ []), lit_join (rows_of first height (take i columns)) (rows_of first height (get_or columns i 0 ∷ [])), ← d.counted, ← e)
+          rw (add-one i, take-suc columns i 0 h, map-append (pictures.lit height (Some first)) (take i columns) (get_or columns i 0 ∷ []), lit_join (rows_of first height (take i columns)) (rows_of first height (get_or columns i 0 ∷ [])), ← d.counted, ← e)
           (omega arith);
     }
 
@@ -129,7 +129,7 @@ module _ {first height : ℕ} {columns : List ℕ} where
     }
 
     -- all up to another place, which are written and then counted in two parts
-    pub parts-turn : {to : List ℕ} {ones more end : ℕ} (middle : ℕ) → i ≤ middle → middle ≤ end → Mapped (pictures.lit height (Rows first)) columns to end
+    pub parts-turn : {to : List ℕ} {ones more end : ℕ} (middle : ℕ) → i ≤ middle → middle ≤ end → Mapped (pictures.lit height (Some first)) columns to end
         → ones ≡ pictures.lit_in (take (middle - i) (drop i to)) → more ≡ pictures.lit_in (take (end - middle) (drop middle to)) → Drawing first height columns to (lit + (ones + more)) end
     parts-turn {end} middle le most m e f =
         let before = counted-turn first height columns i middle le d.counted (e ∙ ap pictures.lit_in (written-part i middle m le most)) in
@@ -142,5 +142,5 @@ module _ {first height : ℕ} {columns : List ℕ} where
     pub done : length columns ≤ i → record { lit = lit; out = out } ≡ drawn first height columns
     done h =
         let counted = d.counted ∙ ap (λ (l : List ℕ). pictures.lit_in (rows_of first height l)) (take_all i columns h) in
-        let written = mapped-all (pictures.lit height (Rows first)) columns out i h d.mapped in
+        let written = mapped-all (pictures.lit height (Some first)) columns out i h d.mapped in
         λ j. record { lit = counted j; out = written j }

@@ -1,10 +1,9 @@
 -- The rows of columns from a first one on, as they are written, and their lit elements.
-use Rattle.std.specs.Prelude.{ℕ, ◌%◌, ◌≤◌, ◌<◌, ◌≡◌, List, map, length, get_or}
-use Rattle.sheet.specs.declared.Shown.TheVariants.{Rows}
+use Rattle.std.specs.Prelude.{ℕ, ◌%◌, ◌≤◌, ◌<◌, ◌≡◌, List, map, length, get_or, Some}
 use Rattle.sheet.specs.Pictures.{lit, lit_in}
 
 abbrev pub rows_of : ℕ → ℕ → List ℕ → List ℕ
-rows_of first height columns = map (lit height (Rows first)) columns
+rows_of first height columns = map (lit height (Some first)) columns
 
 pub record Drawn : Type 0 where
   pub lit : ℕ

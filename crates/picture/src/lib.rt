@@ -1,7 +1,7 @@
 // What a group shows.
 #![tactic(auto)]
 
-ghost use Rattle.std.specs.Prelude.{◌≡◌, ◌≤◌, ◌<◌, ◌%◌, length};
+ghost use Rattle.std.specs.Prelude.{◌≡◌, ◌≤◌, ◌<◌, ◌%◌, length, Some};
 ghost use Rattle.sheet.specs.Pictures.{lit, picture_of, lit_in};
 ghost use Rattle.packed_sheet.specs.Packed.{unpacked, columns_in};
 ghost use Rattle.picture.specs.Drawn.{rows_of, drawn, Few, Drawable, Low};
@@ -11,7 +11,7 @@ use sheet::{Registers, Shown};
 // A column's rows from a first one on, moved down to row 0.
 fn lit_rows(first: usize, height: usize, column: u8) -> u8
     requires { (first < 8) × (height < 8) }
-    ensures { result ≡ lit height (Shown.Rows first) column }
+    ensures { result ≡ lit height (Some first) column }
 {
     (column >> first) & ((1u8 << height) - 1)
 }
@@ -128,7 +128,7 @@ pub fn show(ram: &[u8], packed: bool, registers: Registers, phase: u8, out: &mut
     ensures value { result ≡ lit_in (picture_of registers phase (columns_in packed ram.now)) }
 {
     match shown::shown(registers, phase) {
-        Shown::Dark => draw_in(ram, packed, 0, 0, out),
-        Shown::Rows(first) => draw_in(ram, packed, first, arithmetic::backplanes(registers), out),
+        None => draw_in(ram, packed, 0, 0, out),
+        Some(first) => draw_in(ram, packed, first, arithmetic::backplanes(registers), out),
     }
 }

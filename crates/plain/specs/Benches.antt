@@ -1,11 +1,9 @@
 -- A transfer to a bench: of its sixteen chips the first `count` take part. A count over sixteen is refused, and the bench is as given.
-use Rattle.std.specs.Prelude.{ℕ, cond, List, ◌++◌, leb, take, drop}
+use Rattle.std.specs.Prelude.{ℕ, cond, List, ◌++◌, leb, take, drop, Err, Ok}
 use Rattle.sheet.specs.declared.Chip.{Chip}
 use Rattle.sheet.specs.declared.Refusal.{Refusal}
 use Rattle.sheet.specs.declared.Refusal.TheVariants.{ManyChips}
-use Rattle.sheet.specs.declared.Check.{Check}
-use Rattle.sheet.specs.declared.Check.TheVariants.{Passed, Refused}
-use Rattle.sheet.specs.declared.PlainAnswer.{PlainAnswer}
+use Rattle.sheet.specs.Results.{Check, PlainAnswer}
 use Rattle.sheet.specs.Protocol.{Sent}
 use Rattle.sheet.specs.Checks.{check_part}
 use Rattle.sheet.specs.Plain.{plain_part}
@@ -23,12 +21,12 @@ first_transferred part b t =
 
 -- a check's refusal, or else another
 abbrev pub or_refusal : Check → Refusal → Refusal
-or_refusal Passed r = r
-or_refusal (Refused x) r = x
+or_refusal (Ok _) r = r
+or_refusal (Err x) r = x
 
 -- 16, or else 10
 abbrev pub too_many : ℕ → Refusal
 too_many part = or_refusal (check_part part) ManyChips
 
 abbrev pub bench_transferred : ℕ → Bench → Sent → BenchTransferred
-bench_transferred part b t = cond (leb b.count 16) (first_transferred part b t) (record { answer = PlainAnswer.Refused (too_many part); bench = b })
+bench_transferred part b t = cond (leb b.count 16) (first_transferred part b t) (record { answer = Err (too_many part); bench = b })

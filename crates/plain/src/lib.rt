@@ -133,8 +133,8 @@ pub fn too_many(part: u8) -> Refusal
     ensures { result ≡ too_many part }
 {
     match checks::check_part(part) {
-        Check::Refused(refusal) => refusal,
-        Check::Passed => Refusal::ManyChips,
+        Err(refusal) => refusal,
+        Ok(()) => Refusal::ManyChips,
     }
 }
 
@@ -147,7 +147,7 @@ pub fn transfer_bench(part: u8, bench: Bench, bytes: &[u8], bits: u8) -> BenchTr
         transfer_first(bytes, bench, part, bits)
     } else {
         BenchTransferred {
-            answer: PlainAnswer::Refused(too_many(part)),
+            answer: Err(too_many(part)),
             bench,
         }
     }

@@ -10,14 +10,12 @@ use lib.ListN.{length, take, drop, get_or, set, length-set, take-append-drop, dr
 use lib.Seq.{take-suc-set, take-set-le, drop-set-lt, drop-drop, get_or-set_same, get_or-take, length-take-le}
 use borrow.Author.Tests.{ltb-true}
 use Rattle.lemmas.proofs.Lists.{next}
-use Rattle.sheet.specs.declared.Written.{Written}
-use Rattle.sheet.specs.declared.Check.{Check}
-use Rattle.sheet.specs.declared.Check.TheVariants.{Passed, Refused}
+use Rattle.std.specs.Prelude.{Err, None, Ok, Option, Some}
+use Rattle.sheet.specs.Results.{Written, Check}
 use Rattle.sheet.specs.declared.Refusal.TheVariants.{NoSymbol}
 use Rattle.sheet.specs.Written.{written_by}
 use Rattle.price_sheet.specs.declared.Symbol.{Symbol}
 use Rattle.price_sheet.specs.declared.Symbol.TheVariants.{Digit, Pointed, Space, Minus, LongMinus}
-use Rattle.price_sheet.specs.declared.Found.{Found}
 use Rattle.price_sheet.specs.Price.{is_symbol, text_of, texts_of, plain, byte_of, begun_at, Spelled, and_then, spelled_from, spelled, shown, read_from}
 use Rattle.laws.proofs.Symbols.{shown-is}
 use Rattle.laws.proofs.Spelling.{some-text, one_symbol, no_symbol, one_byte}
@@ -53,14 +51,14 @@ further before after n m h e =
     ap (λ (k : ℕ). drop k after) (sym on) ∙ sym (drop-drop (m - n) n after) ∙ ap (λ (l : List ℕ). drop (m - n) l) e ∙ drop-drop (m - n) n before ∙ ap (λ (k : ℕ). drop k before) on
 
 module _ {p : Spelled} {whole before after : List ℕ} {room : ℕ} where
-  pub passed : {place : ℕ} → p.fault ≡ Passed → Fronting whole place [] after → drop place after ≡ drop place before → place ≤ room → Put p whole room before after (Written.Bytes place)
+  pub passed : {place : ℕ} → p.fault ≡ Ok tt → Fronting whole place [] after → drop place after ≡ drop place before → place ≤ room → Put p whole room before after (Ok place)
   passed {place} e w stays h = record {
-    result = ap Written.Bytes (long w) ∙ ap (λ (k : Check). (written_by k whole []).result) (sym e);
+    result = ap Ok (long w) ∙ ap (λ (k : Check). (written_by k whole []).result) (sym e);
     whole = λ _. sym (take-append-drop place after) ∙ ap (λ (l : List ℕ). l ++ drop place after) (all_of w) ∙ ap (λ (l : List ℕ). whole ++ l) (stays ∙ ap (λ (k : ℕ). drop k before) (long w));
     far = further before after place room h stays;
   }
 
-  pub refused : {i : ℕ} → p.fault ≡ Refused (NoSymbol i) → drop room after ≡ drop room before → Put p whole room before after (Written.Refused (NoSymbol i))
+  pub refused : {i : ℕ} → p.fault ≡ Err (NoSymbol i) → drop room after ≡ drop room before → Put p whole room before after (Err (NoSymbol i))
   refused e far = record {
     result = ap (λ (k : Check). (written_by k whole []).result) (sym e);
     whole = λ passed. let z : ◌≡◌ {A = ℕ} 0 1 = cc in absurd (omega (arith, z));
@@ -87,7 +85,7 @@ pub record Coded (s : Symbol) (code : ℕ) : Type 0 where
   pub least : 1 ≤ code / 256
   pub most : code / 256 ≤ 2
 
-by_code : (s : Symbol) → is_symbol s ≡ true → plain s ≡ s → Coded s (code_of (Found.Symbol s))
+by_code : (s : Symbol) → is_symbol s ≡ true → plain s ≡ s → Coded s (code_of (Some s))
 by_code (Digit n) e p = let l = ltb-true n 10 e in
     let high : (0x130 + n) / 256 ≡ 1 = omega arith in
     let low : (0x130 + n) % 256 ≡ 48 + n = omega arith in
@@ -101,13 +99,13 @@ by_code Minus e p = record { text = refl; least = omega arith; most = omega arit
 by_code LongMinus e p = let z : ◌≡◌ {A = ℕ} 0 1 = cc in absurd (omega (arith, z))
 
 -- no symbol has code 0
-no_code : (f : Found) → code_of f ≡ 0 → f ≡ Found.None
-no_code (Found.Symbol (Digit n)) e = absurd (omega (arith, e))
-no_code (Found.Symbol (Pointed n)) e = absurd (omega (arith, e))
-no_code (Found.Symbol Space) e = absurd (omega (arith, e))
-no_code (Found.Symbol Minus) e = absurd (omega (arith, e))
-no_code (Found.Symbol LongMinus) e = absurd (omega (arith, e))
-no_code Found.None e = refl
+no_code : (f : Option Symbol) → code_of f ≡ 0 → f ≡ None
+no_code (Some (Digit n)) e = absurd (omega (arith, e))
+no_code (Some (Pointed n)) e = absurd (omega (arith, e))
+no_code (Some Space) e = absurd (omega (arith, e))
+no_code (Some Minus) e = absurd (omega (arith, e))
+no_code (Some LongMinus) e = absurd (omega (arith, e))
+no_code None e = refl
 
 -- a byte and the point, of which the point may be written over
 two : {whole rest after : List ℕ} (place c n : ℕ) → 1 ≤ n → n ≤ 2 → place + 1 < length after → Fronting whole place (take n (c ∷ 0x2E ∷ []) ++ rest) after
@@ -129,18 +127,18 @@ two-before : (after : List ℕ) (place c n : ℕ) → place + 1 < n → drop n (
 two-before after place c n h = drop-set-lt n (set after place c) (place + 1) 0x2E h ∙ drop-set-lt n after place c (omega arith)
 
 -- by what byte i shows
-left_by : (mode : ℕ) (bytes : List ℕ) (i : ℕ) (f : Found) → i < length bytes → shown mode (get_or bytes i 0) ≡ f → read_from mode i (drop i bytes) ≡ and_then i f (read_from mode (i + 1) (drop (i + 1) bytes))
-left_by mode bytes i f h e = one_byte mode bytes i h ∙ ap (λ (g : Found). and_then i g (read_from mode (i + 1) (drop (i + 1) bytes))) e
+left_by : (mode : ℕ) (bytes : List ℕ) (i : ℕ) (f : Option Symbol) → i < length bytes → shown mode (get_or bytes i 0) ≡ f → read_from mode i (drop i bytes) ≡ and_then i f (read_from mode (i + 1) (drop (i + 1) bytes))
+left_by mode bytes i f h e = one_byte mode bytes i h ∙ ap (λ (g : Option Symbol). and_then i g (read_from mode (i + 1) (drop (i + 1) bytes))) e
 
 module _ {mode : ℕ} {bytes before : List ℕ} {place i : ℕ} {after : List ℕ} where
-  turn_by : (f : Found) → shown mode (get_or bytes i 0) ≡ f → (code_of f ≡ 0 → ⊥) → i < length bytes → place + 1 < 160 → 160 ≤ length before → Reading mode bytes before place i after
+  turn_by : (f : Option Symbol) → shown mode (get_or bytes i 0) ≡ f → (code_of f ≡ 0 → ⊥) → i < length bytes → place + 1 < 160 → 160 ≤ length before → Reading mode bytes before place i after
       → Reading mode bytes before (place + code_of f / 256) (i + 1) (set (set after place (code_of f % 256)) (place + 1) 0x2E)
-  turn_by Found.None e ne h l r w = absurd (ne refl)
-  turn_by (Found.Symbol s) e ne h l r w =
+  turn_by None e ne h l r w = absurd (ne refl)
+  turn_by (Some s) e ne h l r w =
       let is = (shown-is mode (get_or bytes i 0) s e).is in
-      let n = code_of (Found.Symbol s) in
+      let n = code_of (Some s) in
       let code = by_code s is.symbol is.same in
-      let next = left_by mode bytes i (Found.Symbol s) h e in
+      let next = left_by mode bytes i (Some s) h e in
       record {
         front = two place (n % 256) (n / 256) code.least code.most (omega (arith, w.kept))
             (rest-is w.front (ap (λ (p : Spelled). texts_of p.symbols) next ∙ ap (λ (t : List ℕ). t ++ text_left mode bytes (i + 1)) code.text));
@@ -157,11 +155,11 @@ module _ {mode : ℕ} {bytes before : List ℕ} {place i : ℕ} {after : List �
       subst (λ (n : ℕ). Reading mode bytes before (place + n / 256) (i + 1) (set (set after place (n % 256)) (place + 1) 0x2E)) (sym e)
       (turn_by (shown mode (get_or bytes i 0)) refl (λ z. ne (e ∙ z)) h l r w)
 
-  pub read-refused : i < length bytes → code_of (shown mode (get_or bytes i 0)) ≡ 0 → Reading mode bytes before place i after → Put (read_from mode 0 bytes) (text_left mode bytes 0) 160 before after (Written.Refused (NoSymbol i))
-  read-refused h e w = let next = left_by mode bytes i Found.None h (no_code (shown mode (get_or bytes i 0)) e) in refused (sym w.fault ∙ ap (λ (p : Spelled). p.fault) next) w.far
+  pub read-refused : i < length bytes → code_of (shown mode (get_or bytes i 0)) ≡ 0 → Reading mode bytes before place i after → Put (read_from mode 0 bytes) (text_left mode bytes 0) 160 before after (Err (NoSymbol i))
+  read-refused h e w = let next = left_by mode bytes i None h (no_code (shown mode (get_or bytes i 0)) e) in refused (sym w.fault ∙ ap (λ (p : Spelled). p.fault) next) w.far
 
   -- no byte is left
-  done : length bytes ≤ i → Reading mode bytes before place i after → ((read_from mode 0 bytes).fault ≡ Passed) × Fronting (text_left mode bytes 0) place [] after
+  done : length bytes ≤ i → Reading mode bytes before place i after → ((read_from mode 0 bytes).fault ≡ Ok tt) × Fronting (text_left mode bytes 0) place [] after
   unfolding read_from
   done h w =
       let none : drop i bytes ≡ [] = drop_of_length-le bytes {i = i} h in
@@ -169,7 +167,7 @@ module _ {mode : ℕ} {bytes before : List ℕ} {place i : ℕ} {after : List �
 
   -- the byte after the text is put back
   pub read_done : {front : List ℕ} → length bytes ≤ i → front ≡ take 160 before → place < 160 → 160 ≤ length before → Reading mode bytes before place i after
-      → Put (read_from mode 0 bytes) (text_left mode bytes 0) 160 before (set after place (get_or front place 0)) (Written.Bytes place)
+      → Put (read_from mode 0 bytes) (text_left mode bytes 0) 160 before (set after place (get_or front place 0)) (Ok place)
   read_done {front} h e l r w =
       let d = done h w in
       let x = get_or front place 0 in
@@ -182,7 +180,7 @@ module _ {mode : ℕ} {bytes before : List ℕ} {place i : ℕ} {after : List �
       (omega arith)
 
   -- or there is none
-  pub read-filled : length bytes ≤ i → length (text_left mode bytes 0) ≤ 160 → 160 ≤ place → Reading mode bytes before place i after → Put (read_from mode 0 bytes) (text_left mode bytes 0) 160 before after (Written.Bytes place)
+  pub read-filled : length bytes ≤ i → length (text_left mode bytes 0) ≤ 160 → 160 ≤ place → Reading mode bytes before place i after → Put (read_from mode 0 bytes) (text_left mode bytes 0) 160 before after (Ok place)
   read-filled h m l w =
       let d = done h w in
       let full : place ≡ 160 = omega (arith, long d.1) in
@@ -202,10 +200,10 @@ pub record Spelling (mode : ℕ) (text before : List ℕ) (place i : ℕ) (after
   pub stays : drop place after ≡ drop place before
 
 module _ {mode : ℕ} {text before : List ℕ} {place i : ℕ} {after : List ℕ} where
-  pub spell-turn : (s : Symbol) (x n : ℕ) → i < length text → place < 80 → 80 ≤ length before → begun_at i text ≡ Found.Symbol s → x ≡ byte_of mode s → n ≡ length (text_of s) → Spelling mode text before place i after
+  pub spell-turn : (s : Symbol) (x n : ℕ) → i < length text → place < 80 → 80 ≤ length before → begun_at i text ≡ Some s → x ≡ byte_of mode s → n ≡ length (text_of s) → Spelling mode text before place i after
       → Spelling mode text before (place + 1) (i + n) (set after place x)
   spell-turn s x n h l r e b m w =
-      let next = one_symbol text i s h e ∙ ap (λ (k : ℕ). and_then i (Found.Symbol s) (spelled_from (i + k) 0 (drop (i + k) text))) (sym m) in
+      let next = one_symbol text i s h e ∙ ap (λ (k : ℕ). and_then i (Some s) (spelled_from (i + k) 0 (drop (i + k) text))) (sym m) in
       record {
         front = one_more x (omega (arith, w.kept))
             (rest-is w.front (ap (λ (p : Spelled). map (byte_of mode) p.symbols) next ∙ ap (λ (k : ℕ). k ∷ bytes_left mode text (i + n)) (sym b)));
@@ -215,12 +213,12 @@ module _ {mode : ℕ} {text before : List ℕ} {place i : ℕ} {after : List ℕ
         stays = drop-set-lt (place + 1) after place x (omega arith) ∙ further before after place (place + 1) (omega arith) w.stays;
       }
 
-  pub spell-refused : i < length text → begun_at i text ≡ Found.None → Spelling mode text before place i after → Put (spelled text) (bytes_left mode text 0) 80 before after (Written.Refused (NoSymbol i))
+  pub spell-refused : i < length text → begun_at i text ≡ None → Spelling mode text before place i after → Put (spelled text) (bytes_left mode text 0) 80 before after (Err (NoSymbol i))
   spell-refused h e w =
       let next = no_symbol text i (spelled text) h e in
       refused (sym w.fault ∙ ap (λ (p : Spelled). p.fault) next) (further before after place 80 w.few.1 w.stays)
 
-  pub spell-done : length text ≤ i → Spelling mode text before place i after → Put (spelled text) (bytes_left mode text 0) 80 before after (Written.Bytes place)
+  pub spell-done : length text ≤ i → Spelling mode text before place i after → Put (spelled text) (bytes_left mode text 0) 80 before after (Ok place)
   unfolding spelled_from
   spell-done h w =
       let none : drop i text ≡ [] = drop_of_length-le text {i = i} h in

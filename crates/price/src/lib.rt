@@ -19,21 +19,21 @@ fn begun_at(text: &[u8], at: usize) -> Found
     let x = checks::byte_at(text, at);
     if (48 <= x) & (x <= 57) {
         if checks::byte_at(text, at + 1) == 0x2E {
-            Found::Symbol(Symbol::Pointed(x - 48))
+            Some(Symbol::Pointed(x - 48))
         } else {
-            Found::Symbol(Symbol::Digit(x - 48))
+            Some(Symbol::Digit(x - 48))
         }
     } else if x == 0x20 {
-        Found::Symbol(Symbol::Space)
+        Some(Symbol::Space)
     } else if x == 0x2D {
-        Found::Symbol(Symbol::Minus)
+        Some(Symbol::Minus)
     } else {
         let y = checks::byte_at(text, at + 1);
         let z = checks::byte_at(text, at + 2);
         if (x == 0xE2) & ((y == 0x88) & (z == 0x92)) {
-            Found::Symbol(Symbol::LongMinus)
+            Some(Symbol::LongMinus)
         } else {
-            Found::None
+            None
         }
     }
 }
@@ -87,11 +87,11 @@ fn settled(written: Written, before: &[u8], out: &mut [u8]) -> Written
     ensures { record { result = result; out = out.new } ≡ settled written before.now out.old }
 {
     match written {
-        Written::Bytes(size) => Written::Bytes(size),
-        Written::Refused(refusal) => {
+        Ok(size) => Ok(size),
+        Err(refusal) => {
             let size = before.len();
             copies::copy(before, &mut out[..size]);
-            Written::Refused(refusal)
+            Err(refusal)
         }
     }
 }
@@ -108,15 +108,15 @@ fn put_bytes(mode: u8, text: &[u8], out: &mut [u8]) -> Written
     let mut i = 0;
     while i < text.len() {
         match begun_at(text, i) {
-            Found::Symbol(symbol) => {
+            Some(symbol) => {
                 out[place] = glyphs::byte_of(bytes, symbol);
                 place += 1;
                 i += text_size(symbol);
             }
-            Found::None => return Written::Refused(Refusal::NoSymbol(i)),
+            None => return Err(Refusal::NoSymbol(i)),
         }
     }
-    Written::Bytes(place)
+    Ok(place)
 }
 
 // The text of each byte, or 15 at the first that is no symbol's. A point is put after each, and the next symbol over it where it does not belong; where no symbol comes, what stood there.
@@ -130,7 +130,7 @@ fn put_texts(mode: u8, segments: &[u8], before: &[u8], out: &mut [u8]) -> Writte
         let byte = segments[i];
         let entry = glyphs::entry_of(mode, byte);
         if (entry % 256) as u8 != byte {
-            return Written::Refused(Refusal::NoSymbol(i));
+            return Err(Refusal::NoSymbol(i));
         }
         let code = entry / 256;
         out[place] = (code % 256) as u8;
@@ -141,7 +141,7 @@ fn put_texts(mode: u8, segments: &[u8], before: &[u8], out: &mut [u8]) -> Writte
     if place < before.len() {
         out[place] = before[place];
     }
-    Written::Bytes(place)
+    Ok(place)
 }
 
 // ---- the calls
@@ -154,10 +154,10 @@ fn check_sizes(size: usize, mode: u8, room: usize, out: usize) -> Check
         if mode < 4 {
             checks::unless(room <= out, Refusal::OutputLength)
         } else {
-            Check::Refused(Refusal::Register)
+            Err(Refusal::Register)
         }
     } else {
-        Check::Refused(Refusal::LongTransfer)
+        Err(Refusal::LongTransfer)
     }
 }
 
@@ -168,8 +168,8 @@ pub fn write(mode: u8, text: &[u8], out: &mut [u8]) -> Written
     ensures result_value { written_numbers result ≡ written_numbers (price_write mode text.now out.old).result }
 {
     match check_sizes(text.len(), mode, 80, out.len()) {
-        Check::Refused(refusal) => Written::Refused(refusal),
-        Check::Passed => {
+        Err(refusal) => Err(refusal),
+        Ok(()) => {
             let before = bytes_before(out);
             settled(put_bytes(mode, text, out), &before, out)
         }
@@ -183,8 +183,8 @@ pub fn read(mode: u8, segments: &[u8], out: &mut [u8]) -> Written
     ensures result_value { written_numbers result ≡ written_numbers (price_read mode segments.now out.old).result }
 {
     match check_sizes(segments.len(), mode, 160, out.len()) {
-        Check::Refused(refusal) => Written::Refused(refusal),
-        Check::Passed => {
+        Err(refusal) => Err(refusal),
+        Ok(()) => {
             let before = text_before(out);
             settled(put_texts(mode, segments, &before, out), &before, out)
         }

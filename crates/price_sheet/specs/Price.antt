@@ -1,10 +1,8 @@
 -- Write a price on the glass (paper 02, request 1): a text as symbols, each symbol's text, segments and data byte; the two calls, text to bytes and bytes to text.
-use Rattle.std.specs.Prelude.{ℕ, zero, suc, ◌+◌, ◌-◌, ◌*◌, ◌≤◌, ◌<◌, Bool, true, cond, ◌&&◌, ◌||◌, List, [], ◌∷◌, ◌++◌, map, eqb, ltb, leb, length, get_or}
+use Rattle.std.specs.Prelude.{ℕ, zero, suc, ◌+◌, ◌-◌, ◌*◌, ◌≤◌, ◌<◌, Bool, true, cond, ◌&&◌, ◌||◌, List, [], ◌∷◌, ◌++◌, map, eqb, ltb, leb, length, get_or, Err, None, Ok, Option, Some}
 use Rattle.price_sheet.specs.declared.Symbol.{Symbol}
 use Rattle.price_sheet.specs.declared.Symbol.TheVariants.{Digit, Pointed, Space, Minus, LongMinus}
-use Rattle.price_sheet.specs.declared.Found.{Found}
-use Rattle.sheet.specs.declared.Check.{Check}
-use Rattle.sheet.specs.declared.Check.TheVariants.{Passed, Refused}
+use Rattle.sheet.specs.Results.{Check}
 use Rattle.sheet.specs.declared.Refusal.TheVariants.{LongTransfer, Register, OutputLength, NoSymbol}
 use Rattle.sheet.specs.Parts.{within}
 use Rattle.sheet.specs.Checks.{unless, or_else}
@@ -106,16 +104,16 @@ byte_of mode s = bits_of 0 (get_or orders mode []) (segments_of s)
 -- ---- the symbols of a text
 
 -- what its first three bytes begin, 0 past its end: a digit with the point directly after it, a digit, a space, or a minus
-unfoldable pub begun : ℕ → ℕ → ℕ → Found
+unfoldable pub begun : ℕ → ℕ → ℕ → Option Symbol
 begun x y z =
-    cond (within 48 57 x) (cond (eqb y 0x2E) (Found.Symbol (Pointed (x - 48))) (Found.Symbol (Digit (x - 48))))
-    (cond (eqb x 0x20) (Found.Symbol Space)
-    (cond (eqb x 0x2D) (Found.Symbol Minus)
-    (cond (eqb x 0xE2 && (eqb y 0x88 && eqb z 0x92)) (Found.Symbol LongMinus)
-    Found.None)))
+    cond (within 48 57 x) (cond (eqb y 0x2E) (Some (Pointed (x - 48))) (Some (Digit (x - 48))))
+    (cond (eqb x 0x20) (Some Space)
+    (cond (eqb x 0x2D) (Some Minus)
+    (cond (eqb x 0xE2 && (eqb y 0x88 && eqb z 0x92)) (Some LongMinus)
+    None)))
 
 -- at a place of a text
-abbrev pub begun_at : ℕ → List ℕ → Found
+abbrev pub begun_at : ℕ → List ℕ → Option Symbol
 begun_at i text = begun (get_or text i 0) (get_or text (i + 1) 0) (get_or text (i + 2) 0)
 
 -- the symbols up to the first byte that begins none; 15 at its place
@@ -124,18 +122,18 @@ pub record Spelled : Type 0 where
   pub fault : Check
 
 -- what is found at a place, and what is spelled after it
-abbrev pub and_then : ℕ → Found → Spelled → Spelled
-and_then at (Found.Symbol s) p = record { symbols = s ∷ p.symbols; fault = p.fault }
-and_then at Found.None p = record { symbols = []; fault = Refused (NoSymbol at) }
+abbrev pub and_then : ℕ → Option Symbol → Spelled → Spelled
+and_then at (Some s) p = record { symbols = s ∷ p.symbols; fault = p.fault }
+and_then at None p = record { symbols = []; fault = Err (NoSymbol at) }
 
 -- the bytes of a symbol's text after its first
-abbrev pub more_of : Found → ℕ
-more_of (Found.Symbol s) = length (text_of s) - 1
-more_of Found.None = 0
+abbrev pub more_of : Option Symbol → ℕ
+more_of (Some s) = length (text_of s) - 1
+more_of None = 0
 
 -- the text from a place on, whose first bytes belong to the symbol before, as many as `left` says
 unfoldable pub spelled_from : ℕ → ℕ → List ℕ → Spelled
-spelled_from at left [] = record { symbols = []; fault = Passed }
+spelled_from at left [] = record { symbols = []; fault = (Ok tt) }
 spelled_from at (suc left) (x ∷ rest) = spelled_from (suc at) left rest
 spelled_from at zero (x ∷ rest) = let found = begun_at 0 (x ∷ rest) in and_then at found (spelled_from (suc at) (more_of found) rest)
 
@@ -149,15 +147,15 @@ abbrev pub shown_as : ℕ → Symbol
 shown_as k = cond (ltb k 10) (Digit k) (cond (ltb k 20) (Pointed (k - 10)) (cond (eqb k 20) Space Minus))
 
 -- the one of the first n whose byte it is; no two have the same byte
-unfoldable pub shown_below : ℕ → ℕ → ℕ → Found
-shown_below zero mode x = Found.None
-shown_below (suc k) mode x = cond (eqb x (byte_of mode (shown_as k))) (Found.Symbol (shown_as k)) (shown_below k mode x)
+unfoldable pub shown_below : ℕ → ℕ → ℕ → Option Symbol
+shown_below zero mode x = None
+shown_below (suc k) mode x = cond (eqb x (byte_of mode (shown_as k))) (Some (shown_as k)) (shown_below k mode x)
 
-abbrev pub shown : ℕ → ℕ → Found
+abbrev pub shown : ℕ → ℕ → Option Symbol
 shown mode x = shown_below 22 mode x
 
 unfoldable pub read_from : ℕ → ℕ → List ℕ → Spelled
-read_from mode at [] = record { symbols = []; fault = Passed }
+read_from mode at [] = record { symbols = []; fault = (Ok tt) }
 read_from mode at (x ∷ rest) = and_then at (shown mode x) (read_from mode (suc at) rest)
 
 -- ---- the calls

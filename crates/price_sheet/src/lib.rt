@@ -10,10 +10,3 @@ pub enum Symbol {
     Minus,
     LongMinus,
 }
-
-// The symbol that stands at a place, if one does.
-#[derive(Clone, Copy)]
-pub enum Found {
-    Symbol(Symbol),
-    None,
-}

@@ -16,20 +16,20 @@ use Rattle.sheet.specs.declared.Kind.{Kind}
 use Rattle.sheet.specs.declared.Expect.{Expect}
 use Rattle.sheet.specs.declared.Expect.TheVariants.{Control, One, All}
 use Rattle.sheet.specs.declared.Refusal.TheVariants.{UndefinedCommand}
-use Rattle.sheet.specs.declared.Check.{Check}
-use Rattle.sheet.specs.declared.Check.TheVariants.{Passed, Refused}
+use Rattle.std.specs.Prelude.{Err, Ok}
+use Rattle.sheet.specs.Results.{Check}
 use Rattle.sheet.specs.Parts.{Part}
 use Rattle.sheet.specs.Commands.{defined, restored}
 use Rattle.sheet.specs.Checks.{unless, or_else, fault_in}
 use Rattle.protocol.specs.Left.{only_left, undefined_in, all_defined}
 
 -- by whether it is one
-either : (t : Bool) (i : ℕ) (k : Check) → or_else (unless t (UndefinedCommand i)) k ≡ cond t k (Refused (UndefinedCommand i))
+either : (t : Bool) (i : ℕ) (k : Check) → or_else (unless t (UndefinedCommand i)) k ≡ cond t k (Err (UndefinedCommand i))
 either true i k = refl
 either false i k = refl
 
 -- what is cut is no data
-no_data : (cut : Bool) (k : Check) → cond (cut && false) k Passed ≡ Passed
+no_data : (cut : Bool) (k : Check) → cond (cut && false) k (Ok tt) ≡ Ok tt
 no_data true k = refl
 no_data false k = refl
 
@@ -38,7 +38,7 @@ unfolding fault_in undefined_in
 all-commands K cut u i [] = no_data cut _
 all-commands K cut u i (x ∷ xs) =
     either (defined (K.command x)) i _
-    ∙ ap (λ (k : Check). cond (defined (K.command x)) k (Refused (UndefinedCommand i))) (all-commands K cut (restored (K.command x) u) (suc i) xs)
+    ∙ ap (λ (k : Check). cond (defined (K.command x)) k (Err (UndefinedCommand i))) (all-commands K cut (restored (K.command x) u) (suc i) xs)
 
 pub in_commands : (K : Part) (cut : Bool) (u : Marks) (e : Expect) (i : ℕ) (xs : List ℕ) → only_left false e ≡ true → fault_in K cut u e i xs ≡ undefined_in K i xs
 in_commands K cut u Control i xs t = absurd (false≢true t)
@@ -53,7 +53,7 @@ module _ (K : Part) (bytes : List ℕ) (i : ℕ) (h : i < length bytes) where
   unfolding all_defined
   all-next = rw (next bytes i h)
 
-  pub one-undefined : defined (K.command (get_or bytes i 0)) ≡ false → undefined_in K i (drop i bytes) ≡ Refused (UndefinedCommand i)
+  pub one-undefined : defined (K.command (get_or bytes i 0)) ≡ false → undefined_in K i (drop i bytes) ≡ Err (UndefinedCommand i)
   unfolding undefined_in
   one-undefined e = rw (next bytes i h, e)
 
@@ -61,7 +61,7 @@ module _ (K : Part) (bytes : List ℕ) (i : ℕ) (h : i < length bytes) where
   unfolding undefined_in
   one-defined e = rw (next bytes i h, e, add-one i)
 
-pub none-undefined : (K : Part) (bytes : List ℕ) (i : ℕ) → length bytes ≤ i → undefined_in K i (drop i bytes) ≡ Passed
+pub none-undefined : (K : Part) (bytes : List ℕ) (i : ℕ) → length bytes ≤ i → undefined_in K i (drop i bytes) ≡ Ok tt
 unfolding undefined_in
 none-undefined K bytes i h = rw (drop_of_length-le bytes h)
 

@@ -1,11 +1,10 @@
 -- What is left of a transfer.
-use Rattle.std.specs.Prelude.{ℕ, suc, Bool, true, false, not, cond, ◌&&◌, List, [], ◌∷◌}
+use Rattle.std.specs.Prelude.{ℕ, suc, Bool, true, false, not, cond, ◌&&◌, List, [], ◌∷◌, Err, Ok}
 use Rattle.sheet.specs.declared.Kind.{Kind}
 use Rattle.sheet.specs.declared.Expect.{Expect}
 use Rattle.sheet.specs.declared.Expect.TheVariants.{Control, One, All}
 use Rattle.sheet.specs.declared.Refusal.TheVariants.{UndefinedCommand}
-use Rattle.sheet.specs.declared.Check.{Check}
-use Rattle.sheet.specs.declared.Check.TheVariants.{Passed, Refused}
+use Rattle.sheet.specs.Results.{Check}
 use Rattle.sheet.specs.Parts.{Part}
 use Rattle.sheet.specs.Commands.{defined}
 
@@ -18,8 +17,8 @@ only_left of-data (All Kind.Data) = of-data
 
 -- the first of some bytes, from place i on, that is no command
 unfoldable pub undefined_in : Part → ℕ → List ℕ → Check
-undefined_in K i [] = Passed
-undefined_in K i (x ∷ xs) = cond (defined (K.command x)) (undefined_in K (suc i) xs) (Refused (UndefinedCommand i))
+undefined_in K i [] = Ok tt
+undefined_in K i (x ∷ xs) = cond (defined (K.command x)) (undefined_in K (suc i) xs) (Err (UndefinedCommand i))
 
 -- each of some bytes is one
 unfoldable pub all_defined : Part → List ℕ → Bool

@@ -1,11 +1,10 @@
 // The bytes of a transfer after its address: what each is, and the first that is refused.
 #![tactic(auto)]
 
-ghost use Rattle.std.specs.Prelude.{◌≡◌, cond, ◌≤◌, ◌<◌, length, drop};
+ghost use Rattle.std.specs.Prelude.{◌≡◌, cond, ◌≤◌, ◌<◌, length, drop, Ok};
 ghost use Rattle.sheet.specs.Parts.{part_of};
 ghost use Rattle.sheet.specs.Protocol.{kind_of, control_of, next, sent, is_data_of, is_data};
 ghost use Rattle.sheet.specs.declared.Refusal.TheVariants.{UnknownPlace};
-ghost use Rattle.sheet.specs.declared.Check.TheVariants.{Passed};
 ghost use Rattle.sheet.specs.Registers.{known};
 ghost use Rattle.sheet.specs.Checks.{unless, fault_of, fault, marks_of, marks_after, last_fault, fault_in, fault_of_sent};
 ghost use Rattle.protocol.specs.Left.{only_left, undefined_in, all_defined};
@@ -121,7 +120,7 @@ fn last_fault(cut: bool, marks: Marks, expect: Expect, i: usize) -> Check
     if cut & is_data(expect) {
         checks::unless(registers::all_known(marks), Refusal::UnknownPlace(i))
     } else {
-        Check::Passed
+        Ok(())
     }
 }
 
@@ -179,10 +178,10 @@ fn undefined_from(part: u8, bytes: &[u8], from: usize) -> Check
         if decode::is_defined(part, bytes[i]) {
             i += 1;
         } else {
-            return Check::Refused(Refusal::UndefinedCommand(i));
+            return Err(Refusal::UndefinedCommand(i));
         }
     }
-    Check::Passed
+    Ok(())
 }
 
 // The first fault of whole bytes, from the control byte at a place on, and of one that is cut after them.
@@ -194,13 +193,13 @@ fn fault_in(part: u8, cut: bool, initial: Marks, bytes: &[u8], from: usize) -> C
     let mut i = from;
     while i < bytes.len() {
         let byte = bytes[i];
-        if let Check::Refused(refusal) = fault(part, marks, expect, i, byte) {
-            return Check::Refused(refusal);
+        if let Err(refusal) = fault(part, marks, expect, i, byte) {
+            return Err(refusal);
         }
         marks = marks_after(part, marks, expect, byte);
         expect = follow(expect, byte);
         if only(true, expect) & registers::all_known(marks) {
-            return Check::Passed;
+            return Ok(());
         }
         if only(false, expect) {
             return undefined_from(part, bytes, i + 1);
@@ -220,12 +219,12 @@ pub fn first_fault(part: u8, marks: Marks, bytes: &[u8], bits: u8) -> Check
 
 // The fault of a run of data from place i to the end, of which a byte came, whole or cut: its place, while a mark is unknown.
 fn run_fault(came: bool, marks: Marks, i: usize) -> Check
-    ensures { result ≡ cond came (unless (known marks) (UnknownPlace i)) Passed }
+    ensures { result ≡ cond came (unless (known marks) (UnknownPlace i)) (Ok tt) }
 {
     if came {
         checks::unless(registers::all_known(marks), Refusal::UnknownPlace(i))
     } else {
-        Check::Passed
+        Ok(())
     }
 }
 
@@ -248,6 +247,6 @@ pub fn fault_from(part: u8, cut: bool, marks: Marks, bytes: &[u8], from: usize) 
         };
         fault_in(part, cut, initial, bytes, from)
     } else {
-        Check::Refused(Refusal::StrayBits(from))
+        Err(Refusal::StrayBits(from))
     }
 }

@@ -8,7 +8,7 @@ use native.Mathlib.Numerals.{add-one}
 use native.Mathlib.Omega.{arith}
 use lib.ListN.{length, get_or, take}
 use lib.Seq.{take-suc, take_all, length-take-le}
-use Rattle.sheet.specs.declared.Check.TheVariants.{Passed}
+use Rattle.std.specs.Prelude.{Ok}
 use Rattle.sheet.specs.Checks.{over_in}
 use Rattle.sheet.specs.Data.{put_bits, width_of}
 use Rattle.sheet.specs.Runs.{put_run}
@@ -56,7 +56,7 @@ module _ {m b v : ℕ} {bytes ram₀ : List ℕ} where
   done {i = i} l r = r.so_far ∙ ap (λ (xs : List ℕ). put_run m b v xs ram₀) (take_all i bytes l)
 
   -- its columns are still below 16
-  pub small : {ram : List ℕ} {i : ℕ} → 0 < m → b + m ≤ 4 → over_in 0 ram₀ ≡ Passed → Running m b v bytes ram₀ ram i → Nibbles ram
+  pub small : {ram : List ℕ} {i : ℕ} → 0 < m → b + m ≤ 4 → over_in 0 ram₀ ≡ Ok tt → Running m b v bytes ram₀ ram i → Nibbles ram
   small {i = i} pm h w r = subst Nibbles (sym r.so_far) (run-nibbles m b v (take i bytes) ram₀ pm h (nibbles-of 0 ram₀ w))
 
 -- a run of no bytes puts nothing

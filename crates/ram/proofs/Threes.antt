@@ -5,13 +5,13 @@ use mathlib.Core.List.{List}
 use Prim.Native.Nat.{ℕ, ◌+◌, ◌*◌, ◌≤◌, ◌<◌}
 use native.Mathlib.Omega.{arith}
 use lib.ListN.{length, get_or}
-use Rattle.sheet.specs.declared.Check.TheVariants.{Passed}
+use Rattle.std.specs.Prelude.{Ok}
 use Rattle.sheet.specs.Checks.{over_in}
 use Rattle.words.specs.Fields.{merged, three_columns, three_rows}
 use Rattle.words.proofs.Words.{three-put}
 use Rattle.ram.proofs.Runs.{Running, turn, small}
 
-module _ {v : ℕ} {bytes ram₀ : List ℕ} (w : over_in 0 ram₀ ≡ Passed) where
+module _ {v : ℕ} {bytes ram₀ : List ℕ} (w : over_in 0 ram₀ ≡ Ok tt) where
   -- a byte more, its word put at its place
   one_more : (i t p : ℕ) (ram : List ℕ) → i < length bytes → t ≡ three_columns (get_or bytes i 0) → p ≡ v + 3 * i
       → Running 3 0 v bytes ram₀ ram i → Running 3 0 v bytes ram₀ (merged 3 three_rows t p ram) (i + 1)

@@ -1,6 +1,5 @@
 -- What is asked of the bytes of a run, whole or cut, over the columns.
-use Rattle.std.specs.Prelude.{ℕ, ◌+◌, ◌-◌, ◌*◌, ◌^◌, ◌≤◌, ◌<◌, ◌≡◌, List, length}
-use Rattle.sheet.specs.declared.Check.TheVariants.{Passed}
+use Rattle.std.specs.Prelude.{ℕ, ◌+◌, ◌-◌, ◌*◌, ◌^◌, ◌≤◌, ◌<◌, ◌≡◌, List, length, Ok}
 use Rattle.sheet.specs.Checks.{over_in}
 use Rattle.sheet.specs.Data.{width_of}
 
@@ -10,7 +9,7 @@ pub record Whole (ram : List ℕ) (v m bank : ℕ) (bytes : List ℕ) : Type 0 w
   pub four : m < 5
   pub two : bank < 2
   pub fit : width_of m * length bytes ≤ length ram - v
-  pub nibbles : over_in 0 ram ≡ Passed
+  pub nibbles : over_in 0 ram ≡ Ok tt
 
 -- bytes that do not fit: the first of them reaches the end
 pub record Cut (ram : List ℕ) (at m bank : ℕ) (rest : List ℕ) : Type 0 where

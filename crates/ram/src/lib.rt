@@ -2,8 +2,7 @@
 // Bytes whose columns are all there go in without a test a column; only the byte at the edge is tested.
 #![tactic(auto)]
 
-ghost use Rattle.std.specs.Prelude.{◌≡◌, ◌+◌, ◌-◌, ◌*◌, ◌%◌, ◌≤◌, ◌<◌, ◌^◌, length};
-ghost use Rattle.sheet.specs.declared.Check.TheVariants.{Passed};
+ghost use Rattle.std.specs.Prelude.{◌≡◌, ◌+◌, ◌-◌, ◌*◌, ◌%◌, ◌≤◌, ◌<◌, ◌^◌, length, Ok};
 ghost use Rattle.sheet.specs.Registers.{bank_row};
 ghost use Rattle.sheet.specs.Checks.{over_in};
 ghost use Rattle.sheet.specs.Data.{changed, with_row, put_bits};
@@ -58,7 +57,7 @@ fn static_columns(x: u8, masks: u32, shift: u32) -> u32
 
 // Static, where all columns are there.
 fn static_run(ram: &mut [u8], v: usize, bank: u8, bytes: &[u8])
-    requires { (bank < 2) × (8 * length bytes.now ≤ length ram.old - v) × (over_in 0 ram.old ≡ Passed) }
+    requires { (bank < 2) × (8 * length bytes.now ≤ length ram.old - v) × (over_in 0 ram.old ≡ Ok tt) }
     ensures { ram.new ≡ put_run 1 (2 * bank) v bytes.now ram.old }
 {
     let rows = 0x01010101 * (1 + 3 * words::wide(bank));
@@ -75,7 +74,7 @@ fn static_run(ram: &mut [u8], v: usize, bank: u8, bytes: &[u8])
 
 // 1:2, where all columns are there.
 fn two_run(ram: &mut [u8], v: usize, bank: u8, bytes: &[u8])
-    requires { (bank < 2) × (4 * length bytes.now ≤ length ram.old - v) × (over_in 0 ram.old ≡ Passed) }
+    requires { (bank < 2) × (4 * length bytes.now ≤ length ram.old - v) × (over_in 0 ram.old ≡ Ok tt) }
     ensures { ram.new ≡ put_run 2 (2 * bank) v bytes.now ram.old }
 {
     let rows = 0x03030303 * (1 + 3 * words::wide(bank));
@@ -137,7 +136,7 @@ fn three_columns(first: &[u32; 16], last: &[u32; 16], x: u8) -> u32
 
 // 1:3, four bytes at a time, whose twelve columns are three words.
 fn three_fours(ram: &mut [u8], v: usize, bytes: &[u8])
-    requires { (3 * length bytes.now ≤ length ram.old - v) × (over_in 0 ram.old ≡ Passed) × (length bytes.now % 4 ≡ 0) }
+    requires { (3 * length bytes.now ≤ length ram.old - v) × (over_in 0 ram.old ≡ Ok tt) × (length bytes.now % 4 ≡ 0) }
     ensures { ram.new ≡ put_run 3 0 v bytes.now ram.old }
 {
     // copied once, and not at each index
@@ -168,7 +167,7 @@ fn three_bytes(ram: &mut [u8], v: usize, bytes: &[u8])
 
 // 1:3, where all columns are there.
 fn three_run(ram: &mut [u8], v: usize, bytes: &[u8])
-    requires { (3 * length bytes.now ≤ length ram.old - v) × (over_in 0 ram.old ≡ Passed) }
+    requires { (3 * length bytes.now ≤ length ram.old - v) × (over_in 0 ram.old ≡ Ok tt) }
     ensures { ram.new ≡ put_run 3 0 v bytes.now ram.old }
 {
     let fours = bytes.len() / 4 * 4;
@@ -178,7 +177,7 @@ fn three_run(ram: &mut [u8], v: usize, bytes: &[u8])
 
 // 1:4, where all columns are there.
 fn four_run(ram: &mut [u8], v: usize, bytes: &[u8])
-    requires { (2 * length bytes.now ≤ length ram.old - v) × (over_in 0 ram.old ≡ Passed) }
+    requires { (2 * length bytes.now ≤ length ram.old - v) × (over_in 0 ram.old ≡ Ok tt) }
     ensures { ram.new ≡ put_run 4 0 v bytes.now ram.old }
 {
     let mut i: usize = 0;

@@ -25,13 +25,13 @@ pub fn check_head(log: &[u8]) -> Check
     ensures { result ≡ check_head log.now }
 {
     if 65536 < log.len() {
-        return Check::Refused(Refusal::LongLog);
+        return Err(Refusal::LongLog);
     }
     let version = checks::byte_at(log, 0);
     if (3 <= log.len()) & ((version == 1) | (version == 2)) {
         checks::check_chips(sheet::PCF8532, chips_of(log))
     } else {
-        Check::Refused(Refusal::LogHead)
+        Err(Refusal::LogHead)
     }
 }
 
@@ -123,9 +123,9 @@ pub fn check_records(log: &[u8]) -> Check
                 size,
                 count: _,
             } => at = start + size,
-            Record::End => return Check::Passed,
-            Record::Cut => return Check::Refused(Refusal::CutRecord(at)),
-            Record::Short => return Check::Refused(Refusal::ShortBody(at)),
+            Record::End => return Ok(()),
+            Record::Cut => return Err(Refusal::CutRecord(at)),
+            Record::Short => return Err(Refusal::ShortBody(at)),
         }
     }
 }

@@ -8,8 +8,8 @@ use Rattle.sheet.specs.declared.Both.{Both}
 use Rattle.sheet.specs.declared.Chips.{Chips}
 use Rattle.sheet.specs.declared.Refusal.{Refusal}
 use Rattle.sheet.specs.declared.Refusal.TheVariants.{Register}
-use Rattle.sheet.specs.declared.Check.{Check}
-use Rattle.sheet.specs.declared.Check.TheVariants.{Passed, Refused}
+use Rattle.std.specs.Prelude.{Err, Ok}
+use Rattle.sheet.specs.Results.{Check}
 use Rattle.sheet.specs.Parts.{Part, part_of}
 use Rattle.sheet.specs.Checks.{unless, or_else, check_part, check_chips, check_registers, check_state, check_picture}
 use Rattle.laws.proofs.First.{three-refused, three-passed}
@@ -30,8 +30,8 @@ module _ (part : ℕ) (n : Chips) (r : Both) {fit : Bool} (e : fit ≡ fitting (
   unfolding check_registers
   asked = told ∙ ap (λ (k : Bool). or_else (check_part part) (or_else (check_chips (part_of part) n) (unless k Register))) e
 
-  pub rest-refused : (x : Refusal) → first ≡ Refused x → Refused x ≡ or_else (check_part part) (or_else (check_chips (part_of part) n) (or_else (check_registers (part_of part) r) rest))
+  pub rest-refused : (x : Refusal) → first ≡ Err x → Err x ≡ or_else (check_part part) (or_else (check_chips (part_of part) n) (or_else (check_registers (part_of part) r) rest))
   rest-refused x f = three-refused (check_part part) (check_chips (part_of part) n) (check_registers (part_of part) r) rest x (sym asked ∙ f)
 
-  pub rest-passed : (k : Check) → first ≡ Passed → k ≡ rest → k ≡ or_else (check_part part) (or_else (check_chips (part_of part) n) (or_else (check_registers (part_of part) r) rest))
+  pub rest-passed : (k : Check) → first ≡ Ok tt → k ≡ rest → k ≡ or_else (check_part part) (or_else (check_chips (part_of part) n) (or_else (check_registers (part_of part) r) rest))
   rest-passed k f is = three-passed (check_part part) (check_chips (part_of part) n) (check_registers (part_of part) r) rest k (sym asked ∙ f) is

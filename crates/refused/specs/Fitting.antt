@@ -2,7 +2,7 @@
 use Rattle.std.specs.Prelude.{Bool, ◌&&◌, List, ℕ, ◌*◌, eqb, ltb}
 use Rattle.sheet.specs.declared.Both.{Both}
 use Rattle.sheet.specs.declared.Chips.{Chips}
-use Rattle.sheet.specs.declared.Check.{Check}
+use Rattle.sheet.specs.Results.{Check}
 use Rattle.sheet.specs.declared.Refusal.TheVariants.{Register, GroupOrPhase, OutputLength}
 use Rattle.sheet.specs.Parts.{Part}
 use Rattle.sheet.specs.Registers.{in_range}

@@ -29,7 +29,7 @@ fn check_columns(size: usize, columns: &[u8]) -> Check
     if columns.len() == size {
         checks::first_over(columns)
     } else {
-        Check::Refused(Refusal::RamLength)
+        Err(Refusal::RamLength)
     }
 }
 
@@ -58,8 +58,8 @@ fn check_bus(part: u8, chips: Chips) -> Check
     ensures { result ≡ or_else (check_part part) (check_chips (part_of part) chips) }
 {
     match checks::check_part(part) {
-        Check::Refused(refusal) => Check::Refused(refusal),
-        Check::Passed => checks::check_chips(part, chips),
+        Err(refusal) => Err(refusal),
+        Ok(()) => checks::check_chips(part, chips),
     }
 }
 
@@ -68,8 +68,8 @@ pub fn check_power_on(part: u8, chips: Chips, ram: &[u8], packed: bool) -> Check
     ensures { result ≡ or_else (check_part part) (check_power_on (part_of part) chips (columns_in packed ram.now)) }
 {
     match check_bus(part, chips) {
-        Check::Refused(refusal) => Check::Refused(refusal),
-        Check::Passed => check_ram(part, chips, ram, packed),
+        Err(refusal) => Err(refusal),
+        Ok(()) => check_ram(part, chips, ram, packed),
     }
 }
 
@@ -78,8 +78,8 @@ fn check_registers(part: u8, chips: Chips, fit: bool) -> Check
     ensures { result ≡ or_else (check_part part) (or_else (check_chips (part_of part) chips) (unless fit Register)) }
 {
     match check_bus(part, chips) {
-        Check::Refused(refusal) => Check::Refused(refusal),
-        Check::Passed => checks::unless(fit, Refusal::Register),
+        Err(refusal) => Err(refusal),
+        Ok(()) => checks::unless(fit, Refusal::Register),
     }
 }
 
@@ -88,8 +88,8 @@ pub fn check_state(part: u8, chips: Chips, fit: bool, ram: &[u8], packed: bool) 
     ensures { result ≡ or_else (check_part part) (state_by (part_of part) chips fit (columns_in packed ram.now)) }
 {
     match check_registers(part, chips, fit) {
-        Check::Refused(refusal) => Check::Refused(refusal),
-        Check::Passed => check_ram(part, chips, ram, packed),
+        Err(refusal) => Err(refusal),
+        Ok(()) => check_ram(part, chips, ram, packed),
     }
 }
 
@@ -98,11 +98,11 @@ fn check_bytes(part: u8, chips: Chips, registers: Both, bytes: &[u8], bits: u8) 
     ensures { result ≡ check_bytes (part_of part) registers (heard_by chips (address_byte (sent bytes.now bits))) (sent bytes.now bits) }
 {
     match groups::heard_by(chips, checks::address_byte(bytes, bits)) {
-        Addressed::To(group) => {
+        Some(group) => {
             let called = groups::registers_of(group, registers);
             protocol::first_fault(part, called.unknown, bytes, bits)
         }
-        Addressed::Nobody => Check::Passed,
+        None => Ok(()),
     }
 }
 
@@ -119,10 +119,10 @@ pub fn check_transfer(
     ensures { result ≡ or_else (check_part part) (check_transfer (part_of part) chips registers (columns_in packed ram.now) (sent bytes.now bits)) }
 {
     match check_state(part, chips, registers_fit(part, registers), ram, packed) {
-        Check::Refused(refusal) => Check::Refused(refusal),
-        Check::Passed => match checks::check_sent(bytes.len(), bits) {
-            Check::Refused(refusal) => Check::Refused(refusal),
-            Check::Passed => check_bytes(part, chips, registers, bytes, bits),
+        Err(refusal) => Err(refusal),
+        Ok(()) => match checks::check_sent(bytes.len(), bits) {
+            Err(refusal) => Err(refusal),
+            Ok(()) => check_bytes(part, chips, registers, bytes, bits),
         },
     }
 }
@@ -141,13 +141,13 @@ pub fn check_picture(
     ensures { result ≡ or_else (check_part part) (picture_by (part_of part) chips fit (columns_in packed ram.now) group phase size) }
 {
     match check_state(part, chips, fit, ram, packed) {
-        Check::Refused(refusal) => Check::Refused(refusal),
-        Check::Passed => {
+        Err(refusal) => Err(refusal),
+        Ok(()) => {
             if (group < 2) & (phase < 2) {
                 let wanted = arithmetic::columns_in(part, groups::chips_in(group, chips) as u16);
                 checks::unless(size == wanted, Refusal::OutputLength)
             } else {
-                Check::Refused(Refusal::GroupOrPhase)
+                Err(Refusal::GroupOrPhase)
             }
         }
     }
@@ -161,7 +161,7 @@ fn check_rows(part: u8, chips: Chips, group: u8, rows: &[u8]) -> Check
         let size = arithmetic::columns_in(part, groups::chips_in(group, chips) as u16);
         check_columns(size, rows)
     } else {
-        Check::Refused(Refusal::GroupOrPhase)
+        Err(Refusal::GroupOrPhase)
     }
 }
 
@@ -178,12 +178,12 @@ pub fn check_wanted(
     ensures { result ≡ or_else (check_part part) (check_wanted (part_of part) chips registers group mode bank wanted.now) }
 {
     match check_registers(part, chips, registers_fit(part, registers)) {
-        Check::Refused(refusal) => Check::Refused(refusal),
-        Check::Passed => {
+        Err(refusal) => Err(refusal),
+        Ok(()) => {
             if (mode < 4) & (bank < 2) {
                 check_rows(part, chips, group, wanted)
             } else {
-                Check::Refused(Refusal::Register)
+                Err(Refusal::Register)
             }
         }
     }
@@ -194,7 +194,7 @@ pub fn check_every(part: u8, chips: Chips, registers: Both, group: u8, wanted: &
     ensures { result ≡ or_else (check_part part) (check_wanted (part_of part) chips registers group 3 0 wanted.now) }
 {
     match check_registers(part, chips, registers_fit(part, registers)) {
-        Check::Refused(refusal) => Check::Refused(refusal),
-        Check::Passed => check_rows(part, chips, group, wanted),
+        Err(refusal) => Err(refusal),
+        Ok(()) => check_rows(part, chips, group, wanted),
     }
 }

@@ -31,7 +31,7 @@ fn rescue_log(rt: &HostRuntime, log: &[u8]) {
             dropped,
             tear,
         } => write_kept(rt, &out[..bytes], &[records, bytes, dropped, tear]),
-        Rescued::Refused(refusal) => report(
+        Err(refusal) => report(
             rt,
             "X",
             &[answers::number_of(refusal), answers::place_of(refusal)],

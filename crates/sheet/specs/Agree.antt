@@ -1,15 +1,12 @@
 -- Demand 3, stated: "Chips 0 upwards of one slave address, powered on together, followed one by one, hold, acknowledge and show after any
 -- sequence of accepted transfers what one long RAM does." Proved in `agreement` for any part K
 -- with a column whose commands keep P and A (`Keeps`), which the commands of both parts are shown to do.
-use Rattle.std.specs.Prelude.{ℕ, zero, suc, ◌+◌, ◌*◌, ◌<◌, ◌≡◌, true, cond, eqb, List, [], ◌∷◌, ◌++◌, map, length, take, drop, replicate}
+use Rattle.std.specs.Prelude.{ℕ, zero, suc, ◌+◌, ◌*◌, ◌<◌, ◌≡◌, true, cond, eqb, List, [], ◌∷◌, ◌++◌, map, length, take, drop, replicate, Err, Ok}
 use Rattle.sheet.specs.declared.Registers.{Registers}
 use Rattle.sheet.specs.declared.Both.{Both}
 use Rattle.sheet.specs.declared.Chips.{Chips}
 use Rattle.sheet.specs.declared.Chip.{Chip}
-use Rattle.sheet.specs.declared.Check.TheVariants.{Passed}
-use Rattle.sheet.specs.declared.Answer.{Answer}
-use Rattle.sheet.specs.declared.PlainAnswer.{PlainAnswer}
-use Rattle.sheet.specs.declared.Pictured.{Pictured}
+use Rattle.sheet.specs.Results.{Answer, PlainAnswer, Pictured}
 use Rattle.sheet.specs.Parts.{Part}
 use Rattle.sheet.specs.Registers.{in_range, registers_of}
 use Rattle.sheet.specs.Commands.{obeyed}
@@ -39,8 +36,8 @@ chips_of K n s = group_of K 0 n s ++ group_of K 1 n s
 
 -- the plain account reports acknowledged only, and by whom the last data byte
 abbrev pub plainly : Answer → PlainAnswer
-plainly (Answer.Taken t last) = PlainAnswer.Acknowledged t.acknowledged last
-plainly (Answer.Refused r) = PlainAnswer.Refused r
+plainly (Ok t) = Ok (record { bytes = t.counts.acknowledged; last = t.last })
+plainly (Err r) = Err r
 
 abbrev pub answer_to : Part → Chips → State → Sent → PlainAnswer
 answer_to K n s t = plainly (transfer_call K n s.registers s.ram t).result.answer
@@ -63,7 +60,7 @@ plain_answers K cs (t ∷ ts) = (plain_call K cs t).answer ∷ plain_answers K (
 
 -- a state that no call refuses
 abbrev pub Valid : Part → Chips → State → Type 0
-Valid K n s = check_state K n s.registers s.ram ≡ Passed
+Valid K n s = check_state K n s.registers s.ram ≡ Ok tt
 
 -- chips whose registers are in range
 abbrev pub AllIn : Part → List Chip → Type 0
@@ -90,8 +87,8 @@ chip_pictures K phase (c ∷ cs) = (chip_seen K phase c).out ++ chip_pictures K 
 
 -- a picture that is refused has no lit elements
 abbrev pub lit_of : Pictured → ℕ
-lit_of (Pictured.Lit k) = k
-lit_of (Pictured.Refused r) = 0
+lit_of (Ok k) = k
+lit_of (Err r) = 0
 
 abbrev pub chips_lit : Part → ℕ → List Chip → ℕ
 chips_lit K phase [] = 0
@@ -105,7 +102,7 @@ with_address g (c ∷ cs) = cond (eqb c.sa0 g) (c ∷ with_address g cs) (with_a
 -- show: the picture of group g is its chips' one after the other, and their lit elements add up
 pub record Shows (K : Part) (n : Chips) (s : State) (cs : List Chip) (g phase : ℕ) (out : List ℕ) : Type 0 where
   pub picture : (picture_call K n s.registers s.ram g phase out).out ≡ chip_pictures K phase (with_address g cs)
-  pub lit : (picture_call K n s.registers s.ram g phase out).result ≡ Pictured.Lit (chips_lit K phase (with_address g cs))
+  pub lit : (picture_call K n s.registers s.ram g phase out).result ≡ Ok (chips_lit K phase (with_address g cs))
 
 -- hold, acknowledge and show: chips cs and state s, after any sequence of transfers
 pub record AgreesAll (K : Part) (n : Chips) (s : State) (cs : List Chip) (ts : List Sent) : Type 0 where
@@ -122,7 +119,7 @@ powered_on K cs = map (λ c. (chip_power_on K c).chip) cs
 pub record Demand3 (K : Part) : Type 1 where
   pub transfer : (n : Chips) (s : State) (t : Sent) → Valid K n s → Agrees K n s t
   pub sequence : (n : Chips) (s : State) (ts : List Sent) → Valid K n s → AgreesAll K n s (chips_of K n s) ts
-  pub powered-on : (n : Chips) (r : Both) (ram : List ℕ) (ts : List Sent) → (power_on_call K n ram).check ≡ Passed
+  pub powered-on : (n : Chips) (r : Both) (ram : List ℕ) (ts : List Sent) → (power_on_call K n ram).check ≡ Ok tt
       → AgreesAll K n (state_of (power_on_call K n ram).registers ram) (powered_on K (chips_of K n (state_of r ram))) ts
 
 -- of any part with a column, wherever its commands keep the ranges. A state with more chips than the limit is not valid

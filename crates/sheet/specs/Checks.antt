@@ -1,17 +1,14 @@
 -- Which calls are refused, and in which order (paper 01, "Refusal numbers"). 16 comes before them, in the calls by a part's number.
-use Rattle.std.specs.Prelude.{ℕ, suc, ◌+◌, ◌*◌, ◌%◌, Bool, cond, ◌&&◌, List, [], ◌∷◌, eqb, ltb, leb, length, drop}
+use Rattle.std.specs.Prelude.{ℕ, suc, ◌+◌, ◌*◌, ◌%◌, Bool, cond, ◌&&◌, List, [], ◌∷◌, eqb, ltb, leb, length, drop, Err, None, Ok, Some}
 use Rattle.sheet.specs.declared.Marks.{Marks}
 use Rattle.sheet.specs.declared.Both.{Both}
 use Rattle.sheet.specs.declared.Chips.{Chips}
-use Rattle.sheet.specs.declared.Addressed.{Addressed}
-use Rattle.sheet.specs.declared.Addressed.TheVariants.{To, Nobody}
+use Rattle.sheet.specs.Results.{Addressed, Check}
 use Rattle.sheet.specs.declared.Kind.{Kind}
 use Rattle.sheet.specs.declared.Expect.{Expect}
 use Rattle.sheet.specs.declared.Expect.TheVariants.{Control, One, All}
 use Rattle.sheet.specs.declared.Refusal.{Refusal}
 use Rattle.sheet.specs.declared.Refusal.TheVariants.{EmptyTransfer, LongTransfer, ChipCount, RamLength, RamByte, Register, UndefinedCommand, GroupOrPhase, OutputLength, UnknownPart, StrayBits, UnknownPlace, BitCount}
-use Rattle.sheet.specs.declared.Check.{Check}
-use Rattle.sheet.specs.declared.Check.TheVariants.{Passed, Refused}
 use Rattle.sheet.specs.Parts.{Part, within}
 use Rattle.sheet.specs.Registers.{in_range, known, registers_of}
 use Rattle.sheet.specs.Commands.{defined, restored}
@@ -20,16 +17,16 @@ use Rattle.sheet.specs.Protocol.{heard_by, chips_in, next, Sent, cut, whole_of, 
 -- ---- one check
 
 abbrev pub unless : Bool → Refusal → Check
-unless b r = cond b Passed (Refused r)
+unless b r = cond b (Ok tt) (Err r)
 
 -- a refusal that comes first, or else the next check
 abbrev pub or_else : Check → Check → Check
-or_else Passed next = next
-or_else (Refused r) next = Refused r
+or_else (Ok _) next = next
+or_else (Err r) next = Err r
 
 abbrev pub passed : Check → Bool
-passed Passed = Bool.true
-passed (Refused r) = Bool.false
+passed (Ok _) = Bool.true
+passed (Err r) = Bool.false
 
 -- 16: the parts are 0 and 1 (paper 02, request 5)
 unfoldable pub check_part : ℕ → Check
@@ -45,8 +42,8 @@ check_registers K r = unless (in_range K r.zero && in_range K r.one) Register
 
 -- the first column over 15, counted from i
 unfoldable pub over_in : ℕ → List ℕ → Check
-over_in i [] = Passed
-over_in i (q ∷ qs) = cond (ltb 15 q) (Refused (RamByte i)) (over_in (suc i) qs)
+over_in i [] = Ok tt
+over_in i (q ∷ qs) = cond (ltb 15 q) (Err (RamByte i)) (over_in (suc i) qs)
 
 -- 4, 5: so many columns, each at most 15
 abbrev pub check_columns : ℕ → List ℕ → Check
@@ -91,7 +88,7 @@ marks_after K u (All k) x = marks_of K u k x
 
 -- the fault of a byte that is cut, if there is one: only data can be at fault
 abbrev pub last_fault : Bool → Marks → Expect → ℕ → Check
-last_fault cut u e i = cond (cut && is_data e) (unless (known u) (UnknownPlace i)) Passed
+last_fault cut u e i = cond (cut && is_data e) (unless (known u) (UnknownPlace i)) (Ok tt)
 
 -- the first fault of the whole bytes from place i on, and of the one that is cut
 unfoldable pub fault_in : Part → Bool → Marks → Expect → ℕ → List ℕ → Check
@@ -104,8 +101,8 @@ fault_of_sent K u t = fault_in K (cut t) u Control 1 (drop 1 (whole_of t))
 
 -- 7, 17 and 18, whichever byte comes first: only a transfer that a chip hears is looked at
 abbrev pub check_bytes : Part → Both → Addressed → Sent → Check
-check_bytes K r (To g) t = fault_of_sent K (registers_of g r).unknown t
-check_bytes K r Nobody t = Passed
+check_bytes K r (Some g) t = fault_of_sent K (registers_of g r).unknown t
+check_bytes K r None t = Ok tt
 
 -- ---- the calls of the long account
 

@@ -2,7 +2,7 @@
 -- transfer's own answer unchanged; hence any merge that keeps each group's order ends alike." Of refused transfers too, which change nothing. Proved in `agreement`.
 use Rattle.std.specs.Prelude.{ℕ, ◌<◌, ◌≡◌, List, [], ◌∷◌, ◌++◌}
 use Rattle.sheet.specs.declared.Chips.{Chips}
-use Rattle.sheet.specs.declared.Answer.{Answer}
+use Rattle.sheet.specs.Results.{Answer}
 use Rattle.sheet.specs.Parts.{Part}
 use Rattle.sheet.specs.Registers.{registers_of}
 use Rattle.sheet.specs.Protocol.{address_of, Sent, address_byte}

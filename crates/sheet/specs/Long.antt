@@ -1,17 +1,13 @@
 -- The long account (paper 01): one register set a group and one long RAM, group 0's columns and then group 1's.
-use Rattle.std.specs.Prelude.{ℕ, zero, ◌+◌, ◌*◌, cond, List, [], ◌∷◌, ◌++◌, eqb, length, take, drop}
+use Rattle.std.specs.Prelude.{ℕ, zero, ◌+◌, ◌*◌, cond, List, [], ◌∷◌, ◌++◌, eqb, length, take, drop, Err, None, Ok, Some}
 use Rattle.sheet.specs.declared.Registers.{Registers}
 use Rattle.sheet.specs.declared.Both.{Both}
 use Rattle.sheet.specs.declared.Chips.{Chips}
 use Rattle.sheet.specs.declared.Counts.{Counts}
-use Rattle.sheet.specs.declared.Acknowledger.{Acknowledger}
-use Rattle.sheet.specs.declared.Addressed.{Addressed}
-use Rattle.sheet.specs.declared.Addressed.TheVariants.{To, Nobody}
+use Rattle.sheet.specs.Results.{Acknowledger, Addressed, Check, Answer}
 use Rattle.sheet.specs.declared.Expect.{Expect}
 use Rattle.sheet.specs.declared.Kind.{Kind}
 use Rattle.sheet.specs.declared.Expect.TheVariants.{Control, One, All}
-use Rattle.sheet.specs.declared.Check.{Check}
-use Rattle.sheet.specs.declared.Answer.{Answer}
 use Rattle.sheet.specs.declared.Transferred.{Transferred}
 use Rattle.sheet.specs.declared.PowerOn.{PowerOn}
 use Rattle.sheet.specs.Parts.{Part, part_of}
@@ -40,7 +36,7 @@ no_counts = record { acknowledged = 0; stored = 0; discarded = 0 }
 
 -- after the address, which is acknowledged and no data
 abbrev pub begun : Registers → List ℕ → Group
-begun r ram = record { registers = r; ram = ram; counts = one_acknowledged no_counts; last = Acknowledger.None }
+begun r ram = record { registers = r; ram = ram; counts = one_acknowledged no_counts; last = None }
 
 -- a control byte, a command, a data byte
 abbrev pub control : Group → Group
@@ -119,17 +115,17 @@ pub record After : Type 0 where
 -- a group hears the bytes after the address, which is acknowledged; the rest of the RAM and the other registers stay
 abbrev pub heard_in : Part → Chips → ℕ → Both → List ℕ → Group → After
 heard_in K n g r ram h = record {
-  result = record { answer = Answer.Taken h.counts h.last; registers = replaced g h.registers r };
+  result = record { answer = Ok (record { counts = h.counts; last = h.last }); registers = replaced g h.registers r };
   ram = with_columns K n g h.ram ram;
 }
 
 abbrev pub taken : Part → Chips → Both → List ℕ → Sent → Addressed → After
-taken K n r ram t (To g) = heard_in K n g r ram (heard_whole K t (begun (registers_of g r) (columns_of K n g ram)))
-taken K n r ram t Nobody = record { result = record { answer = Answer.Taken no_counts Acknowledger.None; registers = r }; ram = ram }
+taken K n r ram t (Some g) = heard_in K n g r ram (heard_whole K t (begun (registers_of g r) (columns_of K n g ram)))
+taken K n r ram t None = record { result = record { answer = Ok (record { counts = no_counts; last = None }); registers = r }; ram = ram }
 
 abbrev pub answered : Check → Both → List ℕ → After → After
-answered Check.Passed r ram a = a
-answered (Check.Refused x) r ram a = record { result = record { answer = Answer.Refused x; registers = r }; ram = ram }
+answered (Ok _) r ram a = a
+answered (Err x) r ram a = record { result = record { answer = Err x; registers = r }; ram = ram }
 
 unfoldable pub transfer_call : Part → Chips → Both → List ℕ → Sent → After
 transfer_call K n r ram t = answered (check_transfer K n r ram t) r ram (taken K n r ram t (heard_by n (address_byte t)))

@@ -1,17 +1,14 @@
 -- The plain account (paper 01, "Chips on the bus" and "Where a data byte goes"): each chip follows every byte by itself, over its own registers and columns.
 -- It shares with the long account only what the paper says once: bits and rows, commands, control bytes, backplanes and banks.
-use Rattle.std.specs.Prelude.{ℕ, zero, suc, ◌+◌, ◌*◌, ◌/◌, min, Bool, cond, ◌&&◌, ◌||◌, List, [], ◌∷◌, map, eqb, ltb, leb, length, take, drop}
+use Rattle.std.specs.Prelude.{ℕ, zero, suc, ◌+◌, ◌*◌, ◌/◌, min, Bool, cond, ◌&&◌, ◌||◌, List, [], ◌∷◌, map, eqb, ltb, leb, length, take, drop, Err, None, Ok, Some}
 use Rattle.sheet.specs.declared.Marks.{Marks}
 use Rattle.sheet.specs.declared.Registers.{Registers}
 use Rattle.sheet.specs.declared.Chip.{Chip}
-use Rattle.sheet.specs.declared.Acknowledger.{Acknowledger}
+use Rattle.sheet.specs.Results.{Acknowledger, Check, PlainAnswer}
 use Rattle.sheet.specs.declared.Expect.{Expect}
 use Rattle.sheet.specs.declared.Kind.{Kind}
 use Rattle.sheet.specs.declared.Expect.TheVariants.{Control, One, All}
 use Rattle.sheet.specs.declared.Refusal.TheVariants.{ManyChips, ChipField, GroupOrPhase, OutputLength}
-use Rattle.sheet.specs.declared.Check.{Check}
-use Rattle.sheet.specs.declared.Check.TheVariants.{Passed, Refused}
-use Rattle.sheet.specs.declared.PlainAnswer.{PlainAnswer}
 use Rattle.sheet.specs.declared.ChipPowerOn.{ChipPowerOn}
 use Rattle.sheet.specs.Parts.{Part, part_of}
 use Rattle.sheet.specs.Registers.{power_on, lost_by, in_range, backplanes, bank_row}
@@ -99,12 +96,12 @@ takes K address e x c = cond (hears address c) (chip_byte K e x c) c
 
 -- a subaddress and the smallest of the others
 abbrev pub lower : ℕ → Acknowledger → Acknowledger
-lower a Acknowledger.None = Acknowledger.Subaddress a
-lower a (Acknowledger.Subaddress b) = Acknowledger.Subaddress (min a b)
+lower a None = Some a
+lower a (Some b) = Some (min a b)
 
 -- the smallest subaddress among the chips of which f holds (paper 02, request 4)
 unfoldable pub smallest : (Chip → Bool) → List Chip → Acknowledger
-smallest f [] = Acknowledger.None
+smallest f [] = None
 smallest f (c ∷ cs) = cond (f c) (lower c.subaddress (smallest f cs)) (smallest f cs)
 
 -- who acknowledges a byte
@@ -113,8 +110,8 @@ acknowledged_by K address e x cs = smallest (λ c. hears address c && acknowledg
 
 -- a byte counts once however many chips acknowledge it
 abbrev pub once : Acknowledger → ℕ
-once (Acknowledger.Subaddress a) = 1
-once Acknowledger.None = 0
+once (Some a) = 1
+once None = 0
 
 -- who acknowledged the last data byte, after one more byte: it changes where that is data
 abbrev pub last_of : Kind → Acknowledger → Acknowledger → Acknowledger
@@ -196,8 +193,8 @@ chip_picture_call K c phase out = seen (check_chip_picture K c phase (length out
 
 -- the first chip that does not fit, counted from i
 unfoldable pub misfit_in : Part → ℕ → List Chip → Check
-misfit_in K i [] = Passed
-misfit_in K i (c ∷ cs) = cond (chip_fits K c) (misfit_in K (suc i) cs) (Refused (ChipField i))
+misfit_in K i [] = Ok tt
+misfit_in K i (c ∷ cs) = cond (chip_fits K c) (misfit_in K (suc i) cs) (Err (ChipField i))
 
 -- 10, 11, 1, 2, 19, then 7, 17 and 18. At most two groups of the limit
 unfoldable pub check_plain : Part → List Chip → Sent → Check
@@ -205,26 +202,26 @@ check_plain K cs t =
     or_else (unless (leb (length cs) (2 * K.limit)) ManyChips)
     (or_else (misfit_in K 0 cs)
     (or_else (check_sent t)
-    (cond (any (hears (address_byte t)) cs) (fault_of_sent K (marks_in (address_byte t) cs) t) Passed)))
+    (cond (any (hears (address_byte t)) cs) (fault_of_sent K (marks_in (address_byte t) cs) t) (Ok tt))))
 
 pub record PlainAfter : Type 0 where
   pub answer : PlainAnswer
   pub chips : List Chip
 
 abbrev pub plain_said : Plain → PlainAfter
-plain_said s = record { answer = PlainAnswer.Acknowledged s.acknowledged s.last; chips = s.chips }
+plain_said s = record { answer = Ok (record { bytes = s.acknowledged; last = s.last }); chips = s.chips }
 
 -- so many bytes are acknowledged, and no data
 abbrev pub begun_by : ℕ → List Chip → Plain
-begun_by n cs = record { acknowledged = n; last = Acknowledger.None; chips = cs }
+begun_by n cs = record { acknowledged = n; last = None; chips = cs }
 
 -- byte 0 that no chip hears: nothing changes, 0. Else it is acknowledged, and the chips that hear follow the rest
 abbrev pub plain_taken : Part → List Chip → Sent → Plain
 plain_taken K cs t = cond (any (hears (address_byte t)) cs) (plain_whole K (address_byte t) t (begun_by 1 cs)) (begun_by 0 cs)
 
 abbrev pub plain_answered : Check → List Chip → PlainAfter → PlainAfter
-plain_answered Passed cs s = s
-plain_answered (Refused r) cs s = record { answer = PlainAnswer.Refused r; chips = cs }
+plain_answered (Ok _) cs s = s
+plain_answered (Err r) cs s = record { answer = Err r; chips = cs }
 
 unfoldable pub plain_call : Part → List Chip → Sent → PlainAfter
 plain_call K cs t = plain_answered (check_plain K cs t) cs (plain_said (plain_taken K cs t))

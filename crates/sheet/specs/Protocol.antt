@@ -1,8 +1,7 @@
 -- What the bytes of a transfer are (paper 01, "A transfer, byte by byte"; sheet 003, figure 21 and tables 18 and 19).
-use Rattle.std.specs.Prelude.{ℕ, ◌+◌, ◌-◌, ◌*◌, ◌/◌, ◌%◌, Bool, true, false, cond, ◌&&◌, List, [], ◌∷◌, eqb, ltb, length, get_or, take, drop}
+use Rattle.std.specs.Prelude.{ℕ, ◌+◌, ◌-◌, ◌*◌, ◌/◌, ◌%◌, Bool, true, false, cond, ◌&&◌, List, [], ◌∷◌, eqb, ltb, length, get_or, take, drop, None, Some}
 use Rattle.sheet.specs.declared.Chips.{Chips}
-use Rattle.sheet.specs.declared.Addressed.{Addressed}
-use Rattle.sheet.specs.declared.Addressed.TheVariants.{To, Nobody}
+use Rattle.sheet.specs.Results.{Addressed}
 use Rattle.sheet.specs.declared.Expect.{Expect}
 use Rattle.sheet.specs.declared.Kind.{Kind}
 use Rattle.sheet.specs.declared.Expect.TheVariants.{Control, One, All}
@@ -13,7 +12,7 @@ address_of g = 112 + 2 * g
 
 -- the group that hears byte 0: a group with no chip hears nothing, and nobody hears any other value
 unfoldable pub heard_by : Chips → ℕ → Addressed
-heard_by n x = cond (eqb x (address_of 0) && ltb 0 n.zero) (To 0) (cond (eqb x (address_of 1) && ltb 0 n.one) (To 1) Nobody)
+heard_by n x = cond (eqb x (address_of 0) && ltb 0 n.zero) (Some 0) (cond (eqb x (address_of 1) && ltb 0 n.one) (Some 1) None)
 
 -- the chips of group g
 abbrev pub chips_in : ℕ → Chips → ℕ

@@ -97,14 +97,8 @@ pub enum Refusal {
 }
 
 #[derive(Clone, Copy)]
-pub enum Check {
-    Passed,
-    Refused(Refusal),
-}
-
-#[derive(Clone, Copy)]
 pub struct PowerOn {
-    pub check: Check,
+    pub check: Result<(), Refusal>,
     pub registers: Both,
 }
 
@@ -123,13 +117,6 @@ pub enum Expect {
     All(Kind),
 }
 
-// The group that hears an address byte.
-#[derive(Clone, Copy)]
-pub enum Addressed {
-    To(u8),
-    Nobody,
-}
-
 // Stored and discarded bits do not stand side by side, so that they are not read as one word right after they are written as two.
 #[derive(Clone, Copy)]
 pub struct Counts {
@@ -138,56 +125,26 @@ pub struct Counts {
     pub discarded: usize,
 }
 
-// Who acknowledged a data byte: the chip of a subaddress, or none.
+// What is taken of a transfer: its counts, and the subaddress of the chip that acknowledged its last data byte, if one did.
 #[derive(Clone, Copy)]
-pub enum Acknowledger {
-    Subaddress(usize),
-    None,
-}
-
-// What is taken holds its counts and who acknowledged its last data byte.
-#[derive(Clone, Copy)]
-pub enum Answer {
-    Taken { counts: Counts, last: Acknowledger },
-    Refused(Refusal),
+pub struct Taken {
+    pub counts: Counts,
+    pub last: Option<usize>,
 }
 
 #[derive(Clone, Copy)]
 pub struct Transferred {
-    pub answer: Answer,
+    pub answer: Result<Taken, Refusal>,
     pub registers: Both,
-}
-
-// What a group shows: nothing, or the rows from a first one on.
-#[derive(Clone, Copy)]
-pub enum Shown {
-    Dark,
-    Rows(usize),
-}
-
-#[derive(Clone, Copy)]
-pub enum Pictured {
-    Lit(usize),
-    Refused(Refusal),
 }
 
 // What a rescue keeps of a log, drops, and where the tear is.
 #[derive(Clone, Copy)]
-pub enum Rescued {
-    Kept {
-        records: usize,
-        bytes: usize,
-        dropped: usize,
-        tear: usize,
-    },
-    Refused(Refusal),
-}
-
-// A transfer that was written: its bytes.
-#[derive(Clone, Copy)]
-pub enum Written {
-    Bytes(usize),
-    Refused(Refusal),
+pub struct Kept {
+    pub records: usize,
+    pub bytes: usize,
+    pub dropped: usize,
+    pub tear: usize,
 }
 
 // A chip of the plain account, with its own columns, identity and registers. A part with fewer columns has the first of them.
@@ -201,13 +158,13 @@ pub struct Chip {
 
 #[derive(Clone, Copy)]
 pub struct ChipPowerOn {
-    pub check: Check,
+    pub check: Result<(), Refusal>,
     pub chip: Chip,
 }
 
 // The plain account reports the bytes acknowledged, and who acknowledged the last data byte.
 #[derive(Clone, Copy)]
-pub enum PlainAnswer {
-    Acknowledged { bytes: usize, last: Acknowledger },
-    Refused(Refusal),
+pub struct Acknowledged {
+    pub bytes: usize,
+    pub last: Option<usize>,
 }

@@ -20,7 +20,7 @@ pub fn shown(registers: Registers, phase: u8) -> Shown
     let m = arithmetic::backplanes(registers);
     let blinked = (registers.bf != 0) & (phase == 1);
     if (registers.e == 0) | (blinked & ((registers.ab == 0) | (2 < m))) {
-        return Shown::Dark;
+        return None;
     }
-    Shown::Rows(arithmetic::bank_row(m, bank_shown(registers.o, blinked)))
+    Some(arithmetic::bank_row(m, bank_shown(registers.o, blinked)))
 }

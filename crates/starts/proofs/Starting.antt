@@ -13,9 +13,8 @@ use Rattle.lemmas.proofs.Tests.{both_true}
 use Rattle.sheet.specs.declared.Chip.{Chip}
 use Rattle.sheet.specs.declared.Expect.TheVariants.{Control}
 use Rattle.sheet.specs.declared.Refusal.TheVariants.{ManyChips, ChipField}
-use Rattle.sheet.specs.declared.Check.{Check}
-use Rattle.sheet.specs.declared.Check.TheVariants.{Passed, Refused}
-use Rattle.sheet.specs.declared.PlainAnswer.{PlainAnswer}
+use Rattle.std.specs.Prelude.{Err, Ok}
+use Rattle.sheet.specs.Results.{Check, PlainAnswer}
 use Rattle.sheet.specs.Parts.{part_of}
 use Rattle.sheet.specs.Checks.{unless, or_else, check_part, check_sent, passed, fault_of_sent}
 use Rattle.sheet.specs.Protocol.{Sent, cut, address_byte}
@@ -41,9 +40,9 @@ module _ (part : ℕ) (cs : List Chip) (t : Sent) where
 
   answered : (k : Check) (heard : Bool) → record { answer = answer_of k (tally_of (followed cs t.bytes (first_turn part t k heard))); chips = (followed cs t.bytes (first_turn part t k heard)).chips }
       ≡ plain_answered k cs (plain_said (cond heard (plain_whole (part_of part) (address_byte t) t (begun_by 1 cs)) (begun_by 0 cs)))
-  answered Passed true = ap plain_said (left_is (part_of part) (address_byte t) (begun_by 1 cs) t)
-  answered Passed false = ap plain_said idle
-  answered (Refused r) heard = λ j. record { answer = PlainAnswer.Refused r; chips = (idle j).chips }
+  answered (Ok _) true = ap plain_said (left_is (part_of part) (address_byte t) (begun_by 1 cs) t)
+  answered (Ok _) false = ap plain_said idle
+  answered (Err r) heard = λ j. record { answer = Err r; chips = (idle j).chips }
 
 -- ---- the checks
 
@@ -53,13 +52,13 @@ unfolding misfit_in first_yes
 misfit part i [] = refl
 misfit part i (c ∷ cs) = by-test (chip_fits (part_of part) c) (length cs) (first_yes (yes (Misfit part)) cs) (misfit_in (part_of part) (suc i) cs) (misfit part (suc i) cs)
   where
-    by-test : (t : Bool) (n m : ℕ) (r : Check) → r ≡ unless (leb n m) (ChipField (suc i + m)) → cond t r (Refused (ChipField i)) ≡ unless (leb (suc n) (cond (not t) 0 (suc m))) (ChipField (i + cond (not t) 0 (suc m)))
+    by-test : (t : Bool) (n m : ℕ) (r : Check) → r ≡ unless (leb n m) (ChipField (suc i + m)) → cond t r (Err (ChipField i)) ≡ unless (leb (suc n) (cond (not t) 0 (suc m))) (ChipField (i + cond (not t) 0 (suc m)))
     by-test true n m r e = let on : suc i + m ≡ i + suc m = omega arith in e ∙ (λ j. unless (sym (leb-suc-suc n m) j) (ChipField (on j)))
     by-test false n m r e = let at : i ≡ i + 0 = omega arith in λ j. unless (sym (leb-suc-zero n) j) (ChipField (at j))
 
-passed_is : (k : Check) → passed k ≡ true → k ≡ Passed
-passed_is Passed e = refl
-passed_is (Refused r) e = absurd (subst T (sym e) tt)
+passed_is : (k : Check) → passed k ≡ true → k ≡ Ok tt
+passed_is (Ok _) e = refl
+passed_is (Err r) e = absurd (subst T (sym e) tt)
 
 module _ (part : ℕ) (cs : List Chip) (t : Sent) where
   -- what the list is found to hold
@@ -104,7 +103,7 @@ module _ (part : ℕ) (cs : List Chip) (t : Sent) where
   unfolding check_plain
   checked =
       sym (or-else (check_part part) (unless (leb (length cs) (2 * (part_of part).limit)) ManyChips) _)
-      ∙ (λ j. or_else (check_part part) (or_else (unless (leb (length cs) (2 * (part_of part).limit)) ManyChips) (or_else (fields j) (or_else (check_sent t) (cond (sym (any-first (hears (address_byte t)) cs) j) (fault_of_sent (part_of part) (marks-found j) t) Passed)))))
+      ∙ (λ j. or_else (check_part part) (or_else (unless (leb (length cs) (2 * (part_of part).limit)) ManyChips) (or_else (fields j) (or_else (check_sent t) (cond (sym (any-first (hears (address_byte t)) cs) j) (fault_of_sent (part_of part) (marks-found j) t) (Ok tt))))))
     where
       fields : unless (leb (length cs) misfit-at) (ChipField misfit-at) ≡ misfit_in (part_of part) 0 cs
       fields = let at : misfit-at ≡ 0 + misfit-at = omega arith in ap (λ (m : ℕ). unless (leb (length cs) misfit-at) (ChipField m)) at ∙ sym (misfit part 0 cs)
@@ -114,7 +113,7 @@ module _ (part : ℕ) (cs : List Chip) (t : Sent) where
   turned = λ j. first_turn part t (checked j) (sym (any-first (hears (address_byte t)) cs) j)
 
   -- what a transfer that is taken is known to be: there is a byte, and the chips are in range
-  taken_is : checks ≡ Passed → (0 < length t.bytes) × AllIn (part_of part) cs
+  taken_is : checks ≡ Ok tt → (0 < length t.bytes) × AllIn (part_of part) cs
   unfolding check_plain
   taken_is e =
       let u = both_pass (unless (leb (length cs) (2 * (part_of part).limit)) ManyChips) _ (both_pass (check_part part) (check_plain (part_of part) cs t) e).1 in

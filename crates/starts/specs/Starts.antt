@@ -1,13 +1,10 @@
 -- How a transfer to a list of chips of a part begins and what is answered, from what the list was found to hold: the count of the chips, and the places of the first that does not fit,
 -- the first that hears, and the first that hears and has each mark unknown (each the count if there is none).
-use Rattle.std.specs.Prelude.{ℕ, ◌+◌, ◌*◌, Bool, cond, ◌&&◌, ltb, leb, length, get_or}
+use Rattle.std.specs.Prelude.{ℕ, ◌+◌, ◌*◌, Bool, cond, ◌&&◌, ltb, leb, length, get_or, Err, None, Ok}
 use Rattle.sheet.specs.declared.Marks.{Marks}
 use Rattle.sheet.specs.declared.Expect.TheVariants.{Control}
 use Rattle.sheet.specs.declared.Refusal.TheVariants.{ManyChips, ChipField}
-use Rattle.sheet.specs.declared.Acknowledger.{Acknowledger}
-use Rattle.sheet.specs.declared.Check.{Check}
-use Rattle.sheet.specs.declared.Check.TheVariants.{Passed, Refused}
-use Rattle.sheet.specs.declared.PlainAnswer.{PlainAnswer}
+use Rattle.sheet.specs.Results.{Acknowledger, Check, PlainAnswer}
 use Rattle.sheet.specs.Parts.{part_of}
 use Rattle.sheet.specs.Protocol.{Sent, cut, address_byte}
 use Rattle.sheet.specs.Checks.{unless, or_else, check_part, check_sent, passed, fault_of_sent}
@@ -32,7 +29,7 @@ abbrev pub check_list : ℕ → Sent → Found → Check
 check_list part t f =
     or_else (unless (leb f.count f.misfit) (ChipField f.misfit))
     (or_else (check_sent t)
-    (cond (ltb f.hearer f.count) (fault_of_sent (part_of part) (marks_found f) t) Passed))
+    (cond (ltb f.hearer f.count) (fault_of_sent (part_of part) (marks_found f) t) (Ok tt)))
 
 abbrev pub check_of : ℕ → Sent → Found → Check
 check_of part t f = or_else (check_bench part f.count) (check_list part t f)
@@ -42,7 +39,7 @@ abbrev pub turn_at : ℕ → Sent → ℕ → ℕ → Turn
 turn_at part t at acknowledged = record {
   at = at;
   cut = cut t;
-  tally = record { acknowledged = acknowledged; last = Acknowledger.None };
+  tally = record { acknowledged = acknowledged; last = None };
   heard = record { part = part; address = address_byte t; expect = Control; byte = get_or t.bytes at 0; cut = cut t && leb (length t.bytes) (at + 1) };
 }
 
@@ -54,5 +51,5 @@ abbrev pub start_of : ℕ → Sent → Found → Start
 start_of part t f = record { check = check_of part t f; turn = first_turn part t (check_of part t f) (ltb f.hearer f.count) }
 
 abbrev pub answer_of : Check → Tally → PlainAnswer
-answer_of Passed t = PlainAnswer.Acknowledged t.acknowledged t.last
-answer_of (Refused r) t = PlainAnswer.Refused r
+answer_of (Ok _) t = Ok (record { bytes = t.acknowledged; last = t.last })
+answer_of (Err r) t = Err r

@@ -1,7 +1,7 @@
 // How a transfer of the plain account begins, from what the list of chips is found to hold, and what is answered. By value: `plain` goes along the list.
 #![tactic(auto)]
 
-ghost use Rattle.std.specs.Prelude.{◌≡◌, cond, ◌+◌, ◌≤◌, length};
+ghost use Rattle.std.specs.Prelude.{◌≡◌, cond, ◌+◌, ◌≤◌, length, Ok};
 ghost use Rattle.sheet.specs.Parts.{part_of};
 ghost use Rattle.sheet.specs.Protocol.{sent, address_byte};
 ghost use Rattle.sheet.specs.Checks.{fault_of_sent};
@@ -42,12 +42,12 @@ pub fn address(bytes: &[u8], bits: u8) -> u8
 }
 
 fn check_bytes(part: u8, bytes: &[u8], bits: u8, heard: bool, marks: Marks) -> Check
-    ensures { result ≡ cond heard (fault_of_sent (part_of part) marks (sent bytes.now bits)) Check.Passed }
+    ensures { result ≡ cond heard (fault_of_sent (part_of part) marks (sent bytes.now bits)) (Ok tt) }
 {
     if heard {
         protocol::first_fault(part, marks, bytes, bits)
     } else {
-        Check::Passed
+        Ok(())
     }
 }
 
@@ -56,8 +56,8 @@ fn check_bench(part: u8, count: usize) -> Check
     ensures { result ≡ check_bench part count }
 {
     match checks::check_part(part) {
-        Check::Refused(refusal) => Check::Refused(refusal),
-        Check::Passed => checks::unless(count <= 2 * arithmetic::limit(part), Refusal::ManyChips),
+        Err(refusal) => Err(refusal),
+        Ok(()) => checks::unless(count <= 2 * arithmetic::limit(part), Refusal::ManyChips),
     }
 }
 
@@ -97,11 +97,11 @@ fn check_chips(part: u8, bytes: &[u8], bits: u8, found: Found) -> Check
     let marks = marks_found(found);
     if found.count <= found.misfit {
         match checks::check_sent(bytes.len(), bits) {
-            Check::Refused(refusal) => Check::Refused(refusal),
-            Check::Passed => check_bytes(part, bytes, bits, found.hearer < found.count, marks),
+            Err(refusal) => Err(refusal),
+            Ok(()) => check_bytes(part, bytes, bits, found.hearer < found.count, marks),
         }
     } else {
-        Check::Refused(Refusal::ChipField(found.misfit))
+        Err(Refusal::ChipField(found.misfit))
     }
 }
 
@@ -109,8 +109,8 @@ fn check_transfer(part: u8, bytes: &[u8], bits: u8, found: Found) -> Check
     ensures { result ≡ check_of part (sent bytes.now bits) found }
 {
     match check_bench(part, found.count) {
-        Check::Refused(refusal) => Check::Refused(refusal),
-        Check::Passed => check_chips(part, bytes, bits, found),
+        Err(refusal) => Err(refusal),
+        Ok(()) => check_chips(part, bytes, bits, found),
     }
 }
 
@@ -124,7 +124,7 @@ fn turn_at(part: u8, bytes: &[u8], bits: u8, at: usize, acknowledged: usize) -> 
         cut,
         tally: Tally {
             acknowledged,
-            last: Acknowledger::None,
+            last: None,
         },
         heard: BusByte {
             part,
@@ -167,7 +167,7 @@ pub fn answer(check: Check, tally: Tally) -> PlainAnswer
     let bytes = tally.acknowledged;
     let last = tally.last;
     match check {
-        Check::Passed => PlainAnswer::Acknowledged { bytes, last },
-        Check::Refused(refusal) => PlainAnswer::Refused(refusal),
+        Ok(()) => Ok(Acknowledged { bytes, last }),
+        Err(refusal) => Err(refusal),
     }
 }

@@ -144,18 +144,18 @@ pub fn write_three(
     ensures result_value { written_numbers result ≡ written_numbers (write_three_part part chips registers group wanted.now out.old).result }
 {
     match refused::check_every(part, chips, registers, group, wanted) {
-        Check::Refused(refusal) => Written::Refused(refusal),
-        Check::Passed => {
+        Err(refusal) => Err(refusal),
+        Ok(()) => {
             if groups::chips_in(group, chips) == 0 {
-                return Written::Bytes(0);
+                return Ok(0);
             }
             let own = groups::registers_of(group, registers);
             let size = 3 + byte_size(part) * (wanted.len() / 2);
             if out.len() < size {
-                return Written::Refused(Refusal::OutputLength);
+                return Err(Refusal::OutputLength);
             }
             put_three(part, group, own, wanted, &mut out[..size]);
-            Written::Bytes(size)
+            Ok(size)
         }
     }
 }

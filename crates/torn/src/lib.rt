@@ -43,8 +43,8 @@ fn check(log: &[u8], size: usize) -> Check
     ensures { result ≡ check_rescue log.now size }
 {
     match records::check_head(log) {
-        Check::Refused(refusal) => Check::Refused(refusal),
-        Check::Passed => checks::unless(log.len() <= size, Refusal::OutputLength),
+        Err(refusal) => Err(refusal),
+        Ok(()) => checks::unless(log.len() <= size, Refusal::OutputLength),
     }
 }
 
@@ -54,8 +54,8 @@ pub fn rescue(log: &[u8], out: &mut [u8]) -> Rescued
     ensures result_value { rescued_numbers result ≡ rescued_numbers (rescue_call log.now out.old).result }
 {
     match check(log, out.len()) {
-        Check::Refused(refusal) => Rescued::Refused(refusal),
-        Check::Passed => {
+        Err(refusal) => Err(refusal),
+        Ok(()) => {
             let whole = whole_of(log);
             let end = whole.end;
             copies::copy(&log[..end], &mut out[..end]);

@@ -14,7 +14,8 @@ use Rattle.lemmas.proofs.Order.{lt_or_le}
 use Rattle.lemmas.proofs.Lists.{next as next_of}
 use Rattle.lemmas.proofs.Tests.{both_true}
 use Rattle.sheet.specs.declared.Chip.{Chip}
-use Rattle.sheet.specs.declared.Acknowledger.{Acknowledger}
+use Rattle.std.specs.Prelude.{None, Some}
+use Rattle.sheet.specs.Results.{Acknowledger}
 use Rattle.sheet.specs.Parts.{part_of}
 use Rattle.sheet.specs.Protocol.{next, is_data}
 use Rattle.sheet.specs.Plain.{hears, chip_lost, chip_stepped, chip_answers, lower, smallest, once, last_after, Plain, plain_heard}
@@ -32,8 +33,8 @@ pub record Following (cs₀ : List Chip) (bytes : List ℕ) (t₀ : Turn) (t : T
   pub left : followed cs bytes t ≡ followed cs₀ bytes t₀
 
 once-le : (who : Acknowledger) → once who ≤ 1
-once-le (Acknowledger.Subaddress a) = omega arith
-once-le Acknowledger.None = omega arith
+once-le (Some a) = omega arith
+once-le None = omega arith
 
 -- a byte is the last exactly if none is left after it
 last_one : (bytes : List ℕ) (i : ℕ) → i < length bytes → leb (length (drop (i + 1) bytes)) 0 ≡ leb (length bytes) (i + 1)
@@ -49,12 +50,12 @@ module _ (h : BusByte) (short : h.cut ≡ true) where
   nobody : (c : Chip) → answers h c ≡ false
   nobody c = ap (λ (b : Bool). hears h.address c && (not b && chip_answers (part_of h.part) h.expect h.byte c)) short ∙ and-false (hears h.address c)
 
-  silent : (cs : List Chip) → smallest (answers h) cs ≡ Acknowledger.None
+  silent : (cs : List Chip) → smallest (answers h) cs ≡ None
   unfolding smallest
   silent [] = refl
   silent (c ∷ cs) = ap (λ (b : Bool). cond b (lower c.subaddress (smallest (answers h) cs)) (smallest (answers h) cs)) (nobody c) ∙ silent cs
 
-  lost : (cs : List Chip) → map (taken h) cs ≡ (lost_to h.address h.expect (record { acknowledged = 0; last = Acknowledger.None; chips = cs })).chips
+  lost : (cs : List Chip) → map (taken h) cs ≡ (lost_to h.address h.expect (record { acknowledged = 0; last = None; chips = cs })).chips
   lost [] = refl
   lost (c ∷ cs) = λ j. cond (hears h.address c) (cond (short j) (chip_lost (is_data h.expect) c) (chip_stepped (part_of h.part) h.expect h.byte c)) c ∷ lost cs j
 

@@ -9,7 +9,7 @@ use native.Mathlib.Omega.{arith}
 use lib.ListN.{length, get_or, drop}
 use lib.Seq.{drop-cons, drop-length}
 use Rattle.sheet.specs.declared.Chip.{Chip}
-use Rattle.sheet.specs.declared.Acknowledger.{Acknowledger}
+use Rattle.sheet.specs.Results.{Acknowledger}
 use Rattle.sheet.specs.Plain.{lower, smallest}
 use Rattle.turns.specs.declared.BusByte.{BusByte}
 use Rattle.turns.specs.declared.Said.{Said}

@@ -13,7 +13,8 @@ use borrow.Author.Tests.{lt-leb, lt-ltb, le-ltb}
 use Rattle.lemmas.proofs.Order.{lt_or_le}
 use Rattle.lemmas.proofs.Lists.{next as next_of}
 use Rattle.sheet.specs.declared.Chip.{Chip}
-use Rattle.sheet.specs.declared.Acknowledger.{Acknowledger}
+use Rattle.std.specs.Prelude.{None, Some}
+use Rattle.sheet.specs.Results.{Acknowledger}
 use Rattle.sheet.specs.declared.Kind.{Kind}
 use Rattle.sheet.specs.declared.Expect.{Expect}
 use Rattle.sheet.specs.declared.Expect.TheVariants.{Control, One, All}
@@ -110,12 +111,12 @@ module _ (part address : ℕ) where
 -- ---- one turn after the other
 
 once-each : (who : Acknowledger) (n : ℕ) → once who + once_each n who ≡ once_each (suc n) who
-once-each (Acknowledger.Subaddress a) n = omega arith
-once-each Acknowledger.None n = omega arith
+once-each (Some a) n = omega arith
+once-each None n = omega arith
 
 once-one : (who : Acknowledger) → once who ≡ once_each 1 who
-once-one (Acknowledger.Subaddress a) = refl
-once-one Acknowledger.None = refl
+once-one (Some a) = refl
+once-one None = refl
 
 module _ (part address : ℕ) (bytes : List ℕ) (cut : Bool) (end : ℕ) (whole : (j : ℕ) → j < end → (cut && leb (length bytes) (j + 1)) ≡ false) (inside : end ≤ length bytes) (cs₀ : List Chip) (t₀ : Turn) where
   abbrev data_at : ℕ → Tally → Turn

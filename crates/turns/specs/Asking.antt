@@ -1,10 +1,10 @@
 -- What the chips of a list answer to a byte, and what becomes of each, said of every chip. For chips in range it is the sheet's meaning (proofs/Agreeing).
-use Rattle.std.specs.Prelude.{ℕ, min, Bool, cond, ◌&&◌, not, List, [], ◌∷◌, ltb}
+use Rattle.std.specs.Prelude.{ℕ, min, Bool, cond, ◌&&◌, not, List, [], ◌∷◌, ltb, None}
 use Rattle.sheet.specs.declared.Chip.{Chip}
 use Rattle.sheet.specs.Parts.{part_of}
 use Rattle.sheet.specs.Protocol.{is_data}
 use Rattle.columns.specs.Stored.{room_in, chip_ran}
-use Rattle.sheet.specs.declared.Acknowledger.{Acknowledger}
+use Rattle.sheet.specs.Results.{Acknowledger}
 use Rattle.turns.specs.declared.Said.{Said}
 use Rattle.sheet.specs.Plain.{hears, lower, chip_stepped, chip_answers, chip_lost}
 use Rattle.turns.specs.declared.BusByte.{BusByte}
@@ -22,7 +22,7 @@ abbrev pub alike_of : BusByte → Chip → ℕ → ℕ
 alike_of h c most = cond (ltb most 2) most (cond (hears h.address c) (one_or (min (room_in (part_of h.part) c.registers) most)) most)
 
 abbrev pub nothing_said : ℕ → Said
-nothing_said most = record { who = Acknowledger.None; count = most }
+nothing_said most = record { who = None; count = most }
 
 abbrev pub said_with : BusByte → Chip → Said → Said
 said_with h c s = record { who = cond (answers h c) (lower c.subaddress s.who) s.who; count = alike_of h c s.count }

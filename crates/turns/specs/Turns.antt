@@ -1,7 +1,7 @@
 -- A transfer followed byte by byte: a turn is the next byte, its place, and what is acknowledged so far.
-use Rattle.std.specs.Prelude.{ℕ, ◌+◌, ◌-◌, ◌<◌, ◌≤◌, ◌≡◌, Bool, cond, ◌&&◌, List, [], ◌∷◌, map, leb, ltb, length, get_or, take, drop}
+use Rattle.std.specs.Prelude.{ℕ, ◌+◌, ◌-◌, ◌<◌, ◌≤◌, ◌≡◌, Bool, cond, ◌&&◌, List, [], ◌∷◌, map, leb, ltb, length, get_or, take, drop, None, Some}
 use Rattle.sheet.specs.declared.Chip.{Chip}
-use Rattle.sheet.specs.declared.Acknowledger.{Acknowledger}
+use Rattle.sheet.specs.Results.{Acknowledger}
 use Rattle.sheet.specs.declared.Kind.{Kind}
 use Rattle.sheet.specs.declared.Expect.{Expect}
 use Rattle.sheet.specs.declared.Expect.TheVariants.{Control, One, All}
@@ -34,8 +34,8 @@ turn_after bytes t who = turn_on bytes t 1 (once who) who
 
 -- each of n bytes that `who` acknowledges counts once
 abbrev pub once_each : ℕ → Acknowledger → ℕ
-once_each n (Acknowledger.Subaddress a) = n
-once_each n Acknowledger.None = 0
+once_each n (Some a) = n
+once_each n None = 0
 
 -- after as many bytes as are answered alike
 abbrev pub turn_past : List ℕ → Turn → Said → Turn

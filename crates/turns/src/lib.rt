@@ -34,10 +34,10 @@ fn lower(subaddress: usize, others: Acknowledger) -> Acknowledger
     ensures { result ≡ lower subaddress others }
 {
     match others {
-        Acknowledger::Subaddress(other) => {
-            Acknowledger::Subaddress(arithmetic::least(subaddress, other))
+        Some(other) => {
+            Some(arithmetic::least(subaddress, other))
         }
-        Acknowledger::None => Acknowledger::Subaddress(subaddress),
+        None => Some(subaddress),
     }
 }
 
@@ -87,7 +87,7 @@ pub fn nothing_said(most: usize) -> Said
     ensures { result ≡ nothing_said most }
 {
     Said {
-        who: Acknowledger::None,
+        who: None,
         count: most,
     }
 }
@@ -154,8 +154,8 @@ fn counted(acknowledged: usize, who: Acknowledger, count: usize) -> usize
     ensures { result ≡ acknowledged + once_each count who }
 {
     match who {
-        Acknowledger::Subaddress(_) => acknowledged + count,
-        Acknowledger::None => acknowledged,
+        Some(_) => acknowledged + count,
+        None => acknowledged,
     }
 }
 

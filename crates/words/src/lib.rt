@@ -1,8 +1,7 @@
 // A data byte into columns that are all there: whole columns at a time, and in static and 1:2 four of them as one word.
 #![tactic(auto)]
 
-ghost use Rattle.std.specs.Prelude.{◌≡◌, ◌+◌, ◌*◌, ◌/◌, ◌%◌, ◌≤◌, ◌<◌, length, get_or};
-ghost use Rattle.sheet.specs.declared.Check.TheVariants.{Passed};
+ghost use Rattle.std.specs.Prelude.{◌≡◌, ◌+◌, ◌*◌, ◌/◌, ◌%◌, ◌≤◌, ◌<◌, length, get_or, Ok};
 ghost use Rattle.sheet.specs.Checks.{over_in};
 ghost use Rattle.sheet.specs.Data.{changed, put_bits};
 ghost use Rattle.words.specs.Fields.{field, joined, laid, merged, three_rows, Spread};
@@ -40,7 +39,7 @@ pub fn three_byte(ram: &mut [u8], at: usize, x: u8)
 
 // 1:4: two columns, of which nothing is kept, since they have four rows and no more.
 pub fn four_byte(ram: &mut [u8], at: usize, x: u8)
-    requires { (at + 2 ≤ length ram.old) × (over_in 0 ram.old ≡ Passed) }
+    requires { (at + 2 ≤ length ram.old) × (over_in 0 ram.old ≡ Ok tt) }
     ensures { ram.new ≡ put_bits 8 4 0 at x ram.old }
 {
     let y = reversed(x);

@@ -128,18 +128,18 @@ pub fn write_rows(
     ensures result_value { written_numbers result ≡ written_numbers (write_rows_part part chips registers group mode bank wanted.now out.old).result }
 {
     match refused::check_wanted(part, chips, registers, group, mode, bank, wanted) {
-        Check::Refused(refusal) => Written::Refused(refusal),
-        Check::Passed => {
+        Err(refusal) => Err(refusal),
+        Ok(()) => {
             if groups::chips_in(group, chips) == 0 {
-                return Written::Bytes(0);
+                return Ok(0);
             }
             let own = groups::registers_of(group, registers);
             let size = rows_size(part, backplanes_of(own, mode), wanted.len());
             if out.len() < size {
-                return Written::Refused(Refusal::OutputLength);
+                return Err(Refusal::OutputLength);
             }
             put_rows(part, group, own, mode, bank, wanted, &mut out[..size]);
-            Written::Bytes(size)
+            Ok(size)
         }
     }
 }

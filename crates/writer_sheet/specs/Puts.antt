@@ -1,13 +1,11 @@
 -- Request 2's law, stated: the transfer that is written for wanted rows puts them there "from any valid registers. Running it under the base rules must yield exactly those bits and
 -- change no other; E, B, O and blinking stay". Over any part whose commands are those of both sheets (`Settable`); proved in `laws`.
-use Rattle.std.specs.Prelude.{ℕ, ◌+◌, ◌-◌, ◌*◌, ◌/◌, ◌%◌, ◌≤◌, ◌<◌, ◌≡◌, ◌≢◌, Bool, true, false, cond, ◌&&◌, List, eqb, ltb, leb, length, get_or}
+use Rattle.std.specs.Prelude.{ℕ, ◌+◌, ◌-◌, ◌*◌, ◌/◌, ◌%◌, ◌≤◌, ◌<◌, ◌≡◌, ◌≢◌, Bool, true, false, cond, ◌&&◌, List, eqb, ltb, leb, length, get_or, None, Ok, Some}
 use Rattle.sheet.specs.declared.Registers.{Registers}
 use Rattle.sheet.specs.declared.Both.{Both}
 use Rattle.sheet.specs.declared.Chips.{Chips}
 use Rattle.sheet.specs.declared.Counts.{Counts}
-use Rattle.sheet.specs.declared.Acknowledger.{Acknowledger}
-use Rattle.sheet.specs.declared.Answer.{Answer}
-use Rattle.sheet.specs.declared.Check.TheVariants.{Passed}
+use Rattle.sheet.specs.Results.{Acknowledger, Answer}
 use Rattle.sheet.specs.declared.Command.TheVariants.{ModeSet, BankSelect, DeviceSelect}
 use Rattle.sheet.specs.Parts.{Part}
 use Rattle.sheet.specs.Registers.{at_place, with_marks, backplanes, bank_row, registers_of}
@@ -44,13 +42,13 @@ put_counts m size sent =
 
 -- the last byte is acknowledged by the last chip, if it ends there
 abbrev pub put_last : ℕ → ℕ → ℕ → Acknowledger
-put_last m size chips = cond (eqb (size % width_of m) 0) (Acknowledger.Subaddress (chips - 1)) Acknowledger.None
+put_last m size chips = cond (eqb (size % width_of m) 0) (Some (chips - 1)) None
 
 -- ---- the transfer for wanted rows of group g, run from registers r and RAM that pass the checks
 
 pub record Puts (K : Part) (n : Chips) (r : Both) (ram : List ℕ) (g mode bank : ℕ) (wanted : List ℕ) (m b : ℕ) (transfer : List ℕ) (after : After) : Type 0 where
   -- it is taken
-  pub answer : after.result.answer ≡ Answer.Taken (put_counts m (length wanted) (length transfer)) (put_last m (length wanted) (chips_in g n))
+  pub answer : after.result.answer ≡ Ok (record { counts = put_counts m (length wanted) (length transfer); last = put_last m (length wanted) (chips_in g n) })
   -- the group's M and I are the wanted ones, P and A are after the data, its marks are known; E, B, O, AB and BF and the other group's registers stay
   pub registers : after.result.registers ≡ replaced g (at_position K (set_to mode bank (registers_of g r)) (width_of m * bytes_for m (length wanted))) r
   -- each row that the run reaches is the wanted one
@@ -71,7 +69,7 @@ pub record WritesRows (K : Part) : Type 1 where
   -- 12 bytes with the PCF8532's two pointer commands and 10 with the PCA85133's one, and the data
   pub bytes : (n : Chips) (r : Both) (g mode bank : ℕ) (wanted : List ℕ) → 0 < chips_in g n
       → length (rows_transfer K n r g mode bank wanted) ≡ 8 + 2 * length (K.pointer 0) + bytes_for (backplanes (set_to mode bank (registers_of g r))) (length wanted)
-  pub puts : (n : Chips) (r : Both) (ram : List ℕ) (g mode bank : ℕ) (wanted : List ℕ) → check_state K n r ram ≡ Passed → check_wanted K n r g mode bank wanted ≡ Passed → 0 < chips_in g n
+  pub puts : (n : Chips) (r : Both) (ram : List ℕ) (g mode bank : ℕ) (wanted : List ℕ) → check_state K n r ram ≡ Ok tt → check_wanted K n r g mode bank wanted ≡ Ok tt → 0 < chips_in g n
       → let s = set_to mode bank (registers_of g r) in
       let transfer = rows_transfer K n r g mode bank wanted in
       length transfer ≤ 4096 → Puts K n r ram g mode bank wanted (backplanes s) (bank_row (backplanes s) bank) transfer (transfer_call K n r ram (whole transfer))

@@ -1,11 +1,9 @@
 -- Every element of a three-backplane glass (paper 02, request 12; sheet 002, 7.10.3 and table 9): one transfer that sets rows 0 to 2 of every column of a group.
 -- A data byte begins at each even column, so each overwrites the spare bits of the one before. That it puts the rows there is stated below and proved in `laws`.
-use Rattle.std.specs.Prelude.{ℕ, zero, suc, ◌+◌, ◌-◌, ◌*◌, ◌/◌, ◌%◌, ◌≤◌, ◌<◌, ◌≡◌, ◌≢◌, cond, List, [], ◌∷◌, ◌++◌, eqb, length, get_or}
+use Rattle.std.specs.Prelude.{ℕ, zero, suc, ◌+◌, ◌-◌, ◌*◌, ◌/◌, ◌%◌, ◌≤◌, ◌<◌, ◌≡◌, ◌≢◌, cond, List, [], ◌∷◌, ◌++◌, eqb, length, get_or, None, Ok}
 use Rattle.sheet.specs.declared.Both.{Both}
 use Rattle.sheet.specs.declared.Chips.{Chips}
-use Rattle.sheet.specs.declared.Acknowledger.{Acknowledger}
-use Rattle.sheet.specs.declared.Answer.{Answer}
-use Rattle.sheet.specs.declared.Check.TheVariants.{Passed}
+use Rattle.sheet.specs.Results.{Acknowledger, Answer}
 use Rattle.sheet.specs.Parts.{Part, part_of}
 use Rattle.sheet.specs.Registers.{registers_of}
 use Rattle.sheet.specs.Protocol.{address_of, chips_in, whole}
@@ -46,7 +44,7 @@ write_three_part part n r g wanted out =
 -- the transfer for wanted rows of group g, run from registers r and RAM that pass the checks
 pub record PutsThree (K : Part) (n : Chips) (r : Both) (ram : List ℕ) (g : ℕ) (wanted transfer : List ℕ) (after : After) : Type 0 where
   -- it is taken: all bytes are acknowledged but the last data byte, which reaches past the last chip and loses its two spare bits
-  pub answer : after.result.answer ≡ Answer.Taken (record { acknowledged = length transfer - 1; stored = 4 * length wanted - 2; discarded = 2 }) Acknowledger.None
+  pub answer : after.result.answer ≡ Ok (record { counts = record { acknowledged = length transfer - 1; stored = 4 * length wanted - 2; discarded = 2 }; last = None })
   -- M is 3, P and A are after the last byte, marks are known; E, B, I, O, AB and BF and the other group's registers stay
   pub registers : after.result.registers ≡ replaced g (at_position K (set_to 3 (registers_of g r).i (registers_of g r)) (length wanted + 1)) r
   -- rows 0 to 2 of every column are the wanted ones, and row 3 stays
@@ -61,7 +59,7 @@ pub record WritesThree (K : Part) : Type 1 where
   -- 3 + 640 × n bytes with the PCF8532's two pointer commands, 3 + 240 × n with the PCA85133's one
   pub bytes : (n : Chips) (r : Both) (g : ℕ) (wanted : List ℕ) (pointers : ℕ) → 0 < chips_in g n → ((p : ℕ) → p < K.columns → length (K.pointer p) ≡ pointers)
       → length (three_transfer K n r g wanted) ≡ 3 + (4 + 2 * pointers) * (length wanted / 2)
-  pub puts : (n : Chips) (r : Both) (ram : List ℕ) (g : ℕ) (wanted : List ℕ) → check_state K n r ram ≡ Passed → check_wanted K n r g 3 0 wanted ≡ Passed → 0 < chips_in g n
+  pub puts : (n : Chips) (r : Both) (ram : List ℕ) (g : ℕ) (wanted : List ℕ) → check_state K n r ram ≡ Ok tt → check_wanted K n r g 3 0 wanted ≡ Ok tt → 0 < chips_in g n
       → length (three_transfer K n r g wanted) ≤ 4096 → PutsThree K n r ram g wanted (three_transfer K n r g wanted) (transfer_call K n r ram (whole (three_transfer K n r g wanted)))
 
 abbrev pub ClaimThree : Type 1

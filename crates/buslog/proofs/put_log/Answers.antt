@@ -7,7 +7,7 @@ use native.Mathlib.Nat.{le_of_suc-le-suc}
 use native.Mathlib.Omega.{arith}
 use lib.ListN.{length, take, replicate, length-replicate}
 use lib.Seq.{length-take-le}
-use Rattle.sheet.specs.declared.Check.TheVariants.{Passed}
+use Rattle.std.specs.Prelude.{Ok}
 use Rattle.sheet.specs.Parts.{pcf8532}
 use Rattle.sheet.specs.Checks.{check_chips}
 use Rattle.sheet.specs.declared.Chips.{Chips}
@@ -23,18 +23,18 @@ zeros (suc k) zero h = absurd (omega arith)
 zeros (suc k) (suc n) h = ap (λ (l : List ℕ). 0 ∷ l) (zeros k n (le_of_suc-le-suc h))
 
 -- the chips passed their check
-chips : (log : List ℕ) (n : Chips) → n ≡ log_chips log → check_log log ≡ Passed → check_chips pcf8532 n ≡ Passed
+chips : (log : List ℕ) (n : Chips) → n ≡ log_chips log → check_log log ≡ Ok tt → check_chips pcf8532 n ≡ Ok tt
 chips log n e passed = rw e (checked log passed).chips
 
 -- so their columns are at most those of the array
-few : (n : Chips) → check_chips pcf8532 n ≡ Passed → 160 * (n.zero + n.one) ≤ 1280
+few : (n : Chips) → check_chips pcf8532 n ≡ Ok tt → 160 * (n.zero + n.one) ≤ 1280
 few n passed = let h = few-chips pcf8532 n passed in omega arith
 
-small : (log : List ℕ) (n : Chips) (ram : List ℕ) → n ≡ log_chips log → check_log log ≡ Passed → ram ≡ replicate 1280 0 → 160 * (n.zero + n.one) ≤ length ram
+small : (log : List ℕ) (n : Chips) (ram : List ℕ) → n ≡ log_chips log → check_log log ≡ Ok tt → ram ≡ replicate 1280 0 → 160 * (n.zero + n.one) ≤ length ram
 small log n ram e passed blank = omega (arith, few n (chips log n e passed), ap length blank, length-replicate {A = ℕ} 1280 0)
 
 -- the text
-lines : (log : List ℕ) (n : Chips) → n ≡ log_chips log → check_log log ≡ Passed → text_of log ≡ log_lines (seen_bytes log) n (log_records log).bodies
+lines : (log : List ℕ) (n : Chips) → n ≡ log_chips log → check_log log ≡ Ok tt → text_of log ≡ log_lines (seen_bytes log) n (log_records log).bodies
 lines log n e passed = rw e (text-passed log passed)
 
 pub play-requires : goal.play-requires

@@ -1,7 +1,7 @@
 -- `checks::check_sent` meets its contract.
 -- Assumes nothing.
 use mathlib.Core.Path.{sym, ap, ◌∙◌}
-use Rattle.sheet.specs.declared.Check.{Check}
+use Rattle.sheet.specs.Results.{Check}
 use Rattle.sheet.specs.Parts.{within}
 use Rattle.sheet.specs.Checks.{or_else, check_bits}
 use Rattle.checks.proofs.check_sent.Goals as goal

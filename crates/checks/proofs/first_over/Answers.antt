@@ -9,7 +9,7 @@ use native.Mathlib.Omega.{arith}
 use lib.Dec.{ltb, leb, leb-suc-zero, leb-suc-suc}
 use lib.ListN.{length}
 use Rattle.sheet.specs.declared.Refusal.TheVariants.{RamByte}
-use Rattle.sheet.specs.declared.Check.TheVariants.{Refused}
+use Rattle.std.specs.Prelude.{Err}
 use Rattle.sheet.specs.Checks.{unless, over_in}
 use Rattle.laws.proofs.Nibbles.{check-nibbles}
 use Rattle.checks.specs.Highest.{first_over}
@@ -22,7 +22,7 @@ found i [] = refl
 found i (q ∷ qs) = by-column (ltb 15 q) (found (suc i) qs)
   where
     by-column : (over : Bool) → unless (leb (length qs) (first_over qs)) (RamByte (suc i + first_over qs)) ≡ over_in (suc i) qs
-        → unless (leb (suc (length qs)) (cond over 0 (suc (first_over qs)))) (RamByte (i + cond over 0 (suc (first_over qs)))) ≡ cond over (Refused (RamByte i)) (over_in (suc i) qs)
+        → unless (leb (suc (length qs)) (cond over 0 (suc (first_over qs)))) (RamByte (i + cond over 0 (suc (first_over qs)))) ≡ cond over (Err (RamByte i)) (over_in (suc i) qs)
     by-column true later = ap₂ (λ (past : Bool) (k : ℕ). unless past (RamByte k)) (leb-suc-zero (length qs)) (add-zero i)
     by-column false later =
         let next : i + suc (first_over qs) ≡ suc i + first_over qs = omega arith in

@@ -6,9 +6,8 @@ use mathlib.Core.List.{List}
 use Prim.Native.Nat.{ℕ}
 use lib.ListN.{length}
 use Rattle.sheet.specs.declared.Chip.{Chip}
-use Rattle.sheet.specs.declared.Check.{Check}
-use Rattle.sheet.specs.declared.Check.TheVariants.{Passed}
-use Rattle.sheet.specs.declared.Pictured.{Pictured}
+use Rattle.std.specs.Prelude.{Ok}
+use Rattle.sheet.specs.Results.{Check, Pictured}
 use Rattle.sheet.specs.Parts.{part_of}
 use Rattle.sheet.specs.Registers.{in_range}
 use Rattle.sheet.specs.Checks.{or_else, check_part}
@@ -29,7 +28,7 @@ by-check part c phase out k e =
     ∙ ap (λ (k : Check). seen k (picture_of c.registers phase (own_columns (part_of part) c)) out) e
 
 -- the checks have passed, so the registers are in range, and the buffer is as long as the columns
-known : (part : ℕ) (c : Chip) (phase : ℕ) (out : List ℕ) → or_else (check_part part) (check_chip_picture (part_of part) c phase (length out)) ≡ Passed
+known : (part : ℕ) (c : Chip) (phase : ℕ) (out : List ℕ) → or_else (check_part part) (check_chip_picture (part_of part) c phase (length out)) ≡ Ok tt
     → (in_range (part_of part) c.registers ≡ true) × (length out ≡ (part_of part).columns)
 known part c phase out e = chip-picture-passed (part_of part) _ _ _ (both_pass (check_part part) _ e).1
 
@@ -47,7 +46,7 @@ returns-in-Refused c = let a = c.args in
 pub returns-in-Passed : goal.returns-in-Passed
 returns-in-Passed c = let a = c.args in
     let e = c.show_own.ensures in
-    let shown : ◌≡◌ {A = Seen} (record { result = Pictured.Lit c.show_own.result; out = c.show_own.new.out }) (seen Passed (picture_of a.chip.registers a.phase (own_columns (part_of a.part) a.chip)) a.out.now) =
-    λ j. record { result = Pictured.Lit (e.value j); out = e.out_after j } in
+    let shown : ◌≡◌ {A = Seen} (record { result = Ok c.show_own.result; out = c.show_own.new.out }) (seen (Ok tt) (picture_of a.chip.registers a.phase (own_columns (part_of a.part) a.chip)) a.out.now) =
+    λ j. record { result = Ok (e.value j); out = e.out_after j } in
     let h = numbered-picture (shown ∙ sym (by-check a.part a.chip a.phase a.out.now _ (sym c.check_picture.ensures ∙ c.in-Passed.is))) in
     record { out_after = h.0; result_value = h.1 }

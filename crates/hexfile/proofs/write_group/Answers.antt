@@ -1,9 +1,8 @@
 -- `hexfile::write_group` is safe: the columns of both groups are at most those of the array.
 -- Assumes nothing.
-use Rattle.std.proofs.Common.{◌≡◌, ℕ, ◌+◌, ◌*◌, ◌≤◌, List, ◌++◌, length, take, drop, arith, sym}
+use Rattle.std.proofs.Common.{◌≡◌, ℕ, ◌+◌, ◌*◌, ◌≤◌, List, ◌++◌, length, take, drop, arith, sym, Ok}
 use lib.Seq.{length-take-le, length_front}
 use Rattle.sheet.specs.declared.Chips.{Chips}
-use Rattle.sheet.specs.declared.Check.TheVariants.{Passed}
 use Rattle.sheet.specs.Parts.{pcf8532}
 use Rattle.sheet.specs.Checks.{check_chips}
 use Rattle.log_sheet.specs.Logs.{check_log, log_chips}
@@ -12,9 +11,9 @@ use Rattle.buslog.proofs.Checked.{checked}
 use Rattle.hexfile.proofs.write_group.Goals as goal
 
 -- the columns of both groups are at most those of the array
-few : (log : List ℕ) (chips : Chips) (ram : List ℕ) → check_log log ≡ Passed → chips ≡ log_chips log → length ram ≡ 1280 → 160 * chips.zero + 160 * chips.one ≤ length ram
+few : (log : List ℕ) (chips : Chips) (ram : List ℕ) → check_log log ≡ Ok tt → chips ≡ log_chips log → length ram ≡ 1280 → 160 * chips.zero + 160 * chips.one ≤ length ram
 few log chips ram passed e size =
-    let fits : check_chips pcf8532 chips ≡ Passed = rw e (checked log passed).chips in
+    let fits : check_chips pcf8532 chips ≡ Ok tt = rw e (checked log passed).chips in
     let h = few-chips pcf8532 chips fits in
     omega (arith, h.0, h.1, size)
 

@@ -1,15 +1,15 @@
 -- `hexfile::write_image` is safe: what is written lies inside the buffer.
 -- Assumes nothing.
-use Rattle.std.proofs.Common.{◌≡◌, ℕ, ◌≤◌, List, length, arith, sym, ap, ◌∙◌}
+use Rattle.std.proofs.Common.{◌≡◌, ℕ, ◌≤◌, List, length, arith, sym, ap, ◌∙◌, Ok}
 use lib.Seq.{length-take-le}
-use Rattle.sheet.specs.declared.Written.{Written}
+use Rattle.sheet.specs.Results.{Written}
 use Rattle.sheet.specs.Written.{WrittenAfter}
 use Rattle.imagelaws.proofs.Calls.{written-inside}
 use Rattle.hexfile.proofs.write_image.Goals as goal
 
 -- of a call that writes no more than the buffer had
-inside : (s : WrittenAfter) (result : Written) (before after : List ℕ) (count : ℕ) → ((size : ℕ) → s.result ≡ Written.Bytes size → size ≤ length before) → ◌≡◌ {A = WrittenAfter} (record { result = result; out = after }) s
-    → result ≡ Written.Bytes count → length after ≡ length before → count ≤ length after
+inside : (s : WrittenAfter) (result : Written) (before after : List ℕ) (count : ℕ) → ((size : ℕ) → s.result ≡ Ok size → size ≤ length before) → ◌≡◌ {A = WrittenAfter} (record { result = result; out = after }) s
+    → result ≡ Ok count → length after ≡ length before → count ≤ length after
 inside s result before after count few e is same = omega (arith, few count (sym (ap (λ (a : WrittenAfter). a.result) e) ∙ is), same)
 
 pub slice_bounds-file-end : goal.slice_bounds-file-end

@@ -1,7 +1,7 @@
 -- `hexrecord::fault` meets its contract: the head first, and then the data.
 -- Assumes nothing.
 use mathlib.Core.Path.{sym, ap, ◌∙◌}
-use Rattle.sheet.specs.declared.Check.{Check}
+use Rattle.sheet.specs.Results.{Check}
 use Rattle.sheet.specs.Checks.{or_else}
 use Rattle.image_sheet.specs.Images.{data_fault}
 use Rattle.hexrecord.proofs.fault.Goals as goal

@@ -7,7 +7,7 @@ use Prim.Native.Nat.{ℕ, ◌+◌, ◌*◌, ◌-◌, ◌≤◌, ◌<◌}
 use native.Mathlib.Omega.{arith}
 use lib.ListN.{length, take, drop, length-drop, length-append}
 use lib.Seq.{length-take-le, take_at}
-use Rattle.sheet.specs.declared.Check.{Check}
+use Rattle.sheet.specs.Results.{Check}
 use Rattle.image_sheet.specs.Images.{are_digits, bytes_of, digits_in, kind_of, fault_of, size_in}
 use Rattle.hexrecord.specs.declared.Line.{Line}
 use Rattle.hexrecord.specs.declared.Line.TheVariants.{Of, None}

@@ -4,8 +4,8 @@ use mathlib.Core.Path.{◌≡◌, sym, ap, ◌∙◌}
 use mathlib.Core.List.{List}
 use Prim.Native.Nat.{ℕ}
 use borrow.Author.Tests.{eq-eqb, ne_eqb}
-use Rattle.sheet.specs.declared.Check.{Check}
-use Rattle.sheet.specs.declared.Check.TheVariants.{Passed}
+use Rattle.std.specs.Prelude.{Ok}
+use Rattle.sheet.specs.Results.{Check}
 use Rattle.image_sheet.specs.Images.{kind_of, fault_of}
 use Rattle.hexrecord.specs.Lines.{step_of, given_after}
 use Rattle.hexrecord.proofs.Faults.{passed-inside}
@@ -26,10 +26,10 @@ store-requires c = (c.requires, passed-inside c.args.given.now c.args.at c.args.
 -- a record that was stored: the last, or not
 pub returns-then-bytes-eq1 : goal.returns-then-bytes-eq1
 returns-then-bytes-eq1 c = let a = c.args in
-    let b = by-fault Passed (fault_of a.given.now a.at a.bytes.now) (kind_of a.bytes.now) a.next a.given.now a.bytes.now (sym c.fault.ensures ∙ c.in-Passed.is) in
+    let b = by-fault (Ok tt) (fault_of a.given.now a.at a.bytes.now) (kind_of a.bytes.now) a.next a.given.now a.bytes.now (sym c.fault.ensures ∙ c.in-Passed.is) in
     record { value = rw (eq-eqb _ _ c.if-bytes-eq1.true) at b.0; given_after = c.store.ensures ∙ b.1 }
 
 pub returns-else-bytes-eq1 : goal.returns-else-bytes-eq1
 returns-else-bytes-eq1 c = let a = c.args in
-    let b = by-fault Passed (fault_of a.given.now a.at a.bytes.now) (kind_of a.bytes.now) a.next a.given.now a.bytes.now (sym c.fault.ensures ∙ c.in-Passed.is) in
+    let b = by-fault (Ok tt) (fault_of a.given.now a.at a.bytes.now) (kind_of a.bytes.now) a.next a.given.now a.bytes.now (sym c.fault.ensures ∙ c.in-Passed.is) in
     record { value = rw (ne_eqb _ _ c.if-bytes-eq1.false) at b.0; given_after = c.store.ensures ∙ b.1 }

@@ -5,7 +5,7 @@ use Prim.Native.Nat.{ℕ}
 use lib.Dec.{eqb}
 use borrow.Author.Tests.{le-leb, lt-leb}
 use Rattle.sheet.specs.declared.Chips.{Chips}
-use Rattle.sheet.specs.declared.Check.{Check}
+use Rattle.sheet.specs.Results.{Check}
 use Rattle.sheet.specs.declared.Refusal.TheVariants.{RamLength}
 use Rattle.sheet.specs.Parts.{part_of}
 use Rattle.sheet.specs.Checks.{unless, check_chips}

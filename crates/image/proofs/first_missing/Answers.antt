@@ -9,7 +9,7 @@ use native.Mathlib.Omega.{arith}
 use lib.Dec.{ltb, eqb, eqb-suc-suc, eqb-zero-suc}
 use lib.ListN.{length}
 use Rattle.sheet.specs.declared.Refusal.TheVariants.{AddressMissing}
-use Rattle.sheet.specs.declared.Check.TheVariants.{Refused}
+use Rattle.std.specs.Prelude.{Err}
 use Rattle.sheet.specs.Checks.{unless}
 use Rattle.checks.specs.Highest.{first_over}
 use Rattle.image_sheet.specs.Images.{missing_in}
@@ -21,7 +21,7 @@ first-missing i [] = refl
 first-missing i (q ∷ qs) = by_place (ltb 15 q) (first-missing (suc i) qs)
   where
     by_place : (over : Bool) → unless (eqb (first_over qs) (length qs)) (AddressMissing (suc i + first_over qs)) ≡ missing_in (suc i) qs
-        → unless (eqb (cond over 0 (suc (first_over qs))) (suc (length qs))) (AddressMissing (i + cond over 0 (suc (first_over qs)))) ≡ cond over (Refused (AddressMissing i)) (missing_in (suc i) qs)
+        → unless (eqb (cond over 0 (suc (first_over qs))) (suc (length qs))) (AddressMissing (i + cond over 0 (suc (first_over qs)))) ≡ cond over (Err (AddressMissing i)) (missing_in (suc i) qs)
     by_place true later = rw (eqb-zero-suc (length qs), add-zero i) refl
     by_place false later = rw (eqb-suc-suc (first_over qs) (length qs), add-suc i (first_over qs), ← suc-add i (first_over qs)) later
 

@@ -6,9 +6,8 @@ use Prim.Native.Nat.{ℕ, ◌*◌, ◌≤◌}
 use native.Mathlib.Omega.{arith}
 use lib.ListN.{length, take, drop, replicate, length-replicate, length-append}
 use lib.Seq.{length-take-le, take_at}
-use Rattle.sheet.specs.declared.Written.{Written}
-use Rattle.sheet.specs.declared.Check.{Check}
-use Rattle.sheet.specs.declared.Check.TheVariants.{Passed}
+use Rattle.std.specs.Prelude.{Ok}
+use Rattle.sheet.specs.Results.{Written, Check}
 use Rattle.sheet.specs.Parts.{part_of}
 use Rattle.image_sheet.specs.Images.{image, image_from, image_of, check_file}
 use Rattle.laws.proofs.Written.{numbered}
@@ -17,8 +16,8 @@ use Rattle.imagelaws.proofs.Answers.{take-replicate, not-read, faulty, all_read}
 use Rattle.image.proofs.read.Goals as goal
 
 -- a call that passed
-module _ (part chips : ℕ) (file ram : List ℕ) (k : Check) (told : k ≡ check_file part chips (length file) (length ram)) (passed : k ≡ Passed) where
-  passes : check_file part chips (length file) (length ram) ≡ Passed
+module _ (part chips : ℕ) (file ram : List ℕ) (k : Check) (told : k ≡ check_file part chips (length file) (length ram)) (passed : k ≡ Ok tt) where
+  passes : check_file part chips (length file) (length ram) ≡ Ok tt
   passes = sym told ∙ passed
 
   asked : Asked part chips (length file) (length ram)
@@ -85,10 +84,10 @@ pub returns-in-Passed-read_records : goal.returns-in-Passed-read_records
 returns-in-Passed-read_records c = let a = c.args in
     let given = c.read_records.new.given in
     let is = given_is a.part a.chips a.file.now a.ram.now c.check_file.result c.check_file.ensures c.in-Passed.is c.none_given-given.result c.none_given-given.ensures given c.read_records.auto.given
-    c.read_records.result Passed c.read_records.ensures c.in-Passed-read_records.is in
+    c.read_records.result (Ok tt) c.read_records.ensures c.in-Passed-read_records.is in
     let same = copied a.part a.chips a.file.now a.ram.now c.check_file.result c.check_file.ensures c.in-Passed.is c.none_given-given.result c.none_given-given.ensures given c.read_records.auto.given in
     let size = long a.part a.chips a.file.now a.ram.now c.check_file.result c.check_file.ensures c.in-Passed.is c.none_given-given.result c.none_given-given.ensures given c.read_records.auto.given in
     let n = numbered
-    (ap (λ (l : List ℕ). record { result = Written.Bytes (length a.ram.now); out = l }) (c.copy.ensures ∙ same)
+    (ap (λ (l : List ℕ). record { result = Ok (length a.ram.now); out = l }) (c.copy.ensures ∙ same)
     ∙ all_read a.part a.chips a.file.now a.ram.now (sym c.check_file.ensures ∙ c.in-Passed.is) given is size) in
     record { ram_after = n.0; result_value = n.1 }

@@ -6,9 +6,8 @@ use Prim.Native.Nat.{ℕ, ◌≤◌}
 use native.Mathlib.Omega.{arith}
 use lib.ListN.{length}
 use Rattle.sheet.specs.declared.Chips.{Chips}
-use Rattle.sheet.specs.declared.Written.{Written}
-use Rattle.sheet.specs.declared.Check.{Check}
-use Rattle.sheet.specs.declared.Check.TheVariants.{Passed}
+use Rattle.std.specs.Prelude.{Ok}
+use Rattle.sheet.specs.Results.{Written, Check}
 use Rattle.sheet.specs.Parts.{part_of}
 use Rattle.sheet.specs.Checks.{or_else, check_part, check_power_on}
 use Rattle.image_sheet.specs.Hex.{file_of, one_group, hex_write_part}
@@ -24,20 +23,20 @@ checked part chips ram n k l g told e = ap (λ (m : Chips). or_else (check_part 
 
 pub file_size-size-requires : goal.file_size-size-requires
 file_size-size-requires c = let a = c.args in
-    let g = group_of a.part a.chips a.ram.now (checked a.part a.chips a.ram.now c.one_group.result _ Passed c.one_group.ensures c.check_power_on.ensures c.in-Passed.is) in
+    let g = group_of a.part a.chips a.ram.now (checked a.part a.chips a.ram.now c.one_group.result _ (Ok tt) c.one_group.ensures c.check_power_on.ensures c.in-Passed.is) in
     omega (arith, g.few)
 
 pub returns-then-out-size : goal.returns-then-out-size
 unfolding hex_write_part
 returns-then-out-size c = let a = c.args in
-    let passes = checked a.part a.chips a.ram.now c.one_group.result _ Passed c.one_group.ensures c.check_power_on.ensures c.in-Passed.is in
+    let passes = checked a.part a.chips a.ram.now c.one_group.result _ (Ok tt) c.one_group.ensures c.check_power_on.ensures c.in-Passed.is in
     let size = c.file_size-size.ensures ∙ sym (length-file a.ram.now) in
     let n = calls.numbered (calls.too_short a.part (check_power_on (part_of a.part) (one_group a.chips) a.ram.now) (file_of a.ram.now) a.out.now passes (omega (arith, size, c.if-out-size.true))) in
     record { out_after = n.0; result_value = n.1 }
 
 pub put_file-requires : goal.put_file-requires
 put_file-requires c = let a = c.args in
-    let g = group_of a.part a.chips a.ram.now (checked a.part a.chips a.ram.now c.one_group.result _ Passed c.one_group.ensures c.check_power_on.ensures c.in-Passed.is) in
+    let g = group_of a.part a.chips a.ram.now (checked a.part a.chips a.ram.now c.one_group.result _ (Ok tt) c.one_group.ensures c.check_power_on.ensures c.in-Passed.is) in
     let size = c.file_size-size.ensures ∙ sym (length-file a.ram.now) in
     record { sixteens = g.sixteens; near = omega (arith, g.few); room = omega (arith, size, c.if-out-size.false) }
 
@@ -52,10 +51,10 @@ pub returns-else-out-size : goal.returns-else-out-size
 unfolding hex_write_part
 returns-else-out-size c = let a = c.args in
     let file = file_of a.ram.now in
-    let passes = checked a.part a.chips a.ram.now c.one_group.result _ Passed c.one_group.ensures c.check_power_on.ensures c.in-Passed.is in
+    let passes = checked a.part a.chips a.ram.now c.one_group.result _ (Ok tt) c.one_group.ensures c.check_power_on.ensures c.in-Passed.is in
     let size = c.file_size-size.ensures ∙ sym (length-file a.ram.now) in
     let room : length file ≤ length a.out.now = omega (arith, size, c.if-out-size.false) in
     let n = calls.numbered
-    (ap₂ (λ (k : ℕ) (l : List ℕ). record { result = Written.Bytes k; out = l }) size (c.put_file.ensures.out ∙ at-start file a.out.now room)
+    (ap₂ (λ (k : ℕ) (l : List ℕ). record { result = Ok k; out = l }) size (c.put_file.ensures.out ∙ at-start file a.out.now room)
     ∙ calls.written a.part (check_power_on (part_of a.part) (one_group a.chips) a.ram.now) file a.out.now passes room) in
     record { out_after = n.0; result_value = n.1 }

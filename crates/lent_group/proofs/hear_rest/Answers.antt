@@ -7,7 +7,8 @@ use Prim.Native.Nat.{ℕ, ◌*◌, ◌<◌}
 use native.Mathlib.Omega.{arith}
 use lib.ListN.{length, length-take}
 use Rattle.sheet.specs.declared.Registers.{Registers}
-use Rattle.sheet.specs.declared.Answer.{Answer}
+use Rattle.std.specs.Prelude.{Ok}
+use Rattle.sheet.specs.Results.{Answer}
 use Rattle.sheet.specs.declared.Chips.{Chips}
 use Rattle.sheet.specs.Parts.{Part, part_of}
 use Rattle.sheet.specs.Registers.{in_range}
@@ -55,8 +56,8 @@ pub returns-else-is_fitting : goal.returns-else-is_fitting
 returns-else-is_fitting c = let a = c.args in
     let K = part_of a.bus.part in
     let after = columns_in a.bus.packed c.hear_in-heard.new.ram in
-    said-numbers K (record { answer = Answer.Taken c.hear_in-heard.result.counts c.hear_in-heard.result.last; set = c.put_registers.new.out; ram = after }) _ (c.say.ensures.value, c.say.ensures.answer_after)
-    (◌∙◌ {A = SetAfter} (λ i. record { answer = Answer.Taken c.hear_in-heard.result.counts c.hear_in-heard.result.last; set = c.put_registers.ensures i; ram = after })
+    said-numbers K (record { answer = Ok (record { counts = c.hear_in-heard.result.counts; last = c.hear_in-heard.result.last }); set = c.put_registers.new.out; ram = after }) _ (c.say.ensures.value, c.say.ensures.answer_after)
+    (◌∙◌ {A = SetAfter} (λ i. record { answer = Ok (record { counts = c.hear_in-heard.result.counts; last = c.hear_in-heard.result.last }); set = c.put_registers.ensures i; ram = after })
     (ap heard_set (c.hear_in-heard.ensures ∙ ap (λ (o : Registers). heard_in_ram K a.bus.chips a.group o (columns_in a.bus.packed a.ram.now) (sent a.bytes.now a.bits) a.from) c.registers_of-opened.ensures)))
 
 pub put_registers-requires : goal.put_registers-requires

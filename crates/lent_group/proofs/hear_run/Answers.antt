@@ -10,8 +10,8 @@ use lib.ListN.{length, take, drop, length-take, length-drop}
 use Rattle.lemmas.proofs.Lists.{part-rest}
 use Rattle.sheet.specs.declared.Registers.{Registers}
 use Rattle.sheet.specs.declared.Counts.{Counts}
-use Rattle.sheet.specs.declared.Acknowledger.{Acknowledger}
-use Rattle.sheet.specs.declared.Answer.{Answer}
+use Rattle.std.specs.Prelude.{Ok, Some}
+use Rattle.sheet.specs.Results.{Acknowledger, Answer}
 use Rattle.sheet.specs.Parts.{Part, part_of}
 use Rattle.sheet.specs.Registers.{in_range, backplanes, bank_row}
 use Rattle.sheet.specs.Places.{position, at_position}
@@ -103,8 +103,8 @@ returns c = let a = c.args in
     let after = after_is K _ own _ _ _ a.bytes.now a.from c.registers_of-registers.ensures c.position-v.ensures c.backplanes-m.ensures c.width.ensures in
     let moved = c.put_place.ensures ∙ ap (λ (v : ℕ). bytes_of (at_position K own v)) after in
     let last = c.chip_of.ensures ∙ ap (λ (v : ℕ). (v - 1) / K.columns) after in
-    said-numbers K (record { answer = Answer.Taken counts (Acknowledger.Subaddress c.chip_of.result); set = c.put_place.new.set; ram = _ }) _ (c.say.ensures.value, c.say.ensures.answer_after)
-    (◌∙◌ {A = SetAfter} (λ i. record { answer = Answer.Taken counts (Acknowledger.Subaddress (last i)); set = moved i; ram = back i })
+    said-numbers K (record { answer = Ok (record { counts = counts; last = (Some c.chip_of.result) }); set = c.put_place.new.set; ram = _ }) _ (c.say.ensures.value, c.say.ensures.answer_after)
+    (◌∙◌ {A = SetAfter} (λ i. record { answer = Ok (record { counts = counts; last = (Some (last i)) }); set = moved i; ram = back i })
     (ap heard_set (fitting_in_ram K a.bus.chips a.group own columns a.bytes.now a.from range kept.nibbles (rw (kept.columns, group-columns a.bus.part) few) c.requires.more c.requires.run (rw kept.columns c.requires.fit))))
 
 pub overflow_sub-n : goal.overflow_sub-n

@@ -5,8 +5,8 @@ use mathlib.Core.List.{List}
 use Prim.Native.Nat.{ℕ, ◌≤◌, ◌<◌}
 use lib.ListN.{length, take, drop}
 use lib.Seq.{length-take-le}
-use Rattle.sheet.specs.declared.Acknowledger.{Acknowledger}
-use Rattle.sheet.specs.declared.Answer.{Answer}
+use Rattle.std.specs.Prelude.{Err, None, Ok}
+use Rattle.sheet.specs.Results.{Acknowledger, Answer}
 use Rattle.sheet.specs.Parts.{part_of}
 use Rattle.sheet.specs.Protocol.{sent, whole_of}
 use Rattle.packed_sheet.specs.Packed.{columns_in}
@@ -57,8 +57,8 @@ returns-in-Refused c = let a = c.args in
     let opens = opens-whole K (registers_in a.set.now) t opening c.requires.some told in
     let ram = columns_in a.bus.packed a.ram.now in
     let x = c.in-Refused.refusal in
-    said-numbers K (record { answer = Answer.Refused x; set = c.take_back.new.set; ram = ram }) _ (c.say.ensures.value, c.say.ensures.answer_after)
-    (◌∙◌ {A = SetAfter} (λ i. record { answer = Answer.Refused x; set = (c.take_back.ensures ∙ c.keep-kept.ensures) i; ram = ram })
+    said-numbers K (record { answer = Err x; set = c.take_back.new.set; ram = ram }) _ (c.say.ensures.value, c.say.ensures.answer_after)
+    (◌∙◌ {A = SetAfter} (λ i. record { answer = Err x; set = (c.take_back.ensures ∙ c.keep-kept.ensures) i; ram = ram })
     (opening-refused K a.bus.chips a.group a.set.now ram t opening opens _ c.in-Refused.is))
 
 pub returns-then-from-whole : goal.returns-then-from-whole
@@ -79,9 +79,9 @@ returns-else-from-whole c = let a = c.args in
     let at = c.open-opening.result.at in
     let after = c.open-opening.new.set in
     let all : length (whole_of t) ≤ at = subst (λ (l : List ℕ). length l ≤ at) whole (rw (← size) c.if-from-whole.false) in
-    said-numbers K (record { answer = Answer.Taken (record { acknowledged = at; stored = 0; discarded = 0 }) Acknowledger.None; set = after; ram = ram }) _ (said_of K (c.say-else-from-whole.ensures.value, c.say-else-from-whole.ensures.answer_after) c.without_data.ensures)
+    said-numbers K (record { answer = Ok (record { counts = record { acknowledged = at; stored = 0; discarded = 0 }; last = None }); set = after; ram = ram }) _ (said_of K (c.say-else-from-whole.ensures.value, c.say-else-from-whole.ensures.answer_after) c.without_data.ensures)
     (◌∙◌ {A = SetAfter}
-    (λ i. record { answer = Answer.Taken (record { acknowledged = at; stored = 0; discarded = 0 }) Acknowledger.None; set = sym (registers-back after c.open-opening.ensures.1 (λ k. (c.type_inv.set k).fits)) i; ram = ram })
+    (λ i. record { answer = Ok (record { counts = record { acknowledged = at; stored = 0; discarded = 0 }; last = None }); set = sym (registers-back after c.open-opening.ensures.1 (λ k. (c.type_inv.set k).fits)) i; ram = ram })
     (ap heard_set (none-heard K a.bus.chips a.group a.set.now ram t opening opens all)
     ∙ rest-heard K a.bus.chips a.group a.set.now ram t opening opens c.in-Passed.is (none-looked K a.bus.chips a.group a.set.now ram t opening opens all)))
 

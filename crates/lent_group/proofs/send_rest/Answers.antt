@@ -8,8 +8,8 @@ use native.Mathlib.Omega.{arith}
 use lib.Dec.{ltb}
 use lib.ListN.{length, take, drop}
 use lib.Seq.{length-take-le}
-use Rattle.sheet.specs.declared.Answer.{Answer}
-use Rattle.sheet.specs.declared.Check.{Check}
+use Rattle.std.specs.Prelude.{Err, Ok}
+use Rattle.sheet.specs.Results.{Answer, Check}
 use Rattle.sheet.specs.declared.Expect.TheVariants.{Control}
 use Rattle.sheet.specs.Parts.{part_of}
 use Rattle.sheet.specs.Registers.{in_range}
@@ -54,21 +54,21 @@ pub returns-in-Refused : goal.returns-in-Refused
 returns-in-Refused c = let a = c.args in
     let K = part_of a.bus.part in
     let t = sent a.bytes.now a.bits in
-    let opening : Opening = record { fault = Check.Passed; registers = registers_in a.set.now; at = a.from } in
+    let opening : Opening = record { fault = (Ok tt); registers = registers_in a.set.now; at = a.from } in
     let opens = opens-whole K (registers_in (held_in a.kept)) t opening c.requires.asked.some c.requires.opening in
     let whole = ap (λ (k : ℕ). take k a.bytes.now) c.whole_count-whole.ensures ∙ whole-taken a.bytes.now a.bits in
     let looked = sym (c.fault_from.ensures ∙ (λ i. fault_in K (ltb a.bits 8) (c.registers_of-opened.ensures i).unknown Control a.from (drop a.from (whole i)))) in
     let ram = columns_in a.bus.packed a.ram.now in
     let x = c.in-Refused.refusal in
-    said-numbers K (record { answer = Answer.Refused x; set = c.take_back.new.set; ram = ram }) _ (c.say.ensures.value, c.say.ensures.answer_after)
-    (◌∙◌ {A = SetAfter} (λ i. record { answer = Answer.Refused x; set = c.take_back.ensures i; ram = ram })
+    said-numbers K (record { answer = Err x; set = c.take_back.new.set; ram = ram }) _ (c.say.ensures.value, c.say.ensures.answer_after)
+    (◌∙◌ {A = SetAfter} (λ i. record { answer = Err x; set = c.take_back.ensures i; ram = ram })
     (rest-refused K a.bus.chips a.group (held_in a.kept) ram t opening opens _ refl (looked ∙ c.in-Refused.is)))
 
 pub returns-in-Passed : goal.returns-in-Passed
 returns-in-Passed c = let a = c.args in
     let K = part_of a.bus.part in
     let t = sent a.bytes.now a.bits in
-    let opening : Opening = record { fault = Check.Passed; registers = registers_in a.set.now; at = a.from } in
+    let opening : Opening = record { fault = (Ok tt); registers = registers_in a.set.now; at = a.from } in
     let opens = opens-whole K (registers_in (held_in a.kept)) t opening c.requires.asked.some c.requires.opening in
     let whole = ap (λ (k : ℕ). take k a.bytes.now) c.whole_count-whole.ensures ∙ whole-taken a.bytes.now a.bits in
     let looked = sym (c.fault_from.ensures ∙ (λ i. fault_in K (ltb a.bits 8) (c.registers_of-opened.ensures i).unknown Control a.from (drop a.from (whole i)))) in

@@ -9,11 +9,10 @@ use lib.ListN.{length, take, drop}
 use Rattle.sheet.specs.declared.Registers.{Registers}
 use Rattle.sheet.specs.declared.Both.{Both}
 use Rattle.sheet.specs.declared.Chips.{Chips}
-use Rattle.sheet.specs.declared.Check.{Check}
+use Rattle.std.specs.Prelude.{Ok}
+use Rattle.sheet.specs.Results.{Check, Pictured}
 use Rattle.refused.specs.Fitting.{fitting, picture_by}
 use mathlib.Core.Bool.{Bool}
-use Rattle.sheet.specs.declared.Pictured.{Pictured}
-use Rattle.sheet.specs.declared.Check.TheVariants.{Passed}
 use Rattle.sheet.specs.Parts.{part_of}
 use Rattle.sheet.specs.Registers.{registers_of}
 use Rattle.sheet.specs.Protocol.{chips_in}
@@ -36,12 +35,12 @@ asked part n r fit columns g phase size check e told = told ∙ ap (or_else (che
 
 -- where they have passed, the state is in range, the buffer as long as the group's columns, and the group 0 or 1
 record Passes (part : ℕ) (n : Chips) (r : Both) (columns : List ℕ) (g phase size : ℕ) : Type 0 where
-  all : or_else (check_part part) (check_picture (part_of part) n r columns g phase size) ≡ Passed
-  state : check_state (part_of part) n r columns ≡ Passed
+  all : or_else (check_part part) (check_picture (part_of part) n r columns g phase size) ≡ Ok tt
+  state : check_state (part_of part) n r columns ≡ Ok tt
   long : size ≡ (part_of part).columns * chips_in g n
   small : g < 2
 
-passes : (part : ℕ) (n : Chips) (r : Both) (columns : List ℕ) (g phase size : ℕ) (check : Check) → check ≡ or_else (check_part part) (check_picture (part_of part) n r columns g phase size) → check ≡ Passed
+passes : (part : ℕ) (n : Chips) (r : Both) (columns : List ℕ) (g phase size : ℕ) (check : Check) → check ≡ or_else (check_part part) (check_picture (part_of part) n r columns g phase size) → check ≡ Ok tt
     → Passes part n r columns g phase size
 passes part n r columns g phase size check e passed = let all = sym e ∙ passed in
     let own = (both_pass (check_part part) _ all).1 in
@@ -84,7 +83,7 @@ returns-in-Passed c = let put = c.show.ensures in
     let part = cut a.bus.part a.bus.chips (both_of a.registers.now) a.group a.bus.packed a.ram.now _ _ passed.state c.start_in-start.ensures c.end_in-end.ensures in
     let same = ap₂ (λ (r : Registers) (shown : List ℕ). picture_of r a.phase shown) own part.part in
     let lit = put.value ∙ ap lit_in same in
-    (λ j. record { result = Pictured.Lit (lit j); out = (put.out_after ∙ same) j })
+    (λ j. record { result = Ok (lit j); out = (put.out_after ∙ same) j })
     ∙ sym (shown-by-check a.bus.part a.bus.chips (both_of a.registers.now) columns a.group a.phase a.out.now _ passed.all)
 
 pub slice_bounds-show-count : goal.slice_bounds-show-count

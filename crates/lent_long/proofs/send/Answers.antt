@@ -1,15 +1,12 @@
 -- `lent_long::send` meets its contract: refused by its length or its bits, heard by a group, or by nobody.
 -- Assumes nothing.
 use mathlib.Core.Path.{◌≡◌, sym, ap, ap₂, ◌∙◌}
-use Rattle.sheet.specs.declared.Acknowledger.{Acknowledger}
-use Rattle.sheet.specs.declared.Answer.{Answer}
-use Rattle.sheet.specs.declared.Addressed.{Addressed}
-use Rattle.sheet.specs.declared.Addressed.TheVariants.{Nobody}
+use Rattle.std.specs.Prelude.{None, Ok}
+use Rattle.sheet.specs.Results.{Acknowledger, Answer, Addressed, Check}
 use Rattle.sheet.specs.declared.Chips.{Chips}
 use mathlib.Core.List.{List}
 use Prim.Native.Nat.{ℕ}
 use lib.ListN.{length}
-use Rattle.sheet.specs.declared.Check.{Check}
 use Rattle.sheet.specs.Parts.{Part, part_of}
 use Rattle.sheet.specs.Protocol.{heard_by, Sent, sent, address_byte}
 use Rattle.sheet.specs.Checks.{or_else, check_sent, check_length, check_bits, check_bytes}
@@ -25,12 +22,12 @@ use Rattle.lent_long.proofs.Sending.{nothing_written, hearer_small, said-numbers
 use Rattle.lent_long.proofs.send.Goals as goal
 
 -- past the match 1, 2 and 19 have passed
-passes : (bytes : List ℕ) (bits : ℕ) (k : Check) → k ≡ or_else (check_length (length bytes)) (check_bits bits) → k ≡ Check.Passed → check_sent (sent bytes bits) ≡ Check.Passed
+passes : (bytes : List ℕ) (bits : ℕ) (k : Check) → k ≡ or_else (check_length (length bytes)) (check_bits bits) → k ≡ Ok tt → check_sent (sent bytes bits) ≡ Ok tt
 unfolding check_sent
 passes bytes bits k e passed = sym e ∙ passed
 
 -- what is answered then, by who hears
-by-hearer : (K : Part) (n : Chips) (l ram : List ℕ) (t : Sent) (heard to : Addressed) → check_sent t ≡ Check.Passed → heard ≡ heard_by n (address_byte t) → heard ≡ to
+by-hearer : (K : Part) (n : Chips) (l ram : List ℕ) (t : Sent) (heard to : Addressed) → check_sent t ≡ Ok tt → heard ≡ heard_by n (address_byte t) → heard ≡ to
     → lent_after (answered (check_bytes K (both_of l) to t) (both_of l) ram (taken K n (both_of l) ram t to)) ≡ sent_c K n l ram t
 by-hearer K n l ram t heard to passed e told =
     ap₂ (λ (k : Check) (to : Addressed). lent_after (answered (or_else k (check_bytes K (both_of l) to t)) (both_of l) ram (taken K n (both_of l) ram t to))) (sym passed) (sym told ∙ e)
@@ -62,6 +59,6 @@ returns-in-Nobody c = let a = c.args in
     let K = part_of a.bus.part in
     let l = a.registers.now in
     let ram = columns_in a.bus.packed a.ram.now in
-    let same : ◌≡◌ {A = LentAfter} (record { answer = Answer.Taken no_counts Acknowledger.None; registers = l; ram = ram }) (lent_after (taken K a.bus.chips (both_of l) ram (sent a.bytes.now a.bits) Nobody)) =
-    λ j. record { answer = Answer.Taken no_counts Acknowledger.None; registers = sym (both-back l c.requires.0.size (λ i. (c.type_inv.registers i).fits)) j; ram = ram } in
+    let same : ◌≡◌ {A = LentAfter} (record { answer = Ok (record { counts = no_counts; last = None }); registers = l; ram = ram }) (lent_after (taken K a.bus.chips (both_of l) ram (sent a.bytes.now a.bits) None)) =
+    λ j. record { answer = Ok (record { counts = no_counts; last = None }); registers = sym (both-back l c.requires.0.size (λ i. (c.type_inv.registers i).fits)) j; ram = ram } in
     said-numbers K _ _ (said_of K (c.say-in-Nobody.ensures.value, c.say-in-Nobody.ensures.answer_after) c.without_data.ensures) (same ∙ by-hearer (part_of a.bus.part) a.bus.chips a.registers.now (columns_in a.bus.packed a.ram.now) (sent a.bytes.now a.bits) _ _ (passes a.bytes.now a.bits _ c.check_sent.ensures c.in-Passed.is) (c.heard_by.ensures ∙ ap (heard_by a.bus.chips) c.address_byte.ensures) c.in-Nobody.is)

@@ -4,7 +4,8 @@ use mathlib.Core.Path.{ap}
 use native.Mathlib.Omega.{arith}
 use native.Mathlib.Nat.{div-le_self}
 use borrow.Author.Tests.{lt-ltb, le-ltb}
-use Rattle.sheet.specs.declared.Acknowledger.{Acknowledger}
+use Rattle.std.specs.Prelude.{Some}
+use Rattle.sheet.specs.Results.{Acknowledger}
 use Rattle.sheet.specs.Data.{acknowledger}
 use Rattle.listener.proofs.acknowledger.Goals as goal
 
@@ -13,7 +14,7 @@ overflow_add-column c = omega (arith, c.requires.1, div-le_self 7 c.args.m)
 
 pub returns-then-column-size : goal.returns-then-column-size
 unfolding acknowledger
-returns-then-column-size c = rw (lt-ltb _ _ c.if-column-size.true) (ap Acknowledger.Subaddress c.chip_of.ensures)
+returns-then-column-size c = rw (lt-ltb _ _ c.if-column-size.true) (ap Some c.chip_of.ensures)
 
 pub returns-else-column-size : goal.returns-else-column-size
 unfolding acknowledger

@@ -4,7 +4,7 @@ use mathlib.Core.Path.{◌≡◌, sym, ap, ◌∙◌}
 use Prim.Native.Nat.{ℕ, zero, suc, ◌+◌, ◌-◌, ◌*◌, ◌≤◌, ◌<◌}
 use native.Mathlib.Omega.{arith}
 use native.Mathlib.Nat.{not-suc-le-zero, div-le_self, mul-le-mul_right}
-use Rattle.sheet.specs.declared.Acknowledger.{Acknowledger}
+use Rattle.sheet.specs.Results.{Acknowledger}
 use Rattle.sheet.specs.Parts.{Part, part_of}
 use Rattle.sheet.specs.Data.{width_of, acknowledger}
 use Rattle.sheet.specs.Runs.{last_run}

@@ -3,7 +3,8 @@
 use mathlib.Core.Path.{sym, ap, subst, ◌∙◌}
 use native.Mathlib.Omega.{arith}
 use Rattle.sheet.specs.declared.Registers.{Registers}
-use Rattle.sheet.specs.declared.Answer.{Answer}
+use Rattle.std.specs.Prelude.{Ok}
+use Rattle.sheet.specs.Results.{Answer}
 use Rattle.sheet.specs.Parts.{part_of}
 use Rattle.sheet.specs.Protocol.{sent, cut_data}
 use Rattle.sheet.specs.Long.{replaced}
@@ -31,4 +32,4 @@ unfolding cut_data
 returns c = let a = c.args in
     let told = c.hear_in-heard.ensures ∙ ap (λ (r : Registers). heard_in_ram (part_of a.part) a.chips a.group r (columns_in a.packed a.ram.now) (sent a.bytes.now a.bits) 1) c.registers_of-before.ensures in
     let after = c.replaced.ensures ∙ ap (λ (r : Registers). replaced a.group r a.registers) (λ j. (told j).registers) in
-    λ j. record { result = record { answer = Answer.Taken (told j).counts (told j).last; registers = after j }; ram = (told j).ram }
+    λ j. record { result = record { answer = Ok (record { counts = (told j).counts; last = (told j).last }); registers = after j }; ram = (told j).ram }

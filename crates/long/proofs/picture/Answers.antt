@@ -5,12 +5,12 @@ use mathlib.Core.List.{List}
 use Prim.Native.Nat.{ℕ}
 use lib.ListN.{length}
 use Rattle.sheet.specs.declared.Registers.{Registers}
-use Rattle.sheet.specs.declared.Check.{Check}
+use Rattle.std.specs.Prelude.{Ok}
+use Rattle.sheet.specs.Results.{Check, Pictured}
 use Rattle.sheet.specs.declared.Both.{Both}
 use Rattle.sheet.specs.declared.Chips.{Chips}
 use Rattle.refused.specs.Fitting.{fitting, picture_by}
 use mathlib.Core.Bool.{Bool}
-use Rattle.sheet.specs.declared.Pictured.{Pictured}
 use Rattle.sheet.specs.Parts.{part_of}
 use Rattle.sheet.specs.Checks.{or_else, check_part, check_picture}
 use Rattle.sheet.specs.Pictures.{picture_of, lit_in}
@@ -46,6 +46,6 @@ returns-in-Passed c =
     let same = ap (λ (r : Registers). picture_of r a.phase (columns_of (part_of a.part) a.chips a.group columns)) c.registers_of-shown.ensures in
     let lit = c.show_in.ensures.value ∙ ap lit_in same in
     let p = numbered-picture
-    ((λ j. record { result = Pictured.Lit (lit j); out = (c.show_in.ensures.out_after ∙ same) j })
+    ((λ j. record { result = Ok (lit j); out = (c.show_in.ensures.out_after ∙ same) j })
     ∙ sym (shown-by-check a.part a.chips a.registers columns a.group a.phase a.out.now _ (sym (asked a.part a.chips a.registers _ columns a.group a.phase _ _ c.registers_fit-fit.ensures c.check_picture.ensures) ∙ c.in-Passed.is))) in
     record { out_after = p.0; result_value = p.1 }

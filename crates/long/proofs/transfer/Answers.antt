@@ -1,12 +1,11 @@
 -- `long::transfer` meets its contract: refused, delivered to a group, or heard by nobody.
 -- Assumes nothing.
 use mathlib.Core.Path.{◌≡◌, sym, ap, ◌∙◌}
-use Rattle.sheet.specs.declared.Addressed.{Addressed}
+use Rattle.std.specs.Prelude.{Ok}
+use Rattle.sheet.specs.Results.{Addressed, Check}
 use Rattle.sheet.specs.Parts.{part_of}
 use Rattle.sheet.specs.Protocol.{heard_by, sent, address_byte, Sent}
 use Rattle.sheet.specs.Checks.{check_part, or_else, check_transfer}
-use Rattle.sheet.specs.declared.Check.{Check}
-use Rattle.sheet.specs.declared.Check.TheVariants.{Passed}
 use Rattle.sheet.specs.declared.Both.{Both}
 use Rattle.sheet.specs.declared.Chips.{Chips}
 use mathlib.Core.List.{List}
@@ -21,7 +20,7 @@ use Rattle.long.proofs.transfer.Goals as goal
 
 -- what is taken once the checks have passed, by who hears
 takes : (part : ℕ) (n : Chips) (r : Both) (ram : List ℕ) (t : Sent) (check : Check) (heard to : Addressed) (address : ℕ)
-    → check ≡ or_else (check_part part) (check_transfer (part_of part) n r ram t) → check ≡ Passed → address ≡ address_byte t → heard ≡ heard_by n address → heard ≡ to
+    → check ≡ or_else (check_part part) (check_transfer (part_of part) n r ram t) → check ≡ Ok tt → address ≡ address_byte t → heard ≡ heard_by n address → heard ≡ to
     → transfer_part part n r ram t ≡ taken (part_of part) n r ram t to
 takes part n r ram t check heard to address asked passed at hears told = by-check part n r ram t _ (sym asked ∙ passed) ∙ ap (λ (k : Addressed). taken (part_of part) n r ram t k) (sym (hears ∙ ap (heard_by n) at) ∙ told)
 

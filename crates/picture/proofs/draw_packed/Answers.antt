@@ -6,7 +6,7 @@ use Prim.Native.Nat.{ℕ, ◌+◌, ◌-◌, ◌*◌, ◌≤◌}
 use native.Mathlib.Omega.{arith}
 use lib.ListN.{length, take, drop, length-take, length-drop}
 use Rattle.lemmas.proofs.Mapped.{Mapped}
-use Rattle.sheet.specs.declared.Shown.TheVariants.{Rows}
+use Rattle.std.specs.Prelude.{Some}
 use Rattle.sheet.specs.Pictures.{lit}
 use Rattle.packed_sheet.specs.Packed.{unpacked}
 use Rattle.laws.proofs.Packed.{length-unpacked, unpacked-part}
@@ -15,9 +15,9 @@ use Rattle.picture.proofs.Drawing.{written-turn, written-part, rows-low, begun, 
 use Rattle.picture.proofs.draw_packed.Goals as goal
 
 -- a turn's columns are written
-written : (first height start : ℕ) (ram : List ℕ) {out some : List ℕ} → Mapped (lit height (Rows first)) (unpacked ram) out (2 * start) → start + 40 ≤ length ram
+written : (first height start : ℕ) (ram : List ℕ) {out some : List ℕ} → Mapped (lit height (Some first)) (unpacked ram) out (2 * start) → start + 40 ≤ length ram
     → some ≡ rows_of first height (unpacked (take (start + 40 - start) (drop start ram)))
-    → Mapped (lit height (Rows first)) (unpacked ram) (take (2 * start) out ++ (some ++ drop (2 * (start + 40) - 2 * start) (drop (2 * start) out))) (2 * (start + 40))
+    → Mapped (lit height (Some first)) (unpacked ram) (take (2 * start) out ++ (some ++ drop (2 * (start + 40) - 2 * start) (drop (2 * start) out))) (2 * (start + 40))
 written first height start ram d h e =
     written-turn (2 * start) (2 * (start + 40)) d (omega arith) (omega (arith, length-unpacked ram))
     (e ∙ ap (λ (r : List ℕ). rows_of first height r) (unpacked-part start (start + 40) ram))

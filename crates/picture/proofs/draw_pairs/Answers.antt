@@ -6,7 +6,7 @@ use Prim.Native.Nat.{ℕ, ◌+◌, ◌*◌, ◌<◌}
 use native.Mathlib.Omega.{arith}
 use lib.ListN.{length, length-set}
 use Rattle.lemmas.proofs.Mapped.{mapped-all}
-use Rattle.sheet.specs.declared.Shown.TheVariants.{Rows}
+use Rattle.std.specs.Prelude.{Some}
 use Rattle.sheet.specs.Pictures.{lit}
 use Rattle.packed_sheet.specs.Packed.{unpacked}
 use Rattle.laws.proofs.Packed.{length-unpacked, even-column, odd-column}
@@ -20,7 +20,7 @@ there i ram h = omega (arith, length-unpacked ram)
 pub loop-i-preserved : goal.loop-i-preserved
 loop-i-preserved c = let a = c.args in
     let i = c.loop-i.i in
-    let rows : ℕ → ℕ = λ q. lit a.height (Rows a.first) q in
+    let rows : ℕ → ℕ = λ q. lit a.height (Some a.first) q in
     pair_turn i c.loop-i.invariant (there c.loop-i.i c.args.ram.now c.loop-i-test.true) (c.lit_rows.ensures ∙ ap rows (sym (even-column i a.ram.now))) (c.lit_rows-in-loop-i.ensures ∙ ap rows (sym (odd-column i a.ram.now)))
 
 pub loop-i-init : goal.loop-i-init

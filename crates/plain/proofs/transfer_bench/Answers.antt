@@ -3,7 +3,8 @@
 use mathlib.Core.Path.{ap}
 use borrow.Author.Tests.{le-leb, lt-leb}
 use Rattle.sheet.specs.declared.Refusal.{Refusal}
-use Rattle.sheet.specs.declared.PlainAnswer.{PlainAnswer}
+use Rattle.std.specs.Prelude.{Err}
+use Rattle.sheet.specs.Results.{PlainAnswer}
 use Rattle.sheet.specs.Refusals.{plain_numbers}
 use Rattle.sheet.specs.Parts.{part_of}
 use Rattle.plain.specs.declared.BenchTransferred.{BenchTransferred}
@@ -17,4 +18,4 @@ pub returns-else-bench-le16 : goal.returns-else-bench-le16
 returns-else-bench-le16 c = let a = c.args in
     let e = c.too_many.ensures in
     rw (lt-leb a.bench.count 16 c.if-bench-le16.false)
-    (record { value = λ j. record { answer = PlainAnswer.Refused (e j); bench = a.bench }; answer_value = ap (λ (r : Refusal). plain_numbers (part_of a.part) (PlainAnswer.Refused r)) e })
+    (record { value = λ j. record { answer = Err (e j); bench = a.bench }; answer_value = ap (λ (r : Refusal). plain_numbers (part_of a.part) (Err r)) e })

@@ -6,8 +6,8 @@ use Prim.Native.Nat.{ℕ}
 use native.Mathlib.Omega.{arith}
 use lib.ListN.{length}
 use lib.Seq.{length-take-le}
-use Rattle.sheet.specs.declared.Check.{Check}
-use Rattle.sheet.specs.declared.Check.TheVariants.{Passed}
+use Rattle.std.specs.Prelude.{Ok}
+use Rattle.sheet.specs.Results.{Check}
 use Rattle.price_sheet.specs.Price.{read_from, check_price, Sizes, price_read}
 use Rattle.laws.proofs.Written.{numbered}
 use Rattle.price.specs.Fronts.{settled}
@@ -15,7 +15,7 @@ use Rattle.price.proofs.Calls.{refused, fits, taken}
 use Rattle.price.proofs.read.Goals as goal
 
 -- what has passed the sizes
-passed : (segments : List ℕ) (mode : ℕ) (out : List ℕ) (k : Check) → k ≡ check_price (length segments) mode 160 (length out) → k ≡ Passed → Sizes (length segments) mode 160 (length out)
+passed : (segments : List ℕ) (mode : ℕ) (out : List ℕ) (k : Check) → k ≡ check_price (length segments) mode 160 (length out) → k ≡ Ok tt → Sizes (length segments) mode 160 (length out)
 passed segments mode out k told e = fits (length segments) mode 160 out k told e
 
 pub text_before-before-requires : goal.text_before-before-requires

@@ -4,7 +4,8 @@ use mathlib.Core.Path.{refl, ap}
 use mathlib.Core.List.{List, ◌++◌}
 use Prim.Native.Nat.{ℕ}
 use lib.ListN.{length, drop}
-use Rattle.sheet.specs.declared.Written.{Written}
+use Rattle.std.specs.Prelude.{Err}
+use Rattle.sheet.specs.Results.{Written}
 use Rattle.price.specs.Fronts.{settled}
 use Rattle.price.proofs.settled.Goals as goal
 
@@ -14,4 +15,4 @@ returns-in-Bytes c = rw c.in-Bytes.is refl
 
 pub returns-in-Refused : goal.returns-in-Refused
 unfolding settled
-returns-in-Refused c = rw c.in-Refused.is (ap (λ (l : List ℕ). record { result = Written.Refused c.in-Refused.refusal; out = l ++ drop (length c.args.before.now) c.args.out.now }) c.copy.ensures)
+returns-in-Refused c = rw c.in-Refused.is (ap (λ (l : List ℕ). record { result = Err c.in-Refused.refusal; out = l ++ drop (length c.args.before.now) c.args.out.now }) c.copy.ensures)

@@ -6,8 +6,8 @@ use Prim.Native.Nat.{ℕ}
 use native.Mathlib.Omega.{arith}
 use lib.ListN.{length}
 use lib.Seq.{length-take-le}
-use Rattle.sheet.specs.declared.Check.{Check}
-use Rattle.sheet.specs.declared.Check.TheVariants.{Passed}
+use Rattle.std.specs.Prelude.{Ok}
+use Rattle.sheet.specs.Results.{Check}
 use Rattle.price_sheet.specs.Price.{spelled, check_price, Sizes, price_write}
 use Rattle.laws.proofs.Written.{numbered}
 use Rattle.price.specs.Fronts.{settled}
@@ -15,7 +15,7 @@ use Rattle.price.proofs.Calls.{refused, fits, taken}
 use Rattle.price.proofs.write.Goals as goal
 
 -- what has passed the sizes
-passed : (text : List ℕ) (mode : ℕ) (out : List ℕ) (k : Check) → k ≡ check_price (length text) mode 80 (length out) → k ≡ Passed → Sizes (length text) mode 80 (length out)
+passed : (text : List ℕ) (mode : ℕ) (out : List ℕ) (k : Check) → k ≡ check_price (length text) mode 80 (length out) → k ≡ Ok tt → Sizes (length text) mode 80 (length out)
 passed text mode out k told e = fits (length text) mode 80 out k told e
 
 pub bytes_before-before-requires : goal.bytes_before-before-requires

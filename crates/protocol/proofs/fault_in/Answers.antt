@@ -8,7 +8,8 @@ use Rattle.sheet.specs.declared.Marks.{Marks}
 use Rattle.sheet.specs.declared.Expect.{Expect}
 use mathlib.Core.List.{List}
 use mathlib.Core.Bool.{Bool}
-use Rattle.sheet.specs.declared.Check.{Check}
+use Rattle.std.specs.Prelude.{Ok}
+use Rattle.sheet.specs.Results.{Check}
 use Rattle.sheet.specs.Parts.{Part, part_of}
 use Rattle.sheet.specs.Protocol.{next}
 use Rattle.sheet.specs.Checks.{fault, marks_after, fault_in}
@@ -25,7 +26,7 @@ returns-in-Refused c = let a = c.args in
 
 -- from a byte that passes to the next
 goes_on : (part : Part) (cut : Bool) (marks : Marks) (expect : Expect) (bytes : List ℕ) (i : ℕ) {after : Marks} {then : Expect} {whole : Check}
-    → fault_in part cut marks expect i (drop i bytes) ≡ whole → i < length bytes → fault part marks expect i (get_or bytes i 0) ≡ Check.Passed
+    → fault_in part cut marks expect i (drop i bytes) ≡ whole → i < length bytes → fault part marks expect i (get_or bytes i 0) ≡ Ok tt
     → after ≡ marks_after part marks expect (get_or bytes i 0) → then ≡ next expect (get_or bytes i 0)
     → fault_in part cut after then (i + 1) (drop (i + 1) bytes) ≡ whole
 goes_on part cut marks expect bytes i told h passes m e =

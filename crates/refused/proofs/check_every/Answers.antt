@@ -4,7 +4,7 @@ use Prim.Native.Nat.{ℕ, ◌*◌}
 use mathlib.Core.List.{List}
 use Rattle.sheet.specs.declared.Chips.{Chips}
 use lib.Dec.{ltb}
-use Rattle.sheet.specs.declared.Check.{Check}
+use Rattle.sheet.specs.Results.{Check}
 use Rattle.sheet.specs.declared.Refusal.TheVariants.{GroupOrPhase}
 use Rattle.sheet.specs.Parts.{part_of}
 use Rattle.sheet.specs.Protocol.{chips_in}

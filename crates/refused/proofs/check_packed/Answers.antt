@@ -4,7 +4,7 @@ use mathlib.Core.Path.{sym, ap₂, ◌∙◌}
 use mathlib.Core.Bool.{Bool}
 use Prim.Native.Nat.{◌/◌}
 use Rattle.sheet.specs.declared.Refusal.TheVariants.{RamLength}
-use Rattle.sheet.specs.declared.Check.{Check}
+use Rattle.sheet.specs.Results.{Check}
 use Rattle.sheet.specs.Checks.{unless, or_else}
 use Rattle.laws.proofs.First.{or-passed}
 use Rattle.laws.proofs.Packed.{half_length, never-over}

@@ -7,7 +7,7 @@ use Rattle.sheet.specs.declared.Chips.{Chips}
 use Prim.Native.Nat.{ℕ, ◌*◌}
 use lib.Dec.{eqb, ltb}
 use Rattle.sheet.specs.declared.Refusal.TheVariants.{GroupOrPhase, OutputLength}
-use Rattle.sheet.specs.declared.Check.{Check}
+use Rattle.sheet.specs.Results.{Check}
 use Rattle.sheet.specs.Parts.{part_of}
 use Rattle.sheet.specs.Protocol.{chips_in}
 use Rattle.sheet.specs.Checks.{unless, or_else, check_part}

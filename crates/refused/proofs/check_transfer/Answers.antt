@@ -1,7 +1,8 @@
 -- `refused::check_transfer` meets its contract.
 -- Assumes nothing.
 use mathlib.Core.Path.{◌≡◌, refl, sym, ap, ◌∙◌}
-use Rattle.sheet.specs.declared.Check.{Check}
+use Rattle.std.specs.Prelude.{Ok}
+use Rattle.sheet.specs.Results.{Check}
 use Rattle.sheet.specs.Parts.{part_of}
 use Rattle.sheet.specs.declared.Both.{Both}
 use Rattle.sheet.specs.declared.Chips.{Chips}
@@ -37,7 +38,7 @@ returns-in-Refused c = let a = c.args in
 
 -- past the match the state has passed
 passes : (part : ℕ) (chips : Chips) (registers : Both) (columns : List ℕ) (t : Sent) {fit : Bool} {told k : Check}
-    → told ≡ or_else (check_part part) (state_by (part_of part) chips fit columns) → fit ≡ fitting (part_of part) registers → told ≡ Check.Passed
+    → told ≡ or_else (check_part part) (state_by (part_of part) chips fit columns) → fit ≡ fitting (part_of part) registers → told ≡ Ok tt
     → k ≡ rest part chips registers t → k ≡ or_else (check_part part) (or_else (state part chips registers columns) (rest part chips registers t))
 passes part chips registers columns t {k = k} s f p e =
     then-passed (check_part part) (state part chips registers columns) (rest part chips registers t) k (sym (asked part chips registers columns s f) ∙ p) e

@@ -4,7 +4,8 @@ use mathlib.Core.Path.{◌≡◌, refl}
 use mathlib.Core.Bool.{Bool, ◌&&◌}
 use Prim.Native.Nat.{ℕ, ◌*◌}
 use lib.Dec.{ltb}
-use Rattle.sheet.specs.declared.Check.{Check}
+use Rattle.std.specs.Prelude.{Ok}
+use Rattle.sheet.specs.Results.{Check}
 use Rattle.sheet.specs.declared.Refusal.TheVariants.{Register, GroupOrPhase}
 use Rattle.sheet.specs.Parts.{part_of}
 use Rattle.sheet.specs.Protocol.{chips_in}
@@ -29,7 +30,7 @@ returns-in-Refused c = rest-refused c.args.part c.args.chips c.args.registers c.
 
 -- past the match the part, the counts and the registers have passed
 passes : (part : ℕ) (chips : Chips) (registers : Both) (group mode bank : ℕ) (wanted : List ℕ) {fit : Bool} {told k : Check}
-    → fit ≡ fitting (part_of part) registers → told ≡ or_else (check_part part) (or_else (check_chips (part_of part) chips) (unless fit Register)) → told ≡ Check.Passed
+    → fit ≡ fitting (part_of part) registers → told ≡ or_else (check_part part) (or_else (check_chips (part_of part) chips) (unless fit Register)) → told ≡ Ok tt
     → k ≡ rest part chips group mode bank wanted → k ≡ or_else (check_part part) (check_wanted (part_of part) chips registers group mode bank wanted)
 unfolding check_wanted
 passes part chips registers group mode bank wanted {k = k} f t p e = rest-passed part chips registers f t (rest part chips group mode bank wanted) k p e

@@ -1,14 +1,14 @@
 -- `rescue::rescue_log` is safe: what is kept lies inside the output.
 -- Assumes nothing.
-use Rattle.std.proofs.Common.{◌≡◌, ℕ, ◌≤◌, List, length, arith, sym, ap, ◌∙◌}
+use Rattle.std.proofs.Common.{◌≡◌, ℕ, ◌≤◌, List, length, arith, sym, ap, ◌∙◌, Ok}
 use lib.Seq.{length-take-le}
-use Rattle.sheet.specs.declared.Rescued.{Rescued}
+use Rattle.sheet.specs.Results.{Rescued}
 use Rattle.log_sheet.specs.Rescue.{RescuedAfter, rescue_call}
 use Rattle.laws.proofs.Rescued.{kept-inside}
 use Rattle.rescue.proofs.rescue_log.Goals as goal
 
 inside : (log before after : List ℕ) (result : Rescued) (records bytes dropped tear : ℕ) → ◌≡◌ {A = RescuedAfter} (record { result = result; out = after }) (rescue_call log before)
-    → result ≡ Rescued.Kept records bytes dropped tear → length after ≡ length before → bytes ≤ length after
+    → result ≡ Ok (record { records = records; bytes = bytes; dropped = dropped; tear = tear }) → length after ≡ length before → bytes ≤ length after
 inside log before after result records bytes dropped tear e is same =
     omega (arith, kept-inside log before records bytes dropped tear (sym (ap (λ (a : RescuedAfter). a.result) e) ∙ is), same)
 

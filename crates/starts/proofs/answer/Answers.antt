@@ -1,7 +1,7 @@
 -- answer: by the case of the check.
 -- Assumes nothing.
 use mathlib.Core.Path.{sym, ap}
-use Rattle.sheet.specs.declared.Check.{Check}
+use Rattle.sheet.specs.Results.{Check}
 use Rattle.starts.specs.Starts.{answer_of}
 use Rattle.starts.proofs.answer.Goals as goal
 

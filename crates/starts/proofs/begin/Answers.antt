@@ -5,7 +5,7 @@ use mathlib.Core.Bool.{Bool, cond, ◌&&◌}
 use Prim.Native.Nat.{ℕ}
 use lib.Dec.{ltb}
 use lib.ListN.{length}
-use Rattle.sheet.specs.declared.Check.{Check}
+use Rattle.sheet.specs.Results.{Check}
 use Rattle.sheet.specs.Checks.{passed}
 use Rattle.sheet.specs.Protocol.{Sent, sent}
 use Rattle.turns.specs.declared.Turn.{Turn}

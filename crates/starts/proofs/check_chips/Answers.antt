@@ -4,7 +4,7 @@ use mathlib.Core.Path.{refl, sym, ap, ◌∙◌}
 use lib.Dec.{ltb}
 use mathlib.Core.Bool.{cond}
 use borrow.Author.Tests.{le-leb, lt-leb}
-use Rattle.sheet.specs.declared.Check.TheVariants.{Passed}
+use Rattle.std.specs.Prelude.{Ok}
 use Rattle.sheet.specs.declared.Marks.{Marks}
 use Rattle.sheet.specs.Parts.{part_of}
 use Rattle.sheet.specs.Protocol.{sent}
@@ -21,7 +21,7 @@ unfolding check_sent
 returns-in-Passed c =
     let a = c.args in
     rw (le-leb _ _ c.if-found.true, sym c.check_sent.ensures ∙ c.in-Passed.is)
-    (c.check_bytes.ensures ∙ ap (λ (m : Marks). cond (ltb a.found.hearer a.found.count) (fault_of_sent (part_of a.part) m (sent a.bytes.now a.bits)) Passed) c.marks_found-marks.ensures)
+    (c.check_bytes.ensures ∙ ap (λ (m : Marks). cond (ltb a.found.hearer a.found.count) (fault_of_sent (part_of a.part) m (sent a.bytes.now a.bits)) (Ok tt)) c.marks_found-marks.ensures)
 
 pub returns-else-found : goal.returns-else-found
 returns-else-found c = rw (lt-leb _ _ c.if-found.false) refl

@@ -11,8 +11,8 @@ use borrow.Author.Tests.{eq-eqb}
 use Rattle.sheet.specs.declared.Registers.{Registers}
 use Rattle.sheet.specs.declared.Both.{Both}
 use Rattle.sheet.specs.declared.Chips.{Chips}
-use Rattle.sheet.specs.declared.Written.{Written}
-use Rattle.sheet.specs.declared.Check.TheVariants.{Passed}
+use Rattle.std.specs.Prelude.{Ok}
+use Rattle.sheet.specs.Results.{Written}
 use Rattle.sheet.specs.Parts.{Part, part_of}
 use Rattle.sheet.specs.Protocol.{address_of, chips_in}
 use Rattle.sheet.specs.Checks.{or_else, check_part}
@@ -30,7 +30,7 @@ is_none : (K : Part) (n : Chips) (r : Both) (g : ℕ) (wanted : List ℕ) → ch
 unfolding three_transfer
 is_none K n r g wanted none = rw (eq-eqb (chips_in g n) 0 none)
 
-asks : (part : ℕ) (n : Chips) (r : Both) (g : ℕ) (wanted : List ℕ) → or_else (check_part part) (check_wanted (part_of part) n r g 3 0 wanted) ≡ Passed → Asked (part_of part) n r g 3 0 wanted
+asks : (part : ℕ) (n : Chips) (r : Both) (g : ℕ) (wanted : List ℕ) → or_else (check_part part) (check_wanted (part_of part) n r g 3 0 wanted) ≡ Ok tt → Asked (part_of part) n r g 3 0 wanted
 asks part n r g wanted e = asked_of (part_of part) n r g 3 0 wanted (both_pass (check_part part) _ e).1
 
 -- the columns are those of whole chips
@@ -87,7 +87,7 @@ returns-else-out-size c = let a = c.args in
     ∙ ap (λ (r : Registers). address_of a.group ∷ each_after80 (mode_set_of r 3 ∷ []) ++ pairs_from (part_of a.part) (length a.wanted.now / 2) 0 a.wanted.now) c.registers_of-own.ensures
     ∙ sym (is-three (part_of a.part) a.chips a.registers a.group a.wanted.now (omega (arith, c.if-chips_in-eq0.false, c.chips_in.ensures))) in
     let both = numbered
-    (ap₂ (λ (k : ℕ) (l : List ℕ). record { result = Written.Bytes k; out = l ++ drop k a.out.now }) (size_is c.args.part c.args.chips c.args.registers c.args.group c.args.wanted.now (omega (arith, c.if-chips_in-eq0.false, c.chips_in.ensures)) c.byte_size.ensures) is
+    (ap₂ (λ (k : ℕ) (l : List ℕ). record { result = Ok k; out = l ++ drop k a.out.now }) (size_is c.args.part c.args.chips c.args.registers c.args.group c.args.wanted.now (omega (arith, c.if-chips_in-eq0.false, c.chips_in.ensures)) c.byte_size.ensures) is
     ∙ written a.part (check_wanted (part_of a.part) a.chips a.registers a.group 3 0 a.wanted.now) (three_transfer (part_of a.part) a.chips a.registers a.group a.wanted.now) a.out.now (sym c.check_every.ensures ∙ c.in-Passed.is) (omega (arith, size_is c.args.part c.args.chips c.args.registers c.args.group c.args.wanted.now (omega (arith, c.if-chips_in-eq0.false, c.chips_in.ensures)) c.byte_size.ensures))) in
     record { out_after = both.0; result_value = both.1 }
 

@@ -6,9 +6,8 @@ use Prim.Native.Nat.{ℕ, ◌-◌, ◌≤◌}
 use native.Mathlib.Omega.{arith}
 use lib.ListN.{length, take, drop}
 use lib.Seq.{length-take-le}
-use Rattle.sheet.specs.declared.Rescued.{Rescued}
-use Rattle.sheet.specs.declared.Check.{Check}
-use Rattle.sheet.specs.declared.Check.TheVariants.{Passed}
+use Rattle.std.specs.Prelude.{Ok}
+use Rattle.sheet.specs.Results.{Rescued, Check}
 use Rattle.sheet.specs.Refusals.{rescued_numbers}
 use Rattle.log_sheet.specs.Logs.{log_records}
 use Rattle.log_sheet.specs.Rescue.{kept_of, check_rescue, RescuedAfter, rescued_by, rescue_call}
@@ -17,7 +16,7 @@ use Rattle.laws.proofs.Rescued.{fits}
 use Rattle.torn.proofs.rescue.Goals as goal
 
 -- where the whole records end, in a log that has passed
-inside : (log out : List ℕ) (w : Whole) → check_rescue log (length out) ≡ Passed → w ≡ record { records = length (log_records log).bodies; end = kept_of log } → (w.end ≤ length log) × (w.end ≤ length out)
+inside : (log out : List ℕ) (w : Whole) → check_rescue log (length out) ≡ Ok tt → w ≡ record { records = length (log_records log).bodies; end = kept_of log } → (w.end ≤ length log) × (w.end ≤ length out)
 inside log out w passed is = let f = fits log (length out) passed in
     let end : w.end ≡ kept_of log = ap (λ (v : Whole). v.end) is in
     (omega (arith, f.few, end), omega (arith, f.few, f.room, end))
@@ -54,7 +53,7 @@ returns-in-Passed c = let log = c.args.log.now in
     let out = c.args.out.now in
     let whole = c.whole_of-whole.result in
     let n = numbered
-    (ap (λ (l : List ℕ). record { result = Rescued.Kept whole.records whole.end (length log - whole.end) whole.end; out = l ++ drop whole.end out }) c.copy.ensures
-    ∙ ap (λ (w : Whole). record { result = Rescued.Kept w.records w.end (length log - w.end) w.end; out = take w.end log ++ drop w.end out }) c.whole_of-whole.ensures
+    (ap (λ (l : List ℕ). record { result = Ok (record { records = whole.records; bytes = whole.end; dropped = (length log - whole.end); tear = whole.end }); out = l ++ drop whole.end out }) c.copy.ensures
+    ∙ ap (λ (w : Whole). record { result = Ok (record { records = w.records; bytes = w.end; dropped = (length log - w.end); tear = w.end }); out = take w.end log ++ drop w.end out }) c.whole_of-whole.ensures
     ∙ ap (λ (k : Check). rescued_by k log out) (sym c.in-Passed.is ∙ c.check.ensures)) in
     record { out_after = n.0; result_value = n.1 }

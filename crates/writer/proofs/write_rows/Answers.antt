@@ -10,8 +10,8 @@ use borrow.Author.Tests.{eq-eqb}
 use Rattle.sheet.specs.declared.Registers.{Registers}
 use Rattle.sheet.specs.declared.Both.{Both}
 use Rattle.sheet.specs.declared.Chips.{Chips}
-use Rattle.sheet.specs.declared.Written.{Written}
-use Rattle.sheet.specs.declared.Check.TheVariants.{Passed}
+use Rattle.std.specs.Prelude.{Ok}
+use Rattle.sheet.specs.Results.{Written}
 use Rattle.sheet.specs.Parts.{Part, part_of}
 use Rattle.sheet.specs.Registers.{backplanes, registers_of}
 use Rattle.sheet.specs.Protocol.{address_of, chips_in}
@@ -31,7 +31,7 @@ is_none : (K : Part) (n : Chips) (r : Both) (g mode bank : ℕ) (wanted : List �
 unfolding rows_transfer
 is_none K n r g mode bank wanted none = rw (eq-eqb (chips_in g n) 0 none)
 
-asks : (part : ℕ) (n : Chips) (r : Both) (g mode bank : ℕ) (wanted : List ℕ) → or_else (check_part part) (check_wanted (part_of part) n r g mode bank wanted) ≡ Passed → Asked (part_of part) n r g mode bank wanted
+asks : (part : ℕ) (n : Chips) (r : Both) (g mode bank : ℕ) (wanted : List ℕ) → or_else (check_part part) (check_wanted (part_of part) n r g mode bank wanted) ≡ Ok tt → Asked (part_of part) n r g mode bank wanted
 asks part n r g mode bank wanted e = asked_of (part_of part) n r g mode bank wanted (both_pass (check_part part) _ e).1
 
 -- the size is the transfer's
@@ -86,7 +86,7 @@ returns-else-out-size c = let a = c.args in
     ∙ ap (λ (r : Registers). address_of a.group ∷ each_after80 (settings (part_of a.part) r a.mode a.bank) ++ (0x40 ∷ data_of (set_to a.mode a.bank r) a.wanted.now)) c.registers_of-own.ensures
     ∙ sym (is-rows (part_of a.part) a.chips a.registers a.group a.mode a.bank a.wanted.now (omega (arith, c.chips_in.ensures))) in
     let both = numbered
-    (ap₂ (λ (k : ℕ) (l : List ℕ). record { result = Written.Bytes k; out = l ++ drop k a.out.now }) (size_is c.args.part c.args.chips c.args.registers c.args.group c.args.mode c.args.bank c.args.wanted.now (omega (arith, c.chips_in.ensures)) c.registers_of-own.ensures c.backplanes_of.ensures c.rows_size-size.ensures) is
+    (ap₂ (λ (k : ℕ) (l : List ℕ). record { result = Ok k; out = l ++ drop k a.out.now }) (size_is c.args.part c.args.chips c.args.registers c.args.group c.args.mode c.args.bank c.args.wanted.now (omega (arith, c.chips_in.ensures)) c.registers_of-own.ensures c.backplanes_of.ensures c.rows_size-size.ensures) is
     ∙ written a.part (check_wanted (part_of a.part) a.chips a.registers a.group a.mode a.bank a.wanted.now) (rows_transfer (part_of a.part) a.chips a.registers a.group a.mode a.bank a.wanted.now) a.out.now (sym c.check_wanted.ensures ∙ c.in-Passed.is) (omega (arith, size_is c.args.part c.args.chips c.args.registers c.args.group c.args.mode c.args.bank c.args.wanted.now (omega (arith, c.chips_in.ensures)) c.registers_of-own.ensures c.backplanes_of.ensures c.rows_size-size.ensures))) in
     record { out_after = both.0; result_value = both.1 }
 
