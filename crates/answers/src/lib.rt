@@ -5,7 +5,7 @@ ghost use Rattle.std.specs.Prelude.{◌≡◌};
 ghost use Rattle.sheet.specs.Parts.{part_of};
 ghost use Rattle.sheet.specs.Refusals.{number_of, place_of, last_number, refusal_numbers, numbers, plain_numbers, picture_numbers, rescued_numbers, check_numbers, written_numbers};
 
-use sheet::{Acknowledger, Answer, Check, Pictured, PlainAnswer, Refusal, Rescued, Written};
+use sheet::{Acknowledged, Kept, Refusal, Taken};
 
 // The paper's number of a refusal.
 pub fn number_of(refusal: Refusal) -> usize
@@ -78,7 +78,7 @@ pub fn place_of(refusal: Refusal) -> usize
 }
 
 // The subaddress that acknowledged the last data byte, or where the part's counter rests.
-fn last_number(part: u8, last: Acknowledger) -> usize
+fn last_number(part: u8, last: Option<usize>) -> usize
     ensures { result ≡ last_number (part_of part) last }
 {
     match last {
@@ -95,7 +95,7 @@ fn refusal_numbers(refusal: Refusal, last: usize) -> [usize; 6]
 }
 
 // Of a transfer: acknowledged, stored, discarded, and who acknowledged its last data byte.
-pub fn numbers(part: u8, answer: Answer) -> [usize; 6]
+pub fn numbers(part: u8, answer: Result<Taken, Refusal>) -> [usize; 6]
     ensures { result ≡ numbers (part_of part) answer }
 {
     match answer {
@@ -112,20 +112,17 @@ pub fn numbers(part: u8, answer: Answer) -> [usize; 6]
 }
 
 // Of a transfer in the plain account: acknowledged only, and the same of its last data byte.
-pub fn plain_numbers(part: u8, answer: PlainAnswer) -> [usize; 6]
+pub fn plain_numbers(part: u8, answer: Result<Acknowledged, Refusal>) -> [usize; 6]
     ensures { result ≡ plain_numbers (part_of part) answer }
 {
     match answer {
         Ok(Acknowledged { bytes, last }) => [0, 0, bytes, 0, 0, last_number(part, last)],
-        Err(refusal) => refusal_numbers(
-            refusal,
-            last_number(part, None),
-        ),
+        Err(refusal) => refusal_numbers(refusal, last_number(part, None)),
     }
 }
 
 // Of a picture: the lit elements.
-pub fn picture_numbers(pictured: Pictured) -> [usize; 6]
+pub fn picture_numbers(pictured: Result<usize, Refusal>) -> [usize; 6]
     ensures { result ≡ picture_numbers pictured }
 {
     match pictured {
@@ -135,22 +132,24 @@ pub fn picture_numbers(pictured: Pictured) -> [usize; 6]
 }
 
 // Of a rescue: records kept, bytes kept, bytes dropped, and the offset of the tear.
-pub fn rescued_numbers(rescued: Rescued) -> [usize; 6]
+pub fn rescued_numbers(rescued: Result<Kept, Refusal>) -> [usize; 6]
     ensures { result ≡ rescued_numbers rescued }
 {
     match rescued {
-        Rescued::Kept {
-            records,
-            bytes,
-            dropped,
-            tear,
-        } => [0, 0, records, bytes, dropped, tear],
+        Ok(
+            Kept {
+                records,
+                bytes,
+                dropped,
+                tear,
+            },
+        ) => [0, 0, records, bytes, dropped, tear],
         Err(refusal) => refusal_numbers(refusal, 0),
     }
 }
 
 // Of a power-on: no counts.
-pub fn check_numbers(check: Check) -> [usize; 6]
+pub fn check_numbers(check: Result<(), Refusal>) -> [usize; 6]
     ensures { result ≡ check_numbers check }
 {
     match check {
@@ -160,7 +159,7 @@ pub fn check_numbers(check: Check) -> [usize; 6]
 }
 
 // Of a writer: the bytes written.
-pub fn written_numbers(written: Written) -> [usize; 6]
+pub fn written_numbers(written: Result<usize, Refusal>) -> [usize; 6]
     ensures { result ≡ written_numbers written }
 {
     match written {

@@ -16,19 +16,17 @@ ghost use Rattle.buslog.specs.Replays.{replay_call, Inside};
 
 use lent_group::Bus;
 use records::{Cursor, Record};
-use sheet::{Both, Check, Chips};
+use sheet::{Both, Chips, Refusal};
 
 // ---- the log
 
 // A log is checked whole before its first line is written: 14, 12, 3, then 13 and 20.
-pub fn check_log(log: &[u8]) -> Check
+pub fn check_log(log: &[u8]) -> Result<(), Refusal>
     ensures value { result ≡ check_log log.now }
     ensures all_counted { result ≡ Ok tt → AllCounted (log_records log.now).bodies }
 {
-    match records::check_head(log) {
-        Err(refusal) => Err(refusal),
-        Ok(()) => records::check_records(log),
-    }
+    records::check_head(log)?;
+    records::check_records(log)
 }
 
 // ---- the text

@@ -8,27 +8,20 @@ ghost use Rattle.sheet.specs.Parts.{part_of};
 ghost use Rattle.sheet.specs.Protocol.{sent, whole_count, address_byte};
 ghost use Rattle.sheet.specs.Checks.{unless, or_else, over_in, check_part, check_chips, check_length, check_bits, passed};
 
-use sheet::{Check, Chips, Refusal};
+use sheet::{Chips, Refusal};
 
 // Refused unless a test holds.
-pub fn unless(holds: bool, refusal: Refusal) -> Check
+pub fn unless(holds: bool, refusal: Refusal) -> Result<(), Refusal>
     ensures { result ≡ unless holds refusal }
 {
-    if holds {
-        Ok(())
-    } else {
-        Err(refusal)
-    }
+    if holds { Ok(()) } else { Err(refusal) }
 }
 
 // Whether a check has passed.
-pub fn passes(check: Check) -> bool
+pub fn passes(check: Result<(), Refusal>) -> bool
     ensures { result ≡ passed check }
 {
-    match check {
-        Ok(()) => true,
-        Err(_) => false,
-    }
+    check.is_ok()
 }
 
 // A byte of a transfer or a log, and 0 past its end.
@@ -39,14 +32,14 @@ pub fn byte_at(bytes: &[u8], i: usize) -> u8
 }
 
 // The part: 16.
-pub fn check_part(part: u8) -> Check
+pub fn check_part(part: u8) -> Result<(), Refusal>
     ensures { result ≡ check_part part }
 {
     unless(part <= 1, Refusal::UnknownPart)
 }
 
 // The chip counts: 3.
-pub fn check_chips(part: u8, chips: Chips) -> Check
+pub fn check_chips(part: u8, chips: Chips) -> Result<(), Refusal>
     ensures { result ≡ check_chips (part_of part) chips }
 {
     let limit = arithmetic::limit(part);
@@ -120,7 +113,7 @@ fn words_low(columns: &[u8]) -> bool
 }
 
 // The first column over 15, if there is one; most RAMs have none.
-pub fn first_over(columns: &[u8]) -> Check
+pub fn first_over(columns: &[u8]) -> Result<(), Refusal>
     ensures { result ≡ over_in 0 columns.now }
 {
     if words_low(columns) {
@@ -133,24 +126,19 @@ pub fn first_over(columns: &[u8]) -> Check
 
 // The length of a transfer: 1, 2.
 #[tactic(auto, unfolding(sheet::specs::Checks::check_length))]
-pub fn check_length(size: usize) -> Check
+pub fn check_length(size: usize) -> Result<(), Refusal>
     ensures { result ≡ check_length size }
 {
-    if 0 < size {
-        unless(size <= 4096, Refusal::LongTransfer)
-    } else {
-        Err(Refusal::EmptyTransfer)
-    }
+    unless(0 < size, Refusal::EmptyTransfer)?;
+    unless(size <= 4096, Refusal::LongTransfer)
 }
 
 // A transfer of so many bytes, of the last of which so many bits came: 1, 2, 19.
-pub fn check_sent(size: usize, bits: u8) -> Check
+pub fn check_sent(size: usize, bits: u8) -> Result<(), Refusal>
     ensures { result ≡ or_else (check_length size) (check_bits bits) }
 {
-    match check_length(size) {
-        Err(refusal) => Err(refusal),
-        Ok(()) => unless((1 <= bits) & (bits <= 8), Refusal::BitCount),
-    }
+    check_length(size)?;
+    unless((1 <= bits) & (bits <= 8), Refusal::BitCount)
 }
 
 // How many of a transfer's bytes are whole: all, or all but the one that is cut.

@@ -11,7 +11,7 @@ ghost use Rattle.sheet.specs.Pictures.{picture_of, lit_in};
 ghost use Rattle.columns.specs.Stored.{chip_ran};
 ghost use Rattle.sheet.specs.Plain.{with_registers, chip_byte_of, chip_byte, acknowledges_of, acknowledges_byte, chip_stepped, chip_answers, chip_lost, hears, chip_fits, chip_power_on, check_chip_picture, chip_power_on_part, chip_picture_part};
 
-use sheet::{Check, Chip, ChipPowerOn, Expect, Kind, Marks, Pictured, Refusal, Registers};
+use sheet::{Chip, ChipPowerOn, Expect, Kind, Marks, Refusal, Registers};
 
 // The chip's registers after a command byte: it obeys every command, selected or not.
 fn obey(part: u8, chip: Chip, byte: u8) -> Registers
@@ -151,18 +151,14 @@ pub fn fits(part: u8, chip: Chip) -> bool
 }
 
 // Whether a power-on is refused: 16, 11.
-fn check_power_on(part: u8, chip: Chip) -> Check
+fn check_power_on(part: u8, chip: Chip) -> Result<(), Refusal>
     ensures { result ≡ or_else (check_part part) (chip_power_on (part_of part) chip).check }
 {
-    match checks::check_part(part) {
-        Err(refusal) => Err(refusal),
-        Ok(()) => {
-            let columns = chip.columns;
-            let below = (chip.subaddress as usize) < arithmetic::limit(part);
-            let fits = (chip.sa0 < 2) & (below & columns_fit(part, columns));
-            checks::unless(fits, Refusal::ChipField(0))
-        }
-    }
+    checks::check_part(part)?;
+    let columns = chip.columns;
+    let below = (chip.subaddress as usize) < arithmetic::limit(part);
+    let fits = (chip.sa0 < 2) & (below & columns_fit(part, columns));
+    checks::unless(fits, Refusal::ChipField(0))
 }
 
 // Power-on, taken or refused: the registers become the power-on ones and the rest stays.
@@ -176,28 +172,20 @@ pub fn power_on(part: u8, mut chip: Chip) -> ChipPowerOn
 }
 
 // Whether a picture of the chip into a buffer of this size is refused, the part being known.
-fn check_shown(part: u8, chip: Chip, phase: u8, size: usize) -> Check
+fn check_shown(part: u8, chip: Chip, phase: u8, size: usize) -> Result<(), Refusal>
     ensures { result ≡ check_chip_picture (part_of part) chip phase size }
 {
-    if fits(part, chip) {
-        if phase < 2 {
-            checks::unless(size == arithmetic::columns(part), Refusal::OutputLength)
-        } else {
-            Err(Refusal::GroupOrPhase)
-        }
-    } else {
-        Err(Refusal::ChipField(0))
-    }
+    checks::unless(fits(part, chip), Refusal::ChipField(0))?;
+    checks::unless(phase < 2, Refusal::GroupOrPhase)?;
+    checks::unless(size == arithmetic::columns(part), Refusal::OutputLength)
 }
 
 // Whether a picture is refused: 16, 11, 8, 9.
-fn check_picture(part: u8, chip: Chip, phase: u8, size: usize) -> Check
+fn check_picture(part: u8, chip: Chip, phase: u8, size: usize) -> Result<(), Refusal>
     ensures { result ≡ or_else (check_part part) (check_chip_picture (part_of part) chip phase size) }
 {
-    match checks::check_part(part) {
-        Err(refusal) => Err(refusal),
-        Ok(()) => check_shown(part, chip, phase, size),
-    }
+    checks::check_part(part)?;
+    check_shown(part, chip, phase, size)
 }
 
 // What the part's columns show. What stands behind them is not looked at.
@@ -211,15 +199,11 @@ fn show_own(part: u8, columns: [u8; 160], registers: Registers, phase: u8, out: 
 }
 
 // The picture of the chip alone, of the part's columns, and its lit elements, or a refusal.
-pub fn picture(part: u8, chip: Chip, phase: u8, out: &mut [u8]) -> Pictured
+pub fn picture(part: u8, chip: Chip, phase: u8, out: &mut [u8]) -> Result<usize, Refusal>
     ensures out_after { record { result = result; out = out.new } ≡ chip_picture_part part chip phase out.old }
     ensures result_value { picture_numbers result ≡ picture_numbers (chip_picture_part part chip phase out.old).result }
 {
-    match check_picture(part, chip, phase, out.len()) {
-        Err(refusal) => Err(refusal),
-        Ok(()) => {
-            let columns = chip.columns;
-            Ok(show_own(part, columns, chip.registers, phase, out))
-        }
-    }
+    check_picture(part, chip, phase, out.len())?;
+    let columns = chip.columns;
+    Ok(show_own(part, columns, chip.registers, phase, out))
 }

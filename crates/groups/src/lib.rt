@@ -7,10 +7,10 @@ ghost use Rattle.sheet.specs.Registers.{registers_of};
 ghost use Rattle.sheet.specs.Protocol.{heard_by, chips_in};
 ghost use Rattle.sheet.specs.Long.{replaced, start_of, end_of};
 
-use sheet::{Addressed, Both, Chips, Registers};
+use sheet::{Both, Chips, Registers};
 
 // The group that hears an address byte. An empty transfer has none, and the 0 that stands for it is nobody's.
-pub fn heard_by(chips: Chips, address: u8) -> Addressed
+pub fn heard_by(chips: Chips, address: u8) -> Option<u8>
     ensures { result ≡ heard_by chips address }
 {
     if (address == 112) & (0 < chips.zero) {

@@ -6,7 +6,7 @@ ghost use Rattle.std.specs.Prelude.{◌≡◌, length, Ok};
 ghost use Rattle.log_sheet.specs.Logs.{check_log};
 
 use input::Input;
-use sheet::{Check, Refusal, Written};
+use sheet::Refusal;
 use std::env;
 
 // The number of a group's name: 0, 1, or 2 for none.

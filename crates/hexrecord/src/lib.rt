@@ -7,7 +7,7 @@ ghost use Rattle.image_sheet.specs.Images.{line_end, address_of, kind_of, inside
 ghost use Rattle.text.specs.Texts.{Puts};
 ghost use Rattle.hexrecord.specs.Lines.{line_at, step_of, given_after, Whole, Room};
 
-use sheet::{Check, Refusal};
+use sheet::Refusal;
 
 // ---- a record is written
 
@@ -95,7 +95,7 @@ fn address_of(bytes: &[u8]) -> usize
 }
 
 // 21 of an end record, 22, 23.
-fn head_fault(bytes: &[u8], at: usize) -> Check
+fn head_fault(bytes: &[u8], at: usize) -> Result<(), Refusal>
     requires { Whole bytes.now }
     ensures { result ≡ head_fault at bytes.now }
 {
@@ -124,7 +124,7 @@ fn none_given(columns: &[u8]) -> bool
 }
 
 // 24, 25, 5. A record without data has none.
-fn data_fault(bytes: &[u8], given: &[u8], at: usize) -> Check
+fn data_fault(bytes: &[u8], given: &[u8], at: usize) -> Result<(), Refusal>
     requires { Whole bytes.now }
     ensures { result ≡ data_fault given.now at bytes.now }
 {
@@ -146,14 +146,12 @@ fn data_fault(bytes: &[u8], given: &[u8], at: usize) -> Check
     }
 }
 
-fn fault(bytes: &[u8], given: &[u8], at: usize) -> Check
+fn fault(bytes: &[u8], given: &[u8], at: usize) -> Result<(), Refusal>
     requires { Whole bytes.now }
     ensures { result ≡ fault_of given.now at bytes.now }
 {
-    match head_fault(bytes, at) {
-        Err(refusal) => Err(refusal),
-        Ok(()) => data_fault(bytes, given, at),
-    }
+    head_fault(bytes, at)?;
+    data_fault(bytes, given, at)
 }
 
 // ---- a record is stored

@@ -9,7 +9,7 @@ ghost use Rattle.text.specs.Texts.{Puts};
 ghost use Rattle.image.specs.Room.{Room};
 
 use hexrecord::Step;
-use sheet::{Check, Chips, Refusal, Written};
+use sheet::{Chips, Refusal};
 
 // The chips of one group, of which there is no other.
 fn one_group(chips: u8) -> Chips
@@ -57,27 +57,21 @@ fn file_size(columns: usize) -> usize
 
 // A group's RAM as Intel HEX, at the start of `out`, whose other bytes stay.
 // Refused by 16, 3, 4, 5, then 9 for an output shorter than the file.
-pub fn write(part: u8, chips: u8, ram: &[u8], out: &mut [u8]) -> Written
+pub fn write(part: u8, chips: u8, ram: &[u8], out: &mut [u8]) -> Result<usize, Refusal>
     ensures out_after { record { result = result; out = out.new } ≡ hex_write_part part chips ram.now out.old }
     ensures result_value { written_numbers result ≡ written_numbers (hex_write_part part chips ram.now out.old).result }
 {
-    match refused::check_power_on(part, one_group(chips), ram, false) {
-        Err(refusal) => Err(refusal),
-        Ok(()) => {
-            let size = file_size(ram.len());
-            if out.len() < size {
-                return Err(Refusal::OutputLength);
-            }
-            put_file(out, ram);
-            Ok(size)
-        }
-    }
+    refused::check_power_on(part, one_group(chips), ram, false)?;
+    let size = file_size(ram.len());
+    checks::unless(size <= out.len(), Refusal::OutputLength)?;
+    put_file(out, ram);
+    Ok(size)
 }
 
 // ---- a file is read
 
 // 26: where no record gave a column, it is over 15.
-fn first_missing(given: &[u8]) -> Check
+fn first_missing(given: &[u8]) -> Result<(), Refusal>
     ensures { result ≡ missing_in 0 given.now }
 {
     let place = checks::search_over(given);
@@ -85,7 +79,7 @@ fn first_missing(given: &[u8]) -> Check
 }
 
 // After the end record: 27, then 26.
-fn finish(file: &[u8], given: &[u8], end: usize) -> Check
+fn finish(file: &[u8], given: &[u8], end: usize) -> Result<(), Refusal>
     ensures { result ≡ (ended given.now (drop end file.now)).check }
 {
     if end < file.len() {
@@ -96,7 +90,7 @@ fn finish(file: &[u8], given: &[u8], end: usize) -> Check
 }
 
 // All records; what they give is in `given` afterwards, up to the first that is refused.
-fn read_records(file: &[u8], given: &mut [u8]) -> Check
+fn read_records(file: &[u8], given: &mut [u8]) -> Result<(), Refusal>
     requires { length file.now ≤ 65536 }
     ensures { image result given.new ≡ image_from 0 given.old file.now }
 {
@@ -113,25 +107,16 @@ fn read_records(file: &[u8], given: &mut [u8]) -> Check
 
 // 16, 3, 14, 4.
 #[tactic(auto, unfolding(image_sheet::specs::Images::check_file))]
-fn check_file(part: u8, chips: u8, file: usize, out: usize) -> Check
+fn check_file(part: u8, chips: u8, file: usize, out: usize) -> Result<(), Refusal>
     ensures { result ≡ check_file part chips file out }
 {
-    match checks::check_part(part) {
-        Err(refusal) => Err(refusal),
-        Ok(()) => match checks::check_chips(part, one_group(chips)) {
-            Err(refusal) => Err(refusal),
-            Ok(()) => {
-                if file <= 65536 {
-                    checks::unless(
-                        out == arithmetic::columns_in(part, chips as u16),
-                        Refusal::RamLength,
-                    )
-                } else {
-                    Err(Refusal::LongLog)
-                }
-            }
-        },
-    }
+    checks::check_part(part)?;
+    checks::check_chips(part, one_group(chips))?;
+    checks::unless(file <= 65536, Refusal::LongLog)?;
+    checks::unless(
+        out == arithmetic::columns_in(part, chips as u16),
+        Refusal::RamLength,
+    )
 }
 
 // No column is given yet.
@@ -143,22 +128,14 @@ fn none_given() -> [u8; 640]
 
 // A group's RAM from Intel HEX. What the records give is kept apart until the last of them is checked, so that a refused file changes nothing.
 // Refused by 16, 3, 14, 4, by the first faulty record (21 to 25, then 5), by 27, then 26.
-pub fn read(part: u8, chips: u8, file: &[u8], ram: &mut [u8]) -> Written
+pub fn read(part: u8, chips: u8, file: &[u8], ram: &mut [u8]) -> Result<usize, Refusal>
     ensures ram_after { record { result = result; out = ram.new } ≡ hex_read_part part chips file.now ram.old }
     ensures result_value { written_numbers result ≡ written_numbers (hex_read_part part chips file.now ram.old).result }
 {
-    match check_file(part, chips, file.len(), ram.len()) {
-        Err(refusal) => Err(refusal),
-        Ok(()) => {
-            let mut given = none_given();
-            let size = ram.len();
-            match read_records(file, &mut given[..size]) {
-                Err(refusal) => Err(refusal),
-                Ok(()) => {
-                    copies::copy(&given[..size], ram);
-                    Ok(size)
-                }
-            }
-        }
-    }
+    check_file(part, chips, file.len(), ram.len())?;
+    let mut given = none_given();
+    let size = ram.len();
+    read_records(file, &mut given[..size])?;
+    copies::copy(&given[..size], ram);
+    Ok(size)
 }

@@ -76,7 +76,7 @@ known_alike : (K : Part) (u : Marks) (e : Expect) (i : ℕ) (xs : List ℕ) → 
 unfolding fault_in
 known_alike K u e i [] h = rw h (go (is_data e))
   where
-    go : (b : Bool) → cond b (Ok tt) (Ok tt) ≡ Ok tt
+    go : (b : Bool) → ◌≡◌ {A = Check} (cond b (Ok tt) (Ok tt)) (Ok tt)
     go true = refl
     go false = refl
 known_alike K u e i (x ∷ xs) h = ap (or_else (fault K u e i x)) (known_alike K (marks_after K u e x) (next e x) (suc i) xs (known-after K u e x h))

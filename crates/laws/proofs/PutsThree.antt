@@ -11,8 +11,9 @@ use borrow.Author.Tests.{ne_eqb}
 use Rattle.sheet.specs.declared.Registers.{Registers}
 use Rattle.sheet.specs.declared.Both.{Both}
 use Rattle.sheet.specs.declared.Chips.{Chips}
+use Rattle.sheet.specs.declared.Counts.{Counts}
 use Rattle.std.specs.Prelude.{Ok}
-use Rattle.sheet.specs.Results.{Answer}
+use Rattle.sheet.specs.Results.{Acknowledger, Answer}
 use Rattle.sheet.specs.declared.Command.TheVariants.{ModeSet}
 use Rattle.sheet.specs.declared.Expect.TheVariants.{Control}
 use Rattle.sheet.specs.Parts.{Part, part_of}

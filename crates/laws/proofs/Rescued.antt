@@ -14,6 +14,7 @@ use Rattle.lemmas.proofs.Order.{lt_or_le}
 use Rattle.lemmas.proofs.Lists.{drop-take}
 use Rattle.lemmas.proofs.Tests.{both_true}
 use Rattle.std.specs.Prelude.{Err, Ok}
+use Rattle.sheet.specs.declared.Kept.{Kept}
 use Rattle.sheet.specs.Results.{Check, Rescued}
 use Rattle.sheet.specs.declared.Refusal.{Refusal}
 use Rattle.sheet.specs.declared.Refusal.TheVariants.{LogHead, LongLog, OutputLength}
@@ -39,7 +40,7 @@ nothing zero seen at = refl
 nothing (suc j) seen at = refl
 
 -- what is refused has not passed
-pub never : (r : Refusal) {A : Type 0} → Err r ≡ Ok tt → A
+pub never : (r : Refusal) {A : Type 0} → ◌≡◌ {A = Check} (Err r) (Ok tt) → A
 never r e = let no : ◌≡◌ {A = ℕ} 0 1 = cc in absurd (omega arith)
 
 -- a whole record and those after it
@@ -172,12 +173,16 @@ fits log size e =
     record { few = few log both.0; room = leb-true (length log) size (unless-passes _ OutputLength both.1) }
 
 -- so what is kept lies inside the output
-pub kept-inside : (log out : List ℕ) (records bytes dropped tear : ℕ) → (rescue_call log out).result ≡ Ok (record { records = records; bytes = bytes; dropped = dropped; tear = tear }) → bytes ≤ length out
+abbrev bytes_in : Rescued → ℕ
+bytes_in (Ok k) = k.bytes
+bytes_in (Err r) = 0
+
+pub kept-inside : (log out : List ℕ) (k : Kept) → (rescue_call log out).result ≡ Ok k → k.bytes ≤ length out
 unfolding rescue_call
-kept-inside log out records bytes dropped tear e = by-check (check_rescue log (length out)) refl e
+kept-inside log out kept e = by-check (check_rescue log (length out)) refl e
   where
-    by-check : (k : Check) → check_rescue log (length out) ≡ k → (rescued_by k log out).result ≡ Ok (record { records = records; bytes = bytes; dropped = dropped; tear = tear }) → bytes ≤ length out
-    by-check (Ok _) c e = let same : kept_of log ≡ bytes = cc in
+    by-check : (k : Check) → check_rescue log (length out) ≡ k → (rescued_by k log out).result ≡ Ok kept → kept.bytes ≤ length out
+    by-check (Ok _) c e = let same : kept_of log ≡ kept.bytes = ap bytes_in e in
         let f = fits log (length out) c in
         omega (arith, f.few, f.room, same)
     by-check (Err r) c e = let no : ◌≡◌ {A = ℕ} 0 1 = cc in absurd (omega arith)

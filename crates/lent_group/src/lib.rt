@@ -14,7 +14,7 @@ ghost use Rattle.wire.specs.Bytes.{registers_in, bytes_of};
 ghost use Rattle.lent_group.specs.Sets.{Asked, Left, Rest, Fitting, is_fitting, heard_set, set_to, numbered_set};
 
 use lent_opening::Kept;
-use sheet::{Acknowledger, Answer, Check, Chips, Counts, Registers};
+use sheet::{Chips, Counts, Refusal, Registers, Taken};
 
 // A bus as a call is told of it: the part, the chips of each group, and whether their columns are packed.
 #[derive(Clone, Copy)]
@@ -25,7 +25,7 @@ pub struct Bus {
 }
 
 // What is said of a transfer, in the numbers of the lent answer; the first is returned too.
-pub fn say(part: u8, said: Answer, answer: &mut [usize]) -> u8
+pub fn say(part: u8, said: Result<Taken, Refusal>, answer: &mut [usize]) -> u8
     requires { length answer.old ≡ 6 }
     ensures value { result ≡ get_or (numbers (part_of part) said) 0 0 }
     ensures answer_after { answer.new ≡ numbers (part_of part) said }

@@ -12,7 +12,7 @@ ghost use Rattle.wire.specs.Bytes.{registers_in, both_of};
 ghost use Rattle.lent_long.specs.LongCalls.{Sendable, Hearable, lent_after, numbered, sent_to, sent_c, power_on_c, transfer_c, picture_c};
 
 use lent_group::Bus;
-use sheet::{Addressed, Answer, Check, Pictured};
+use sheet::Refusal;
 
 // Power-on, taken or refused by 16, 3, 4, 5.
 pub fn power_on(bus: Bus, ram: &[u8], registers: &mut [u8], answer: &mut [usize]) -> u8
@@ -120,23 +120,19 @@ fn pictured(
     registers: &[u8],
     ram: &[u8],
     out: &mut [u8],
-) -> Pictured
+) -> Result<usize, Refusal>
     requires { length registers.now ≡ 24 }
     ensures { record { result = result; out = out.new } ≡ picture_part bus.part bus.chips (both_of registers.now) (columns_in bus.packed ram.now) group phase out.old }
 {
     let part = bus.part;
     let packed = bus.packed;
     let fit = fits(part, registers);
-    match refused::check_picture(part, bus.chips, fit, group, phase, ram, packed, out.len()) {
-        Err(refusal) => Err(refusal),
-        Ok(()) => {
-            let at = 12 * (group as usize);
-            let shown = wire::registers_of(&registers[at..at + 12]);
-            let start = groups::start_in(part, bus.chips, group, packed);
-            let end = groups::end_in(part, bus.chips, group, packed);
-            Ok(picture::show(&ram[start..end], packed, shown, phase, out))
-        }
-    }
+    refused::check_picture(part, bus.chips, fit, group, phase, ram, packed, out.len())?;
+    let at = 12 * (group as usize);
+    let shown = wire::registers_of(&registers[at..at + 12]);
+    let start = groups::start_in(part, bus.chips, group, packed);
+    let end = groups::end_in(part, bus.chips, group, packed);
+    Ok(picture::show(&ram[start..end], packed, shown, phase, out))
 }
 
 // A transfer, of whose last byte so many bits came, taken or refused by 16, 3, 6, 4, 5, 1, 2, 19, then 7, 17 and 18. What is looked at first stands first, and comes in the processor's registers.

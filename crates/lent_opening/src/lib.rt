@@ -9,7 +9,7 @@ ghost use Rattle.opening.specs.Opened.{opened};
 ghost use Rattle.wire.specs.Bytes.{registers_in};
 ghost use Rattle.lent_opening.specs.Held.{held_in};
 
-use sheet::{Check, Command, Refusal};
+use sheet::{Command, Refusal};
 
 // ---- the registers as they were
 
@@ -46,7 +46,7 @@ pub fn take_back(kept: Kept, set: &mut [u8])
 // The place of the byte after them; or, of one that is undefined, the fault.
 #[derive(Clone, Copy)]
 pub struct Opening {
-    pub fault: Check,
+    pub fault: Result<(), Refusal>,
     pub at: usize,
 }
 

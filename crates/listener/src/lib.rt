@@ -9,7 +9,7 @@ ghost use Rattle.sheet.specs.Runs.{counted_run, last_run};
 ghost use Rattle.opening.specs.Opened.{opened_at};
 ghost use Rattle.listener.specs.Listeners.{listener_of, is_control, obeyed_by, data_end, stepped, ran, ended_by, Countable, Placed, Runs};
 
-use sheet::{Acknowledger, Counts, Expect, Kind, Registers};
+use sheet::{Counts, Expect, Kind, Registers};
 
 // The protocol position, with the registers, the counts, and who acknowledged the last data byte.
 #[derive(Clone, Copy)]
@@ -17,7 +17,7 @@ pub struct Listener {
     pub expect: Expect,
     pub registers: Registers,
     pub counts: Counts,
-    pub last: Acknowledger,
+    pub last: Option<usize>,
 }
 
 // After so many bytes that are no data, all of them acknowledged.
@@ -110,7 +110,7 @@ fn counted(counts: Counts, v: usize, size: usize, m: usize, n: usize) -> Counts
 }
 
 // Who acknowledges a data byte from column v on: the chip that has its last column.
-fn acknowledger(part: u8, v: usize, size: usize, m: usize) -> Acknowledger
+fn acknowledger(part: u8, v: usize, size: usize, m: usize) -> Option<usize>
     requires { (0 < m) × (v < 2 ^ 32) }
     ensures { result ≡ acknowledger (part_of part) m v size }
 {
@@ -125,12 +125,12 @@ fn acknowledger(part: u8, v: usize, size: usize, m: usize) -> Acknowledger
 // Who acknowledges the last of n data bytes from column v on; of none, who did before.
 fn last_of(
     part: u8,
-    earlier: Acknowledger,
+    earlier: Option<usize>,
     v: usize,
     size: usize,
     m: usize,
     n: usize,
-) -> Acknowledger
+) -> Option<usize>
     requires { Placed v m n }
     ensures { result ≡ last_run (part_of part) n m v size earlier }
 {

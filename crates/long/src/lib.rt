@@ -13,10 +13,7 @@ ghost use Rattle.long.specs.Heard.{Owned, Ready, heard_in_ram};
 ghost use Rattle.packed_sheet.specs.Packed.{columns_in};
 
 use listener::Listener;
-use sheet::{
-    Acknowledger, Addressed, Answer, Both, Check, Chips, Counts, Pictured, PowerOn, Registers,
-    Transferred,
-};
+use sheet::{Both, Chips, Counts, PowerOn, Refusal, Registers, Taken, Transferred};
 
 // Power-on: the power-on registers, taken or refused by 16, 3, 4, 5; the RAM is only read.
 pub fn power_on(part: u8, chips: Chips, ram: &[u8], packed: bool) -> PowerOn
@@ -85,17 +82,17 @@ fn deliver(
 }
 
 // What is said of a transfer that brings no data: so many bytes are acknowledged, none where nobody hears it.
-pub fn without_data(acknowledged: usize) -> Answer
+pub fn without_data(acknowledged: usize) -> Result<Taken, Refusal>
     ensures { result ≡ Ok (record { counts = record { acknowledged = acknowledged; stored = 0; discarded = 0 }; last = None }) }
 {
-    Answer::Taken {
+    Ok(Taken {
         counts: Counts {
             acknowledged,
             stored: 0,
             discarded: 0,
         },
         last: None,
-    }
+    })
 }
 
 // A transfer, START to STOP, of whose last byte so many bits came, taken or refused by 16, 3, 6, 4, 5, 1, 2, 19, then 7, 17 and 18.
@@ -158,16 +155,12 @@ pub fn picture(
     group: u8,
     phase: u8,
     out: &mut [u8],
-) -> Pictured
+) -> Result<usize, Refusal>
     ensures out_after { record { result = result; out = out.new } ≡ picture_part part chips registers (columns_in packed ram.now) group phase out.old }
     ensures result_value { picture_numbers result ≡ picture_numbers (picture_part part chips registers (columns_in packed ram.now) group phase out.old).result }
 {
     let fit = refused::registers_fit(part, registers);
-    match refused::check_picture(part, chips, fit, group, phase, ram, packed, out.len()) {
-        Err(refusal) => Err(refusal),
-        Ok(()) => {
-            let shown = groups::registers_of(group, registers);
-            Ok(show_in(part, chips, group, shown, ram, packed, phase, out))
-        }
-    }
+    refused::check_picture(part, chips, fit, group, phase, ram, packed, out.len())?;
+    let shown = groups::registers_of(group, registers);
+    Ok(show_in(part, chips, group, shown, ram, packed, phase, out))
 }

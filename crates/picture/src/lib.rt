@@ -6,7 +6,7 @@ ghost use Rattle.sheet.specs.Pictures.{lit, picture_of, lit_in};
 ghost use Rattle.packed_sheet.specs.Packed.{unpacked, columns_in};
 ghost use Rattle.picture.specs.Drawn.{rows_of, drawn, Few, Drawable, Low};
 
-use sheet::{Registers, Shown};
+use sheet::Registers;
 
 // A column's rows from a first one on, moved down to row 0.
 fn lit_rows(first: usize, height: usize, column: u8) -> u8

@@ -12,7 +12,7 @@ ghost use Rattle.starts.specs.Questions.{yes, first_yes};
 ghost use Rattle.turns.specs.Turns.{taken_by, followed, tally_of, Ready};
 ghost use Rattle.plain.specs.Benches.{too_many, first_transferred, bench_transferred};
 
-use sheet::{Check, Chip, PlainAnswer, Refusal};
+use sheet::{Acknowledged, Chip, Refusal};
 use starts::{Found, Question};
 use turns::{BusByte, Said, Tally, Turn};
 
@@ -75,7 +75,7 @@ fn follow(chips: &mut [Chip], bytes: &[u8], start: Turn) -> Tally
 }
 
 // A transfer, START to STOP, of whose last byte so many bits came, taken or refused by 16, 10, 11, 1, 2, 19, then 7, 17 and 18. The list and the bytes come first.
-pub fn transfer(chips: &mut [Chip], bytes: &[u8], part: u8, bits: u8) -> PlainAnswer
+pub fn transfer(chips: &mut [Chip], bytes: &[u8], part: u8, bits: u8) -> Result<Acknowledged, Refusal>
     ensures value { (result ≡ (plain_part part chips.old (sent bytes.now bits)).answer) × (plain_numbers (part_of part) result ≡ plain_numbers (part_of part) (plain_part part chips.old (sent bytes.now bits)).answer) }
     ensures chips_after { chips.new ≡ (plain_part part chips.old (sent bytes.now bits)).chips }
 {
@@ -110,7 +110,7 @@ pub struct Bench {
 
 #[derive(Clone, Copy)]
 pub struct BenchTransferred {
-    pub answer: PlainAnswer,
+    pub answer: Result<Acknowledged, Refusal>,
     pub bench: Bench,
 }
 

@@ -6,13 +6,13 @@ ghost use Rattle.sheet.specs.Refusals.{written_numbers};
 ghost use Rattle.price_sheet.specs.Price.{text_of, texts_of, byte_of, begun_at, spelled, read_from, check_price, Sizes, price_write, price_read};
 ghost use Rattle.price.specs.Fronts.{Put, settled};
 
-use price_sheet::{Found, Symbol};
-use sheet::{Check, Refusal, Written};
+use price_sheet::Symbol;
+use sheet::Refusal;
 
 // ---- the symbols of a text
 
 // What begins at a place of a text: a digit with the point directly after it, a digit, a space, or a minus.
-fn begun_at(text: &[u8], at: usize) -> Found
+fn begun_at(text: &[u8], at: usize) -> Option<Symbol>
     requires { at < 80 }
     ensures { result ≡ begun_at at text.now }
 {
@@ -82,7 +82,7 @@ fn text_before(out: &[u8]) -> [u8; 160]
 }
 
 // A refusal puts back what stood there.
-fn settled(written: Written, before: &[u8], out: &mut [u8]) -> Written
+fn settled(written: Result<usize, Refusal>, before: &[u8], out: &mut [u8]) -> Result<usize, Refusal>
     requires { length before.now ≤ length out.old }
     ensures { record { result = result; out = out.new } ≡ settled written before.now out.old }
 {
@@ -99,7 +99,7 @@ fn settled(written: Written, before: &[u8], out: &mut [u8]) -> Written
 // ---- a text to data bytes, and data bytes to a text, each in one walk
 
 // A data byte for each symbol, or 15 at the first byte that begins none.
-fn put_bytes(mode: u8, text: &[u8], out: &mut [u8]) -> Written
+fn put_bytes(mode: u8, text: &[u8], out: &mut [u8]) -> Result<usize, Refusal>
     requires { Sizes (length text.now) mode 80 (length out.old) }
     ensures { Put (spelled text.now) (map (byte_of mode) (spelled text.now).symbols) 80 out.old out.new result }
 {
@@ -120,7 +120,7 @@ fn put_bytes(mode: u8, text: &[u8], out: &mut [u8]) -> Written
 }
 
 // The text of each byte, or 15 at the first that is no symbol's. A point is put after each, and the next symbol over it where it does not belong; where no symbol comes, what stood there.
-fn put_texts(mode: u8, segments: &[u8], before: &[u8], out: &mut [u8]) -> Written
+fn put_texts(mode: u8, segments: &[u8], before: &[u8], out: &mut [u8]) -> Result<usize, Refusal>
     requires { Sizes (length segments.now) mode 160 (length out.old) × (before.now ≡ take 160 out.old) }
     ensures { Put (read_from mode 0 segments.now) (texts_of (read_from mode 0 segments.now).symbols) 160 out.old out.new result }
 {
@@ -147,46 +147,32 @@ fn put_texts(mode: u8, segments: &[u8], before: &[u8], out: &mut [u8]) -> Writte
 // ---- the calls
 
 // 2, 6, 9.
-fn check_sizes(size: usize, mode: u8, room: usize, out: usize) -> Check
+fn check_sizes(size: usize, mode: u8, room: usize, out: usize) -> Result<(), Refusal>
     ensures { result ≡ check_price size mode room out }
 {
-    if size <= 80 {
-        if mode < 4 {
-            checks::unless(room <= out, Refusal::OutputLength)
-        } else {
-            Err(Refusal::Register)
-        }
-    } else {
-        Err(Refusal::LongTransfer)
-    }
+    checks::unless(size <= 80, Refusal::LongTransfer)?;
+    checks::unless(mode < 4, Refusal::Register)?;
+    checks::unless(room <= out, Refusal::OutputLength)
 }
 
 // A text's data bytes for an M, at the start of `out`, whose other bytes stay.
 // Refused by 2 for more than 80 bytes, 6 for an M over 3, 9 for an output under 80 bytes, then 15.
-pub fn write(mode: u8, text: &[u8], out: &mut [u8]) -> Written
+pub fn write(mode: u8, text: &[u8], out: &mut [u8]) -> Result<usize, Refusal>
     ensures out_after { record { result = result; out = out.new } ≡ price_write mode text.now out.old }
     ensures result_value { written_numbers result ≡ written_numbers (price_write mode text.now out.old).result }
 {
-    match check_sizes(text.len(), mode, 80, out.len()) {
-        Err(refusal) => Err(refusal),
-        Ok(()) => {
-            let before = bytes_before(out);
-            settled(put_bytes(mode, text, out), &before, out)
-        }
-    }
+    check_sizes(text.len(), mode, 80, out.len())?;
+    let before = bytes_before(out);
+    settled(put_bytes(mode, text, out), &before, out)
 }
 
 // The text that data bytes show, with the plain minus, at the start of `out`, whose other bytes stay.
 // Refused by 2 for more than 80 bytes, 6 for an M over 3, 9 for an output under 160 bytes, then 15.
-pub fn read(mode: u8, segments: &[u8], out: &mut [u8]) -> Written
+pub fn read(mode: u8, segments: &[u8], out: &mut [u8]) -> Result<usize, Refusal>
     ensures out_after { record { result = result; out = out.new } ≡ price_read mode segments.now out.old }
     ensures result_value { written_numbers result ≡ written_numbers (price_read mode segments.now out.old).result }
 {
-    match check_sizes(segments.len(), mode, 160, out.len()) {
-        Err(refusal) => Err(refusal),
-        Ok(()) => {
-            let before = text_before(out);
-            settled(put_texts(mode, segments, &before, out), &before, out)
-        }
-    }
+    check_sizes(segments.len(), mode, 160, out.len())?;
+    let before = text_before(out);
+    settled(put_texts(mode, segments, &before, out), &before, out)
 }

@@ -9,7 +9,7 @@ ghost use Rattle.sheet.specs.Registers.{known};
 ghost use Rattle.sheet.specs.Checks.{unless, fault_of, fault, marks_of, marks_after, last_fault, fault_in, fault_of_sent};
 ghost use Rattle.protocol.specs.Left.{only_left, undefined_in, all_defined};
 
-use sheet::{Check, Expect, Kind, Marks, Refusal};
+use sheet::{Expect, Kind, Marks, Refusal};
 
 // ---- what a byte is
 
@@ -71,7 +71,7 @@ pub fn is_data(expect: Expect) -> bool
 // ---- the first fault
 
 // The fault of a byte of a kind, at place i.
-fn fault_of(part: u8, marks: Marks, kind: Kind, i: usize, byte: u8) -> Check
+fn fault_of(part: u8, marks: Marks, kind: Kind, i: usize, byte: u8) -> Result<(), Refusal>
     ensures { result ≡ fault_of (part_of part) marks kind i byte }
 {
     match kind {
@@ -83,7 +83,7 @@ fn fault_of(part: u8, marks: Marks, kind: Kind, i: usize, byte: u8) -> Check
     }
 }
 
-fn fault(part: u8, marks: Marks, expect: Expect, i: usize, byte: u8) -> Check
+fn fault(part: u8, marks: Marks, expect: Expect, i: usize, byte: u8) -> Result<(), Refusal>
     ensures { result ≡ fault (part_of part) marks expect i byte }
 {
     match expect {
@@ -114,7 +114,7 @@ fn marks_after(part: u8, marks: Marks, expect: Expect, byte: u8) -> Marks
 }
 
 // The fault of a byte that is cut, if there is one.
-fn last_fault(cut: bool, marks: Marks, expect: Expect, i: usize) -> Check
+fn last_fault(cut: bool, marks: Marks, expect: Expect, i: usize) -> Result<(), Refusal>
     ensures { result ≡ last_fault cut marks expect i }
 {
     if cut & is_data(expect) {
@@ -169,7 +169,7 @@ fn after_defined(part: u8, bytes: &[u8], from: usize) -> usize
 }
 
 // The first byte, from a place on, that is no command.
-fn undefined_from(part: u8, bytes: &[u8], from: usize) -> Check
+fn undefined_from(part: u8, bytes: &[u8], from: usize) -> Result<(), Refusal>
     requires { from ≤ length bytes.now }
     ensures { result ≡ undefined_in (part_of part) from (drop from bytes.now) }
 {
@@ -185,7 +185,7 @@ fn undefined_from(part: u8, bytes: &[u8], from: usize) -> Check
 }
 
 // The first fault of whole bytes, from the control byte at a place on, and of one that is cut after them.
-fn fault_in(part: u8, cut: bool, initial: Marks, bytes: &[u8], from: usize) -> Check
+fn fault_in(part: u8, cut: bool, initial: Marks, bytes: &[u8], from: usize) -> Result<(), Refusal>
     ensures { result ≡ fault_in (part_of part) cut initial Expect.Control from (drop from bytes.now) }
 {
     let mut expect = Expect::Control;
@@ -210,7 +210,7 @@ fn fault_in(part: u8, cut: bool, initial: Marks, bytes: &[u8], from: usize) -> C
 }
 
 // The first fault of a transfer to chips with these marks. Nothing is changed.
-pub fn first_fault(part: u8, marks: Marks, bytes: &[u8], bits: u8) -> Check
+pub fn first_fault(part: u8, marks: Marks, bytes: &[u8], bits: u8) -> Result<(), Refusal>
     ensures { result ≡ fault_of_sent (part_of part) marks (sent bytes.now bits) }
 {
     let whole = checks::whole_count(bytes.len(), bits);
@@ -218,7 +218,7 @@ pub fn first_fault(part: u8, marks: Marks, bytes: &[u8], bits: u8) -> Check
 }
 
 // The fault of a run of data from place i to the end, of which a byte came, whole or cut: its place, while a mark is unknown.
-fn run_fault(came: bool, marks: Marks, i: usize) -> Check
+fn run_fault(came: bool, marks: Marks, i: usize) -> Result<(), Refusal>
     ensures { result ≡ cond came (unless (known marks) (UnknownPlace i)) (Ok tt) }
 {
     if came {
@@ -229,7 +229,7 @@ fn run_fault(came: bool, marks: Marks, i: usize) -> Check
 }
 
 // The first fault of what is left of a transfer from a control byte on: mostly a run of data, which has one place to look at.
-pub fn fault_from(part: u8, cut: bool, marks: Marks, bytes: &[u8], from: usize) -> Check
+pub fn fault_from(part: u8, cut: bool, marks: Marks, bytes: &[u8], from: usize) -> Result<(), Refusal>
     requires { from < length bytes.now }
     ensures { result ≡ fault_in (part_of part) cut marks Expect.Control from (drop from bytes.now) }
 {

@@ -6,7 +6,7 @@ ghost use Rattle.log_sheet.specs.Records.{length_of};
 ghost use Rattle.log_sheet.specs.Logs.{log_chips, seen_bytes, log_records, check_head, seen_in};
 ghost use Rattle.records.specs.Found.{record_in, Counted, AllCounted};
 
-use sheet::{Check, Chips, Refusal};
+use sheet::{Chips, Refusal};
 
 // ---- the head
 
@@ -21,18 +21,16 @@ pub fn chips_of(log: &[u8]) -> Chips
 }
 
 // 14, 12, 3. Logs are the PCF8532's.
-pub fn check_head(log: &[u8]) -> Check
+pub fn check_head(log: &[u8]) -> Result<(), Refusal>
     ensures { result ≡ check_head log.now }
 {
-    if 65536 < log.len() {
-        return Err(Refusal::LongLog);
-    }
+    checks::unless(log.len() <= 65536, Refusal::LongLog)?;
     let version = checks::byte_at(log, 0);
-    if (3 <= log.len()) & ((version == 1) | (version == 2)) {
-        checks::check_chips(sheet::PCF8532, chips_of(log))
-    } else {
-        Err(Refusal::LogHead)
-    }
+    checks::unless(
+        (3 <= log.len()) & ((version == 1) | (version == 2)),
+        Refusal::LogHead,
+    )?;
+    checks::check_chips(sheet::PCF8532, chips_of(log))
 }
 
 // ---- the records
@@ -109,7 +107,7 @@ impl Cursor {
 }
 
 // The first record that is cut short or has too short a body, if there is one.
-pub fn check_records(log: &[u8]) -> Check
+pub fn check_records(log: &[u8]) -> Result<(), Refusal>
     ensures value { result ≡ (log_records log.now).tear }
     ensures all_counted { AllCounted (log_records log.now).bodies }
 {

@@ -10,7 +10,7 @@ ghost use Rattle.packed_sheet.specs.Packed.{unpacked, columns_in};
 ghost use Rattle.writer_sheet.specs.Writer.{check_wanted};
 ghost use Rattle.refused.specs.Fitting.{fitting, state_by, picture_by};
 
-use sheet::{Addressed, Both, Check, Chips, Refusal};
+use sheet::{Both, Chips, Refusal};
 
 // Whether every register of both groups is in range.
 pub fn registers_fit(part: u8, registers: Both) -> bool
@@ -23,18 +23,15 @@ pub fn registers_fit(part: u8, registers: Both) -> bool
 
 // So many columns: 4, 5.
 #[tactic(auto, unfolding(sheet::specs::Checks::check_columns))]
-fn check_columns(size: usize, columns: &[u8]) -> Check
+fn check_columns(size: usize, columns: &[u8]) -> Result<(), Refusal>
     ensures { result ≡ check_columns size columns.now }
 {
-    if columns.len() == size {
-        checks::first_over(columns)
-    } else {
-        Err(Refusal::RamLength)
-    }
+    checks::unless(columns.len() == size, Refusal::RamLength)?;
+    checks::first_over(columns)
 }
 
 // So many packed columns: 4 where they are not half as many bytes. Every byte is two columns, so 5 can't occur.
-fn check_packed(size: usize, ram: &[u8]) -> Check
+fn check_packed(size: usize, ram: &[u8]) -> Result<(), Refusal>
     requires { size ≡ 2 * (size / 2) }
     ensures { result ≡ check_columns size (unpacked ram.now) }
 {
@@ -42,7 +39,7 @@ fn check_packed(size: usize, ram: &[u8]) -> Check
 }
 
 // The RAM, of columns that are a byte each or packed: 4, 5.
-fn check_ram(part: u8, chips: Chips, ram: &[u8], packed: bool) -> Check
+fn check_ram(part: u8, chips: Chips, ram: &[u8], packed: bool) -> Result<(), Refusal>
     ensures { result ≡ check_ram (part_of part) chips (columns_in packed ram.now) }
 {
     let size = arithmetic::columns_in(part, chips.zero as u16 + chips.one as u16);
@@ -54,47 +51,51 @@ fn check_ram(part: u8, chips: Chips, ram: &[u8], packed: bool) -> Check
 }
 
 // What every call begins with: 16, 3.
-fn check_bus(part: u8, chips: Chips) -> Check
+fn check_bus(part: u8, chips: Chips) -> Result<(), Refusal>
     ensures { result ≡ or_else (check_part part) (check_chips (part_of part) chips) }
 {
-    match checks::check_part(part) {
-        Err(refusal) => Err(refusal),
-        Ok(()) => checks::check_chips(part, chips),
-    }
+    checks::check_part(part)?;
+    checks::check_chips(part, chips)
 }
 
 // A power-on: 16, 3, 4, 5.
-pub fn check_power_on(part: u8, chips: Chips, ram: &[u8], packed: bool) -> Check
+pub fn check_power_on(part: u8, chips: Chips, ram: &[u8], packed: bool) -> Result<(), Refusal>
     ensures { result ≡ or_else (check_part part) (check_power_on (part_of part) chips (columns_in packed ram.now)) }
 {
-    match check_bus(part, chips) {
-        Err(refusal) => Err(refusal),
-        Ok(()) => check_ram(part, chips, ram, packed),
-    }
+    check_bus(part, chips)?;
+    check_ram(part, chips, ram, packed)
 }
 
 // And every call but a power-on: 16, 3, 6. Whether the registers fit is asked before, so that they are not handed on.
-fn check_registers(part: u8, chips: Chips, fit: bool) -> Check
+fn check_registers(part: u8, chips: Chips, fit: bool) -> Result<(), Refusal>
     ensures { result ≡ or_else (check_part part) (or_else (check_chips (part_of part) chips) (unless fit Register)) }
 {
-    match check_bus(part, chips) {
-        Err(refusal) => Err(refusal),
-        Ok(()) => checks::unless(fit, Refusal::Register),
-    }
+    check_bus(part, chips)?;
+    checks::unless(fit, Refusal::Register)
 }
 
 // And every call with a RAM: 16, 3, 6, 4, 5.
-pub fn check_state(part: u8, chips: Chips, fit: bool, ram: &[u8], packed: bool) -> Check
+pub fn check_state(
+    part: u8,
+    chips: Chips,
+    fit: bool,
+    ram: &[u8],
+    packed: bool,
+) -> Result<(), Refusal>
     ensures { result ≡ or_else (check_part part) (state_by (part_of part) chips fit (columns_in packed ram.now)) }
 {
-    match check_registers(part, chips, fit) {
-        Err(refusal) => Err(refusal),
-        Ok(()) => check_ram(part, chips, ram, packed),
-    }
+    check_registers(part, chips, fit)?;
+    check_ram(part, chips, ram, packed)
 }
 
 // The bytes of a transfer that a chip hears: 7, 17 and 18.
-fn check_bytes(part: u8, chips: Chips, registers: Both, bytes: &[u8], bits: u8) -> Check
+fn check_bytes(
+    part: u8,
+    chips: Chips,
+    registers: Both,
+    bytes: &[u8],
+    bits: u8,
+) -> Result<(), Refusal>
     ensures { result ≡ check_bytes (part_of part) registers (heard_by chips (address_byte (sent bytes.now bits))) (sent bytes.now bits) }
 {
     match groups::heard_by(chips, checks::address_byte(bytes, bits)) {
@@ -115,16 +116,12 @@ pub fn check_transfer(
     packed: bool,
     bytes: &[u8],
     bits: u8,
-) -> Check
+) -> Result<(), Refusal>
     ensures { result ≡ or_else (check_part part) (check_transfer (part_of part) chips registers (columns_in packed ram.now) (sent bytes.now bits)) }
 {
-    match check_state(part, chips, registers_fit(part, registers), ram, packed) {
-        Err(refusal) => Err(refusal),
-        Ok(()) => match checks::check_sent(bytes.len(), bits) {
-            Err(refusal) => Err(refusal),
-            Ok(()) => check_bytes(part, chips, registers, bytes, bits),
-        },
-    }
+    check_state(part, chips, registers_fit(part, registers), ram, packed)?;
+    checks::check_sent(bytes.len(), bits)?;
+    check_bytes(part, chips, registers, bytes, bits)
 }
 
 // A picture into a buffer of the given size: 16, 3, 6, 4, 5, 8, 9.
@@ -137,32 +134,22 @@ pub fn check_picture(
     ram: &[u8],
     packed: bool,
     size: usize,
-) -> Check
+) -> Result<(), Refusal>
     ensures { result ≡ or_else (check_part part) (picture_by (part_of part) chips fit (columns_in packed ram.now) group phase size) }
 {
-    match check_state(part, chips, fit, ram, packed) {
-        Err(refusal) => Err(refusal),
-        Ok(()) => {
-            if (group < 2) & (phase < 2) {
-                let wanted = arithmetic::columns_in(part, groups::chips_in(group, chips) as u16);
-                checks::unless(size == wanted, Refusal::OutputLength)
-            } else {
-                Err(Refusal::GroupOrPhase)
-            }
-        }
-    }
+    check_state(part, chips, fit, ram, packed)?;
+    checks::unless((group < 2) & (phase < 2), Refusal::GroupOrPhase)?;
+    let wanted = arithmetic::columns_in(part, groups::chips_in(group, chips) as u16);
+    checks::unless(size == wanted, Refusal::OutputLength)
 }
 
 // A group's rows: 8, 4, 5.
-fn check_rows(part: u8, chips: Chips, group: u8, rows: &[u8]) -> Check
+fn check_rows(part: u8, chips: Chips, group: u8, rows: &[u8]) -> Result<(), Refusal>
     ensures { result ≡ or_else (unless (ltb group 2) GroupOrPhase) (check_columns ((part_of part).columns * chips_in group chips) rows.now) }
 {
-    if group < 2 {
-        let size = arithmetic::columns_in(part, groups::chips_in(group, chips) as u16);
-        check_columns(size, rows)
-    } else {
-        Err(Refusal::GroupOrPhase)
-    }
+    checks::unless(group < 2, Refusal::GroupOrPhase)?;
+    let size = arithmetic::columns_in(part, groups::chips_in(group, chips) as u16);
+    check_columns(size, rows)
 }
 
 // A writer's wanted rows: 16, 3, 6 (also a wanted mode or bank out of range), 8, 4, 5.
@@ -174,27 +161,24 @@ pub fn check_wanted(
     mode: u8,
     bank: u8,
     wanted: &[u8],
-) -> Check
+) -> Result<(), Refusal>
     ensures { result ≡ or_else (check_part part) (check_wanted (part_of part) chips registers group mode bank wanted.now) }
 {
-    match check_registers(part, chips, registers_fit(part, registers)) {
-        Err(refusal) => Err(refusal),
-        Ok(()) => {
-            if (mode < 4) & (bank < 2) {
-                check_rows(part, chips, group, wanted)
-            } else {
-                Err(Refusal::Register)
-            }
-        }
-    }
+    check_registers(part, chips, registers_fit(part, registers))?;
+    checks::unless((mode < 4) & (bank < 2), Refusal::Register)?;
+    check_rows(part, chips, group, wanted)
 }
 
 // Those of a transfer for every element in 1:3: 16, 3, 6, 8, 4, 5. No call shares it, so that its registers are not handed on through memory.
-pub fn check_every(part: u8, chips: Chips, registers: Both, group: u8, wanted: &[u8]) -> Check
+pub fn check_every(
+    part: u8,
+    chips: Chips,
+    registers: Both,
+    group: u8,
+    wanted: &[u8],
+) -> Result<(), Refusal>
     ensures { result ≡ or_else (check_part part) (check_wanted (part_of part) chips registers group 3 0 wanted.now) }
 {
-    match check_registers(part, chips, registers_fit(part, registers)) {
-        Err(refusal) => Err(refusal),
-        Ok(()) => check_rows(part, chips, group, wanted),
-    }
+    check_registers(part, chips, registers_fit(part, registers))?;
+    check_rows(part, chips, group, wanted)
 }

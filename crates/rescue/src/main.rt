@@ -3,7 +3,8 @@
 #![tactic(auto)]
 
 use input::Input;
-use sheet::Rescued;
+use sheet::Kept;
+
 
 // A line of standard error: a letter, the numbers, and LF.
 fn report(rt: &HostRuntime, letter: &str, numbers: &[usize]) {
@@ -25,12 +26,12 @@ fn write_kept(rt: &HostRuntime, kept: &[u8], numbers: &[usize]) {
 fn rescue_log(rt: &HostRuntime, log: &[u8]) {
     let mut out = input::log_buffer();
     match torn::rescue(log, &mut out) {
-        Rescued::Kept {
+        Ok(Kept {
             records,
             bytes,
             dropped,
             tear,
-        } => write_kept(rt, &out[..bytes], &[records, bytes, dropped, tear]),
+        }) => write_kept(rt, &out[..bytes], &[records, bytes, dropped, tear]),
         Err(refusal) => report(
             rt,
             "X",

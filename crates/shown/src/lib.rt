@@ -4,7 +4,7 @@
 ghost use Rattle.std.specs.Prelude.{◌≡◌, cond, ◌-◌};
 ghost use Rattle.sheet.specs.Pictures.{shown};
 
-use sheet::{Registers, Shown};
+use sheet::Registers;
 
 // The bank that is shown: the group's own, or the other one.
 fn bank_shown(o: u8, other: bool) -> u8
@@ -14,7 +14,7 @@ fn bank_shown(o: u8, other: bool) -> u8
 }
 
 // What a group shows at a blink phase.
-pub fn shown(registers: Registers, phase: u8) -> Shown
+pub fn shown(registers: Registers, phase: u8) -> Option<usize>
     ensures { result ≡ shown registers phase }
 {
     let m = arithmetic::backplanes(registers);

@@ -8,7 +8,7 @@ ghost use Rattle.sheet.specs.Checks.{fault_of_sent};
 ghost use Rattle.starts.specs.Questions.{yes};
 ghost use Rattle.starts.specs.Starts.{mark_at, marks_found, check_bench, check_list, check_of, turn_at, start_of, answer_of};
 
-use sheet::{Acknowledger, Check, Chip, Expect, Marks, PlainAnswer, Refusal};
+use sheet::{Acknowledged, Chip, Expect, Marks, Refusal};
 use turns::{BusByte, Tally, Turn};
 
 // What a chip is asked: whether it is no chip of a part, or hears an address, or hears it and has a mark that is unknown.
@@ -41,7 +41,7 @@ pub fn address(bytes: &[u8], bits: u8) -> u8
     checks::address_byte(bytes, bits)
 }
 
-fn check_bytes(part: u8, bytes: &[u8], bits: u8, heard: bool, marks: Marks) -> Check
+fn check_bytes(part: u8, bytes: &[u8], bits: u8, heard: bool, marks: Marks) -> Result<(), Refusal>
     ensures { result ≡ cond heard (fault_of_sent (part_of part) marks (sent bytes.now bits)) (Ok tt) }
 {
     if heard {
@@ -52,13 +52,11 @@ fn check_bytes(part: u8, bytes: &[u8], bits: u8, heard: bool, marks: Marks) -> C
 }
 
 // The part, and how many chips there are: 16, 10.
-fn check_bench(part: u8, count: usize) -> Check
+fn check_bench(part: u8, count: usize) -> Result<(), Refusal>
     ensures { result ≡ check_bench part count }
 {
-    match checks::check_part(part) {
-        Err(refusal) => Err(refusal),
-        Ok(()) => checks::unless(count <= 2 * arithmetic::limit(part), Refusal::ManyChips),
-    }
+    checks::check_part(part)?;
+    checks::unless(count <= 2 * arithmetic::limit(part), Refusal::ManyChips)
 }
 
 // What the list was found to hold: how many chips, and where the first misfit, the first that hears, and the first that hears and has each mark unknown stand, or else the count.
@@ -91,27 +89,20 @@ fn marks_found(found: Found) -> Marks
 }
 
 // 11, 1, 2, 19, then 7, 17 and 18.
-fn check_chips(part: u8, bytes: &[u8], bits: u8, found: Found) -> Check
+fn check_chips(part: u8, bytes: &[u8], bits: u8, found: Found) -> Result<(), Refusal>
     ensures { result ≡ check_list part (sent bytes.now bits) found }
 {
     let marks = marks_found(found);
-    if found.count <= found.misfit {
-        match checks::check_sent(bytes.len(), bits) {
-            Err(refusal) => Err(refusal),
-            Ok(()) => check_bytes(part, bytes, bits, found.hearer < found.count, marks),
-        }
-    } else {
-        Err(Refusal::ChipField(found.misfit))
-    }
+    checks::unless(found.count <= found.misfit, Refusal::ChipField(found.misfit))?;
+    checks::check_sent(bytes.len(), bits)?;
+    check_bytes(part, bytes, bits, found.hearer < found.count, marks)
 }
 
-fn check_transfer(part: u8, bytes: &[u8], bits: u8, found: Found) -> Check
+fn check_transfer(part: u8, bytes: &[u8], bits: u8, found: Found) -> Result<(), Refusal>
     ensures { result ≡ check_of part (sent bytes.now bits) found }
 {
-    match check_bench(part, found.count) {
-        Err(refusal) => Err(refusal),
-        Ok(()) => check_chips(part, bytes, bits, found),
-    }
+    check_bench(part, found.count)?;
+    check_chips(part, bytes, bits, found)
 }
 
 fn turn_at(part: u8, bytes: &[u8], bits: u8, at: usize, acknowledged: usize) -> Turn
@@ -139,7 +130,7 @@ fn turn_at(part: u8, bytes: &[u8], bits: u8, at: usize, acknowledged: usize) -> 
 // Refused or taken, and the turn from which the chips follow.
 #[derive(Clone, Copy)]
 pub struct Start {
-    pub check: Check,
+    pub check: Result<(), Refusal>,
     pub turn: Turn,
 }
 
@@ -161,13 +152,12 @@ pub fn begin(bytes: &[u8], part: u8, bits: u8, found: Found) -> Start
     }
 }
 
-pub fn answer(check: Check, tally: Tally) -> PlainAnswer
+pub fn answer(check: Result<(), Refusal>, tally: Tally) -> Result<Acknowledged, Refusal>
     ensures { result ≡ answer_of check tally }
 {
-    let bytes = tally.acknowledged;
-    let last = tally.last;
-    match check {
-        Ok(()) => Ok(Acknowledged { bytes, last }),
-        Err(refusal) => Err(refusal),
-    }
+    check?;
+    Ok(Acknowledged {
+        bytes: tally.acknowledged,
+        last: tally.last,
+    })
 }

@@ -9,7 +9,7 @@ ghost use Rattle.writer_sheet.specs.Writer.{each_after80, mode_set_of};
 ghost use Rattle.writer_sheet.specs.Three.{byte_at, pairs_from, write_three_part};
 ghost use Rattle.three.specs.Room.{Byte, Four, Chip, Pairs, Three};
 
-use sheet::{Both, Check, Chips, Refusal, Registers, Written};
+use sheet::{Both, Chips, Refusal, Registers};
 
 // How long one data byte is with the commands before it.
 fn byte_size(part: u8) -> usize
@@ -139,23 +139,19 @@ pub fn write_three(
     group: u8,
     wanted: &[u8],
     out: &mut [u8],
-) -> Written
+) -> Result<usize, Refusal>
     ensures out_after { record { result = result; out = out.new } ≡ write_three_part part chips registers group wanted.now out.old }
     ensures result_value { written_numbers result ≡ written_numbers (write_three_part part chips registers group wanted.now out.old).result }
 {
-    match refused::check_every(part, chips, registers, group, wanted) {
-        Err(refusal) => Err(refusal),
-        Ok(()) => {
-            if groups::chips_in(group, chips) == 0 {
-                return Ok(0);
-            }
-            let own = groups::registers_of(group, registers);
-            let size = 3 + byte_size(part) * (wanted.len() / 2);
-            if out.len() < size {
-                return Err(Refusal::OutputLength);
-            }
-            put_three(part, group, own, wanted, &mut out[..size]);
-            Ok(size)
-        }
+    refused::check_every(part, chips, registers, group, wanted)?;
+    if groups::chips_in(group, chips) == 0 {
+        return Ok(0);
     }
+    let own = groups::registers_of(group, registers);
+    let size = 3 + byte_size(part) * (wanted.len() / 2);
+    if out.len() < size {
+        return Err(Refusal::OutputLength);
+    }
+    put_three(part, group, own, wanted, &mut out[..size]);
+    Ok(size)
 }

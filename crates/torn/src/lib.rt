@@ -7,7 +7,7 @@ ghost use Rattle.log_sheet.specs.Logs.{log_records};
 ghost use Rattle.log_sheet.specs.Rescue.{kept_of, check_rescue, rescue_call};
 
 use records::{Cursor, Record};
-use sheet::{Check, Refusal, Rescued};
+use sheet::{Kept, Refusal};
 
 // The whole records of a log before the first tear, and where they end.
 #[derive(Clone, Copy)]
@@ -39,32 +39,26 @@ fn whole_of(log: &[u8]) -> Whole
 }
 
 // 14, 12, 3, then 9 for an output shorter than the log.
-fn check(log: &[u8], size: usize) -> Check
+fn check(log: &[u8], size: usize) -> Result<(), Refusal>
     ensures { result ≡ check_rescue log.now size }
 {
-    match records::check_head(log) {
-        Err(refusal) => Err(refusal),
-        Ok(()) => checks::unless(log.len() <= size, Refusal::OutputLength),
-    }
+    records::check_head(log)?;
+    checks::unless(log.len() <= size, Refusal::OutputLength)
 }
 
 // Copies the head and the whole records before the first tear to the start of `out`, whose other bytes stay.
-pub fn rescue(log: &[u8], out: &mut [u8]) -> Rescued
+pub fn rescue(log: &[u8], out: &mut [u8]) -> Result<Kept, Refusal>
     ensures out_after { record { result = result; out = out.new } ≡ rescue_call log.now out.old }
     ensures result_value { rescued_numbers result ≡ rescued_numbers (rescue_call log.now out.old).result }
 {
-    match check(log, out.len()) {
-        Err(refusal) => Err(refusal),
-        Ok(()) => {
-            let whole = whole_of(log);
-            let end = whole.end;
-            copies::copy(&log[..end], &mut out[..end]);
-            Rescued::Kept {
-                records: whole.records,
-                bytes: end,
-                dropped: log.len() - end,
-                tear: end,
-            }
-        }
-    }
+    check(log, out.len())?;
+    let whole = whole_of(log);
+    let end = whole.end;
+    copies::copy(&log[..end], &mut out[..end]);
+    Ok(Kept {
+        records: whole.records,
+        bytes: end,
+        dropped: log.len() - end,
+        tear: end,
+    })
 }

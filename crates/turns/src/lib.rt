@@ -6,7 +6,7 @@ ghost use Rattle.sheet.specs.Plain.{lower, last_of, last_after};
 ghost use Rattle.turns.specs.Asking.{answers, one_or, alike_of, nothing_said, said_with, taken, ran_by};
 ghost use Rattle.turns.specs.Turns.{once_each, last_heard, turn_past, most_of, most_after, most_in, taken_by, reach_of};
 
-use sheet::{Acknowledger, Chip, Expect, Kind};
+use sheet::{Chip, Expect, Kind};
 
 // ---- one chip, by value
 
@@ -30,7 +30,7 @@ fn acknowledges(chip: Chip, heard: BusByte) -> bool
 }
 
 // A subaddress and the smallest of the others.
-fn lower(subaddress: usize, others: Acknowledger) -> Acknowledger
+fn lower(subaddress: usize, others: Option<usize>) -> Option<usize>
     ensures { result ≡ lower subaddress others }
 {
     match others {
@@ -42,7 +42,7 @@ fn lower(subaddress: usize, others: Acknowledger) -> Acknowledger
 }
 
 // Who acknowledges a byte of this chip and the others.
-fn with_chip(chip: Chip, heard: BusByte, others: Acknowledger) -> Acknowledger
+fn with_chip(chip: Chip, heard: BusByte, others: Option<usize>) -> Option<usize>
     ensures { result ≡ cond (answers heard chip) (lower chip.subaddress others) others }
 {
     let subaddress = chip.subaddress as usize;
@@ -78,7 +78,7 @@ fn alike(chip: Chip, heard: BusByte, most: usize) -> usize
 // What the chips say of a byte: who acknowledges it, and how many bytes from it on they all answer alike.
 #[derive(Clone, Copy)]
 pub struct Said {
-    pub who: Acknowledger,
+    pub who: Option<usize>,
     pub count: usize,
 }
 
@@ -136,7 +136,7 @@ fn take_run(bytes: &[u8], chip: Chip, heard: BusByte) -> Chip
 #[derive(Clone, Copy)]
 pub struct Tally {
     pub acknowledged: usize,
-    pub last: Acknowledger,
+    pub last: Option<usize>,
 }
 
 // The byte that comes next, its place, whether the transfer's last is cut, and what is acknowledged so far.
@@ -149,7 +149,7 @@ pub struct Turn {
 }
 
 // Each of so many bytes counts once however many chips acknowledge it.
-fn counted(acknowledged: usize, who: Acknowledger, count: usize) -> usize
+fn counted(acknowledged: usize, who: Option<usize>, count: usize) -> usize
     requires { acknowledged + count < 2 ^ 64 }
     ensures { result ≡ acknowledged + once_each count who }
 {
@@ -160,7 +160,7 @@ fn counted(acknowledged: usize, who: Acknowledger, count: usize) -> usize
 }
 
 // Who acknowledged the last data byte, after a byte of a kind.
-fn last_of(kind: Kind, who: Acknowledger, last: Acknowledger) -> Acknowledger
+fn last_of(kind: Kind, who: Option<usize>, last: Option<usize>) -> Option<usize>
     ensures { result ≡ last_of kind who last }
 {
     match kind {
@@ -169,7 +169,7 @@ fn last_of(kind: Kind, who: Acknowledger, last: Acknowledger) -> Acknowledger
     }
 }
 
-fn last_after(expect: Expect, who: Acknowledger, last: Acknowledger) -> Acknowledger
+fn last_after(expect: Expect, who: Option<usize>, last: Option<usize>) -> Option<usize>
     ensures { result ≡ last_after expect who last }
 {
     match expect {
@@ -180,7 +180,7 @@ fn last_after(expect: Expect, who: Acknowledger, last: Acknowledger) -> Acknowle
 }
 
 // And after any byte: one that is cut is not the last data byte.
-fn last_heard(heard: BusByte, who: Acknowledger, last: Acknowledger) -> Acknowledger
+fn last_heard(heard: BusByte, who: Option<usize>, last: Option<usize>) -> Option<usize>
     ensures { result ≡ last_heard heard who last }
 {
     let expect = heard.expect;

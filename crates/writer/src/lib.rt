@@ -9,7 +9,7 @@ ghost use Rattle.sheet.specs.Protocol.{address_of};
 ghost use Rattle.writer_sheet.specs.Writer.{each_after80, mode_set_of, bank_select_of, settings, set_to, bytes_for, data_of, write_rows_part};
 ghost use Rattle.writer.specs.Room.{Settled, Room};
 
-use sheet::{Both, Check, Chips, Refusal, Registers, Written};
+use sheet::{Both, Chips, Refusal, Registers};
 
 // ---- the head: the address, the commands each after 80, and the 40 before the data
 
@@ -123,23 +123,19 @@ pub fn write_rows(
     bank: u8,
     wanted: &[u8],
     out: &mut [u8],
-) -> Written
+) -> Result<usize, Refusal>
     ensures out_after { record { result = result; out = out.new } ≡ write_rows_part part chips registers group mode bank wanted.now out.old }
     ensures result_value { written_numbers result ≡ written_numbers (write_rows_part part chips registers group mode bank wanted.now out.old).result }
 {
-    match refused::check_wanted(part, chips, registers, group, mode, bank, wanted) {
-        Err(refusal) => Err(refusal),
-        Ok(()) => {
-            if groups::chips_in(group, chips) == 0 {
-                return Ok(0);
-            }
-            let own = groups::registers_of(group, registers);
-            let size = rows_size(part, backplanes_of(own, mode), wanted.len());
-            if out.len() < size {
-                return Err(Refusal::OutputLength);
-            }
-            put_rows(part, group, own, mode, bank, wanted, &mut out[..size]);
-            Ok(size)
-        }
+    refused::check_wanted(part, chips, registers, group, mode, bank, wanted)?;
+    if groups::chips_in(group, chips) == 0 {
+        return Ok(0);
     }
+    let own = groups::registers_of(group, registers);
+    let size = rows_size(part, backplanes_of(own, mode), wanted.len());
+    if out.len() < size {
+        return Err(Refusal::OutputLength);
+    }
+    put_rows(part, group, own, mode, bank, wanted, &mut out[..size]);
+    Ok(size)
 }
