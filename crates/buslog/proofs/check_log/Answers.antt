@@ -5,10 +5,10 @@ use Rattle.log_sheet.specs.Logs.{check_log}
 use Rattle.laws.proofs.Rescued.{never}
 use Rattle.buslog.proofs.check_log.Goals as goal
 
-pub returns-in-Refused : goal.returns-in-Refused
+pub returns-in-Err : goal.returns-in-Err
 unfolding check_log
-returns-in-Refused c = record { value = rw (sym c.check_head.ensures ∙ c.in-Refused.is); all_counted = never _ }
+returns-in-Err c = record { value = rw (sym c.check_head.ensures ∙ c.in-Err.is); all_counted = never _ }
 
-pub returns-in-Passed : goal.returns-in-Passed
+pub returns-in-Ok : goal.returns-in-Ok
 unfolding check_log
-returns-in-Passed c = record { value = rw (sym c.check_head.ensures ∙ c.in-Passed.is) c.check_records.ensures.value; all_counted = λ _. c.check_records.ensures.all_counted }
+returns-in-Ok c = record { value = rw (sym c.check_head.ensures ∙ c.in-Ok.is) c.check_records.ensures.value; all_counted = λ _. c.check_records.ensures.all_counted }

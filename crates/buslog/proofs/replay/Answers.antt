@@ -35,15 +35,15 @@ returns-then-out-lt-TEXT c = let e = lt-ltb (length c.args.out.now) room c.if-ou
     record { out_after = rw e; value = rw e; inside = tt }
 
 pub put_refusal-requires : goal.put_refusal-requires
-put_refusal-requires c = omega (arith, ap length (text-refused c.args.log.now c.in-Refused.refusal (sym c.check_log.ensures.value ∙ c.in-Refused.is)), text-few c.args.log.now (λ e. c.check_log.ensures.all_counted (c.check_log.ensures.value ∙ e)))
+put_refusal-requires c = omega (arith, ap length (text-refused c.args.log.now c.in-Err.refusal (sym c.check_log.ensures.value ∙ c.in-Err.is)), text-few c.args.log.now (λ e. c.check_log.ensures.all_counted (c.check_log.ensures.value ∙ e)))
 
 pub put_log-requires : goal.put_log-requires
-put_log-requires c = record { log_value = sym c.check_log.ensures.value ∙ c.in-Passed.is; log_in_bounds = omega (arith, text-few c.args.log.now (λ e. c.check_log.ensures.all_counted (c.check_log.ensures.value ∙ e))) }
+put_log-requires c = record { log_value = sym c.check_log.ensures.value ∙ c.in-Ok.is; log_in_bounds = omega (arith, text-few c.args.log.now (λ e. c.check_log.ensures.all_counted (c.check_log.ensures.value ∙ e))) }
 
-pub returns-in-Refused : goal.returns-in-Refused
-returns-in-Refused c = let w = whole c.args.log.now c.args.out.now _ _ (omega arith) (text-few c.args.log.now (λ e. c.check_log.ensures.all_counted (c.check_log.ensures.value ∙ e))) (rw (text-refused c.args.log.now c.in-Refused.refusal (sym c.check_log.ensures.value ∙ c.in-Refused.is)) c.put_refusal.ensures) in
+pub returns-in-Err : goal.returns-in-Err
+returns-in-Err c = let w = whole c.args.log.now c.args.out.now _ _ (omega arith) (text-few c.args.log.now (λ e. c.check_log.ensures.all_counted (c.check_log.ensures.value ∙ e))) (rw (text-refused c.args.log.now c.in-Err.refusal (sym c.check_log.ensures.value ∙ c.in-Err.is)) c.put_refusal.ensures) in
     record { out_after = w.0; value = w.1.0; inside = w.1.1 }
 
-pub returns-in-Passed : goal.returns-in-Passed
-returns-in-Passed c = let w = whole c.args.log.now c.args.out.now _ _ (omega arith) (text-few c.args.log.now (λ e. c.check_log.ensures.all_counted (c.check_log.ensures.value ∙ e))) c.put_log.ensures in
+pub returns-in-Ok : goal.returns-in-Ok
+returns-in-Ok c = let w = whole c.args.log.now c.args.out.now _ _ (omega arith) (text-few c.args.log.now (λ e. c.check_log.ensures.all_counted (c.check_log.ensures.value ∙ e))) c.put_log.ensures in
     record { out_after = w.0; value = w.1.0; inside = w.1.1 }

@@ -13,7 +13,7 @@ inside : (s : WrittenAfter) (result : Written) (before after : List ℕ) (count 
 inside s result before after count few e is same = omega (arith, few count (sym (ap (λ (a : WrittenAfter). a.result) e) ∙ is), same)
 
 pub slice_bounds-file-end : goal.slice_bounds-file-end
-slice_bounds-file-end c = inside _ _ _ _ _ (written-inside _ _ _ _) c.write.ensures.out_after c.in-Bytes.is c.write.auto.out
+slice_bounds-file-end c = inside _ _ _ _ _ (written-inside _ _ _ _) c.write.ensures.out_after c.in-Ok.is c.write.auto.out
 
 pub slice_bounds-write_file-end : goal.slice_bounds-write_file-end
-slice_bounds-write_file-end c = sym (length-take-le _ _ (inside _ _ _ _ _ (written-inside _ _ _ _) c.write.ensures.out_after c.in-Bytes.is c.write.auto.out))
+slice_bounds-write_file-end c = sym (length-take-le _ _ (inside _ _ _ _ _ (written-inside _ _ _ _) c.write.ensures.out_after c.in-Ok.is c.write.auto.out))

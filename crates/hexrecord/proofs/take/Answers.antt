@@ -15,21 +15,21 @@ use Rattle.hexrecord.proofs.take.Goals as goal
 by-fault : (k l : Check) (kind next : ℕ) (given bytes : List ℕ) → l ≡ k → (step_of k kind next ≡ step_of l kind next) × (given_after k given bytes ≡ given_after l given bytes)
 by-fault k l kind next given bytes e = (ap (λ (x : Check). step_of x kind next) (sym e), ap (λ (x : Check). given_after x given bytes) (sym e))
 
-pub returns-in-Refused : goal.returns-in-Refused
-returns-in-Refused c = let a = c.args in
-    let b = by-fault _ _ (kind_of a.bytes.now) a.next a.given.now a.bytes.now (sym c.fault.ensures ∙ c.in-Refused.is) in
+pub returns-in-Err : goal.returns-in-Err
+returns-in-Err c = let a = c.args in
+    let b = by-fault _ _ (kind_of a.bytes.now) a.next a.given.now a.bytes.now (sym c.fault.ensures ∙ c.in-Err.is) in
     record { value = b.0; given_after = b.1 }
 
 pub store-requires : goal.store-requires
-store-requires c = (c.requires, passed-inside c.args.given.now c.args.at c.args.bytes.now (sym c.fault.ensures ∙ c.in-Passed.is))
+store-requires c = (c.requires, passed-inside c.args.given.now c.args.at c.args.bytes.now (sym c.fault.ensures ∙ c.in-Ok.is))
 
 -- a record that was stored: the last, or not
 pub returns-then-bytes-eq1 : goal.returns-then-bytes-eq1
 returns-then-bytes-eq1 c = let a = c.args in
-    let b = by-fault (Ok tt) (fault_of a.given.now a.at a.bytes.now) (kind_of a.bytes.now) a.next a.given.now a.bytes.now (sym c.fault.ensures ∙ c.in-Passed.is) in
+    let b = by-fault (Ok tt) (fault_of a.given.now a.at a.bytes.now) (kind_of a.bytes.now) a.next a.given.now a.bytes.now (sym c.fault.ensures ∙ c.in-Ok.is) in
     record { value = rw (eq-eqb _ _ c.if-bytes-eq1.true) at b.0; given_after = c.store.ensures ∙ b.1 }
 
 pub returns-else-bytes-eq1 : goal.returns-else-bytes-eq1
 returns-else-bytes-eq1 c = let a = c.args in
-    let b = by-fault (Ok tt) (fault_of a.given.now a.at a.bytes.now) (kind_of a.bytes.now) a.next a.given.now a.bytes.now (sym c.fault.ensures ∙ c.in-Passed.is) in
+    let b = by-fault (Ok tt) (fault_of a.given.now a.at a.bytes.now) (kind_of a.bytes.now) a.next a.given.now a.bytes.now (sym c.fault.ensures ∙ c.in-Ok.is) in
     record { value = rw (ne_eqb _ _ c.if-bytes-eq1.false) at b.0; given_after = c.store.ensures ∙ b.1 }

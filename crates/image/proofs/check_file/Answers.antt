@@ -17,15 +17,15 @@ use Rattle.image.proofs.check_file.Goals as goal
 chips-are : (part chips : ℕ) (n : Chips) (k l : Check) → n ≡ one_group chips → k ≡ check_chips (part_of part) n → k ≡ l → check_chips (part_of part) (one_group chips) ≡ l
 chips-are part chips n k l g told e = ap (λ (m : Chips). check_chips (part_of part) m) (sym g) ∙ sym told ∙ e
 
-pub returns-in-Refused : goal.returns-in-Refused
+pub returns-in-Err : goal.returns-in-Err
 unfolding check_file
-returns-in-Refused c = rw (sym c.check_part.ensures ∙ c.in-Refused.is) refl
+returns-in-Err c = rw (sym c.check_part.ensures ∙ c.in-Err.is) refl
 
-pub returns-in-Refused-check_chips : goal.returns-in-Refused-check_chips
+pub returns-in-Err-check_chips : goal.returns-in-Err-check_chips
 unfolding check_file
-returns-in-Refused-check_chips c = rw (sym c.check_part.ensures ∙ c.in-Passed.is, chips-are c.args.part c.args.chips c.one_group.result _ _ c.one_group.ensures c.check_chips.ensures c.in-Refused-check_chips.is) refl
+returns-in-Err-check_chips c = rw (sym c.check_part.ensures ∙ c.in-Ok.is, chips-are c.args.part c.args.chips c.one_group.result _ _ c.one_group.ensures c.check_chips.ensures c.in-Err-check_chips.is) refl
 
 pub returns-else-file-le65536 : goal.returns-else-file-le65536
 unfolding check_file
 returns-else-file-le65536 c =
-    rw (sym c.check_part.ensures ∙ c.in-Passed.is, chips-are c.args.part c.args.chips c.one_group.result _ _ c.one_group.ensures c.check_chips.ensures c.in-Passed-check_chips.is, lt-leb c.args.file 65536 c.if-file-le65536.false) refl
+    rw (sym c.check_part.ensures ∙ c.in-Ok.is, chips-are c.args.part c.args.chips c.one_group.result _ _ c.one_group.ensures c.check_chips.ensures c.in-Ok-check_chips.is, lt-leb c.args.file 65536 c.if-file-le65536.false) refl

@@ -12,14 +12,14 @@ put_bench-requires c = let a = c.args in
     let f = followed a.part (sent a.bytes.now a.bits) c.bench_of-before.ensures c.transfer_bench-done.ensures.value in
     (omega arith, omega arith, f.1.size)
 
-pub returns-in-Acknowledged : goal.returns-in-Acknowledged
+pub returns-in-Ok : goal.returns-in-Ok
 unfolding lent_call
-returns-in-Acknowledged c = let a = c.args in
+returns-in-Ok c = let a = c.args in
     let f = followed a.part (sent a.bytes.now a.bits) c.bench_of-before.ensures c.transfer_bench-done.ensures.value in
-    rw (c.put_bench.ensures, f.1.count, f.1.first, f.0, sym f.0 ∙ c.in-Acknowledged.is)
+    rw (c.put_bench.ensures, f.1.count, f.1.first, f.0, sym f.0 ∙ c.in-Ok.is)
 
-pub returns-in-Refused : goal.returns-in-Refused
+pub returns-in-Err : goal.returns-in-Err
 unfolding lent_call
-returns-in-Refused c = let a = c.args in
+returns-in-Err c = let a = c.args in
     let f = followed a.part (sent a.bytes.now a.bits) c.bench_of-before.ensures c.transfer_bench-done.ensures.value in
-    rw (sym f.0 ∙ c.in-Refused.is)
+    rw (sym f.0 ∙ c.in-Err.is)

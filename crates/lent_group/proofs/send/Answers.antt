@@ -41,14 +41,14 @@ send_rest-requires c = let a = c.args in
       asked = subst (λ (l : List ℕ). Asked K a.bus.chips l (columns_in a.bus.packed a.ram.now) t a.answer.now) (sym held) c.requires;
       twelve = c.open-opening.ensures.1;
       opening =
-          (λ j. record { fault = sym c.in-Passed.is j; registers = registers_in c.open-opening.new.set; at = c.open-opening.result.at })
+          (λ j. record { fault = sym c.in-Ok.is j; registers = registers_in c.open-opening.new.set; at = c.open-opening.result.at })
           ∙ told
           ∙ ap (λ (l : List ℕ). opened K (registers_in l) 1 (drop 1 (whole_of t))) (sym held);
       more = subst (λ (l : List ℕ). c.open-opening.result.at < length l) whole (rw (← size) c.if-from-whole.true);
     }
 
-pub returns-in-Refused : goal.returns-in-Refused
-returns-in-Refused c = let a = c.args in
+pub returns-in-Err : goal.returns-in-Err
+returns-in-Err c = let a = c.args in
     let K = part_of a.bus.part in
     let t = sent a.bytes.now a.bits in
     let whole = ap (λ (k : ℕ). take k a.bytes.now) c.whole_count-whole.ensures ∙ whole-taken a.bytes.now a.bits in
@@ -56,10 +56,10 @@ returns-in-Refused c = let a = c.args in
     let told = c.open-opening.ensures.0 ∙ ap (λ (l : List ℕ). opened K (registers_in a.set.now) 1 (drop 1 l)) whole in
     let opens = opens-whole K (registers_in a.set.now) t opening c.requires.some told in
     let ram = columns_in a.bus.packed a.ram.now in
-    let x = c.in-Refused.refusal in
+    let x = c.in-Err.refusal in
     said-numbers K (record { answer = Err x; set = c.take_back.new.set; ram = ram }) _ (c.say.ensures.value, c.say.ensures.answer_after)
     (◌∙◌ {A = SetAfter} (λ i. record { answer = Err x; set = (c.take_back.ensures ∙ c.keep-kept.ensures) i; ram = ram })
-    (opening-refused K a.bus.chips a.group a.set.now ram t opening opens _ c.in-Refused.is))
+    (opening-refused K a.bus.chips a.group a.set.now ram t opening opens _ c.in-Err.is))
 
 pub returns-then-from-whole : goal.returns-then-from-whole
 returns-then-from-whole c = let a = c.args in
@@ -83,7 +83,7 @@ returns-else-from-whole c = let a = c.args in
     (◌∙◌ {A = SetAfter}
     (λ i. record { answer = Ok (record { counts = record { acknowledged = at; stored = 0; discarded = 0 }; last = None }); set = sym (registers-back after c.open-opening.ensures.1 (λ k. (c.type_inv.set k).fits)) i; ram = ram })
     (ap heard_set (none-heard K a.bus.chips a.group a.set.now ram t opening opens all)
-    ∙ rest-heard K a.bus.chips a.group a.set.now ram t opening opens c.in-Passed.is (none-looked K a.bus.chips a.group a.set.now ram t opening opens all)))
+    ∙ rest-heard K a.bus.chips a.group a.set.now ram t opening opens c.in-Ok.is (none-looked K a.bus.chips a.group a.set.now ram t opening opens all)))
 
 pub say-requires : goal.say-requires
 say-requires c = c.requires.six

@@ -50,8 +50,8 @@ hear_rest-requires c = let a = c.args in
       six = c.requires.asked.six;
     }
 
-pub returns-in-Refused : goal.returns-in-Refused
-returns-in-Refused c = let a = c.args in
+pub returns-in-Err : goal.returns-in-Err
+returns-in-Err c = let a = c.args in
     let K = part_of a.bus.part in
     let t = sent a.bytes.now a.bits in
     let opening : Opening = record { fault = (Ok tt); registers = registers_in a.set.now; at = a.from } in
@@ -59,13 +59,13 @@ returns-in-Refused c = let a = c.args in
     let whole = ap (λ (k : ℕ). take k a.bytes.now) c.whole_count-whole.ensures ∙ whole-taken a.bytes.now a.bits in
     let looked = sym (c.fault_from.ensures ∙ (λ i. fault_in K (ltb a.bits 8) (c.registers_of-opened.ensures i).unknown Control a.from (drop a.from (whole i)))) in
     let ram = columns_in a.bus.packed a.ram.now in
-    let x = c.in-Refused.refusal in
+    let x = c.in-Err.refusal in
     said-numbers K (record { answer = Err x; set = c.take_back.new.set; ram = ram }) _ (c.say.ensures.value, c.say.ensures.answer_after)
     (◌∙◌ {A = SetAfter} (λ i. record { answer = Err x; set = c.take_back.ensures i; ram = ram })
-    (rest-refused K a.bus.chips a.group (held_in a.kept) ram t opening opens _ refl (looked ∙ c.in-Refused.is)))
+    (rest-refused K a.bus.chips a.group (held_in a.kept) ram t opening opens _ refl (looked ∙ c.in-Err.is)))
 
-pub returns-in-Passed : goal.returns-in-Passed
-returns-in-Passed c = let a = c.args in
+pub returns-in-Ok : goal.returns-in-Ok
+returns-in-Ok c = let a = c.args in
     let K = part_of a.bus.part in
     let t = sent a.bytes.now a.bits in
     let opening : Opening = record { fault = (Ok tt); registers = registers_in a.set.now; at = a.from } in
@@ -73,7 +73,7 @@ returns-in-Passed c = let a = c.args in
     let whole = ap (λ (k : ℕ). take k a.bytes.now) c.whole_count-whole.ensures ∙ whole-taken a.bytes.now a.bits in
     let looked = sym (c.fault_from.ensures ∙ (λ i. fault_in K (ltb a.bits 8) (c.registers_of-opened.ensures i).unknown Control a.from (drop a.from (whole i)))) in
     c.hear_rest.ensures
-    ∙ ap (numbered_set K) (rest-heard K a.bus.chips a.group (held_in a.kept) (columns_in a.bus.packed a.ram.now) t opening opens refl (looked ∙ c.in-Passed.is))
+    ∙ ap (numbered_set K) (rest-heard K a.bus.chips a.group (held_in a.kept) (columns_in a.bus.packed a.ram.now) t opening opens refl (looked ∙ c.in-Ok.is))
 
 pub say-requires : goal.say-requires
 say-requires c = c.requires.asked.six

@@ -20,11 +20,11 @@ pub send-requires : goal.send-requires
 send-requires c = let a = c.args in
     let state = check_state (part_of a.bus.part) a.bus.chips (both_of a.registers.now) (columns_in a.bus.packed a.ram.now) in
     let asked = c.check_state.ensures ∙ ap (or_else (check_part a.bus.part)) (state-by (part_of a.bus.part) a.bus.chips (both_of a.registers.now) c.fits-fit.result c.fits-fit.ensures (columns_in a.bus.packed a.ram.now)) in
-    (record { size = c.requires.0; state = (both_pass (check_part a.bus.part) state (sym asked ∙ c.in-Passed.is)).1 }, c.requires.1)
+    (record { size = c.requires.0; state = (both_pass (check_part a.bus.part) state (sym asked ∙ c.in-Ok.is)).1 }, c.requires.1)
 
-pub returns-in-Refused : goal.returns-in-Refused
+pub returns-in-Err : goal.returns-in-Err
 unfolding check_transfer
-returns-in-Refused c = let a = c.args in
+returns-in-Err c = let a = c.args in
     let r = both_of a.registers.now in
     let ram = columns_in a.bus.packed a.ram.now in
     let t = sent a.bytes.now a.bits in
@@ -33,12 +33,12 @@ returns-in-Refused c = let a = c.args in
     let rest = or_else (check_sent t) (check_bytes (part_of a.bus.part) r (heard_by a.bus.chips (address_byte t)) t) in
     said-numbers (part_of a.bus.part) _ _ (c.say.ensures.value, c.say.ensures.answer_after)
     (nothing_written a.registers.now ram _ _ (taken (part_of a.bus.part) a.bus.chips r ram t (heard_by a.bus.chips (address_byte t))) c.requires.0 (λ i. grind arith)
-    (sym (then-refused (check_part a.bus.part) state rest _ (sym asked ∙ c.in-Refused.is)))
+    (sym (then-refused (check_part a.bus.part) state rest _ (sym asked ∙ c.in-Err.is)))
     ∙ ap lent_after (sym (by-check a.bus.part a.bus.chips r ram t _ refl)))
 
-pub returns-in-Passed : goal.returns-in-Passed
+pub returns-in-Ok : goal.returns-in-Ok
 unfolding check_transfer
-returns-in-Passed c = let a = c.args in
+returns-in-Ok c = let a = c.args in
     let r = both_of a.registers.now in
     let ram = columns_in a.bus.packed a.ram.now in
     let t = sent a.bytes.now a.bits in
@@ -46,4 +46,4 @@ returns-in-Passed c = let a = c.args in
     let asked = c.check_state.ensures ∙ ap (or_else (check_part a.bus.part)) (state-by (part_of a.bus.part) a.bus.chips (both_of a.registers.now) c.fits-fit.result c.fits-fit.ensures (columns_in a.bus.packed a.ram.now)) in
     let rest = or_else (check_sent t) (check_bytes (part_of a.bus.part) r (heard_by a.bus.chips (address_byte t)) t) in
     c.send.ensures
-    ∙ ap (λ (q : After). numbered (part_of a.bus.part) (lent_after q)) (sym (by-check a.bus.part a.bus.chips r ram t rest (sym (then-passed (check_part a.bus.part) state rest rest (sym asked ∙ c.in-Passed.is) refl))))
+    ∙ ap (λ (q : After). numbered (part_of a.bus.part) (lent_after q)) (sym (by-check a.bus.part a.bus.chips r ram t rest (sym (then-passed (check_part a.bus.part) state rest rest (sym asked ∙ c.in-Ok.is) refl))))

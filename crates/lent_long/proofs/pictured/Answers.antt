@@ -55,30 +55,30 @@ pub slice_bounds-registers_of-end : goal.slice_bounds-registers_of-end
 slice_bounds-registers_of-end c = let a = c.args in
     let columns = columns_in a.bus.packed a.ram.now in
     let asked = asked a.bus.part a.bus.chips (both_of a.registers.now) _ columns a.group a.phase (length a.out.now) _ c.fits-fit.ensures c.check_picture.ensures in
-    let passed = passes a.bus.part a.bus.chips (both_of a.registers.now) columns a.group a.phase (length a.out.now) _ asked c.in-Passed.is in
+    let passed = passes a.bus.part a.bus.chips (both_of a.registers.now) columns a.group a.phase (length a.out.now) _ asked c.in-Ok.is in
     omega (arith, c.requires, passed.small)
 
 pub show-requires : goal.show-requires
 show-requires c = let a = c.args in
     let columns = columns_in a.bus.packed a.ram.now in
     let asked = asked a.bus.part a.bus.chips (both_of a.registers.now) _ columns a.group a.phase (length a.out.now) _ c.fits-fit.ensures c.check_picture.ensures in
-    let passed = passes a.bus.part a.bus.chips (both_of a.registers.now) columns a.group a.phase (length a.out.now) _ asked c.in-Passed.is in
+    let passed = passes a.bus.part a.bus.chips (both_of a.registers.now) columns a.group a.phase (length a.out.now) _ asked c.in-Ok.is in
     let own = own a.group a.registers.now _ passed.small c.requires c.registers_of-shown.ensures in
     let part = cut a.bus.part a.bus.chips (both_of a.registers.now) a.group a.bus.packed a.ram.now _ _ passed.state c.start_in-start.ensures c.end_in-end.ensures in
     showable a.bus.part a.bus.chips (both_of a.registers.now) a.group a.bus.packed a.ram.now _ _ _ _ part (sym own) passed.long
 
-pub returns-in-Refused : goal.returns-in-Refused
-returns-in-Refused c = let a = c.args in
+pub returns-in-Err : goal.returns-in-Err
+returns-in-Err c = let a = c.args in
     let columns = columns_in a.bus.packed a.ram.now in
     let asked = asked a.bus.part a.bus.chips (both_of a.registers.now) _ columns a.group a.phase (length a.out.now) _ c.fits-fit.ensures c.check_picture.ensures in
-    sym (shown-by-check a.bus.part a.bus.chips (both_of a.registers.now) columns a.group a.phase a.out.now _ (sym asked ∙ c.in-Refused.is))
+    sym (shown-by-check a.bus.part a.bus.chips (both_of a.registers.now) columns a.group a.phase a.out.now _ (sym asked ∙ c.in-Err.is))
 
-pub returns-in-Passed : goal.returns-in-Passed
-returns-in-Passed c = let put = c.show.ensures in
+pub returns-in-Ok : goal.returns-in-Ok
+returns-in-Ok c = let put = c.show.ensures in
     let a = c.args in
     let columns = columns_in a.bus.packed a.ram.now in
     let asked = asked a.bus.part a.bus.chips (both_of a.registers.now) _ columns a.group a.phase (length a.out.now) _ c.fits-fit.ensures c.check_picture.ensures in
-    let passed = passes a.bus.part a.bus.chips (both_of a.registers.now) columns a.group a.phase (length a.out.now) _ asked c.in-Passed.is in
+    let passed = passes a.bus.part a.bus.chips (both_of a.registers.now) columns a.group a.phase (length a.out.now) _ asked c.in-Ok.is in
     let own = own a.group a.registers.now _ passed.small c.requires c.registers_of-shown.ensures in
     let part = cut a.bus.part a.bus.chips (both_of a.registers.now) a.group a.bus.packed a.ram.now _ _ passed.state c.start_in-start.ensures c.end_in-end.ensures in
     let same = ap₂ (λ (r : Registers) (shown : List ℕ). picture_of r a.phase shown) own part.part in
@@ -90,7 +90,7 @@ pub slice_bounds-show-count : goal.slice_bounds-show-count
 slice_bounds-show-count c = let a = c.args in
     let columns = columns_in a.bus.packed a.ram.now in
     let asked = asked a.bus.part a.bus.chips (both_of a.registers.now) _ columns a.group a.phase (length a.out.now) _ c.fits-fit.ensures c.check_picture.ensures in
-    let passed = passes a.bus.part a.bus.chips (both_of a.registers.now) columns a.group a.phase (length a.out.now) _ asked c.in-Passed.is in
+    let passed = passes a.bus.part a.bus.chips (both_of a.registers.now) columns a.group a.phase (length a.out.now) _ asked c.in-Ok.is in
     let part = cut a.bus.part a.bus.chips (both_of a.registers.now) a.group a.bus.packed a.ram.now _ _ passed.state c.start_in-start.ensures c.end_in-end.ensures in
     part.begins
 
@@ -98,7 +98,7 @@ pub slice_bounds-show-start : goal.slice_bounds-show-start
 slice_bounds-show-start c = let a = c.args in
     let columns = columns_in a.bus.packed a.ram.now in
     let asked = asked a.bus.part a.bus.chips (both_of a.registers.now) _ columns a.group a.phase (length a.out.now) _ c.fits-fit.ensures c.check_picture.ensures in
-    let passed = passes a.bus.part a.bus.chips (both_of a.registers.now) columns a.group a.phase (length a.out.now) _ asked c.in-Passed.is in
+    let passed = passes a.bus.part a.bus.chips (both_of a.registers.now) columns a.group a.phase (length a.out.now) _ asked c.in-Ok.is in
     let part = cut a.bus.part a.bus.chips (both_of a.registers.now) a.group a.bus.packed a.ram.now _ _ passed.state c.start_in-start.ensures c.end_in-end.ensures in
     part.begins
 
@@ -106,6 +106,6 @@ pub slice_bounds-show-end : goal.slice_bounds-show-end
 slice_bounds-show-end c = let a = c.args in
     let columns = columns_in a.bus.packed a.ram.now in
     let asked = asked a.bus.part a.bus.chips (both_of a.registers.now) _ columns a.group a.phase (length a.out.now) _ c.fits-fit.ensures c.check_picture.ensures in
-    let passed = passes a.bus.part a.bus.chips (both_of a.registers.now) columns a.group a.phase (length a.out.now) _ asked c.in-Passed.is in
+    let passed = passes a.bus.part a.bus.chips (both_of a.registers.now) columns a.group a.phase (length a.out.now) _ asked c.in-Ok.is in
     let part = cut a.bus.part a.bus.chips (both_of a.registers.now) a.group a.bus.packed a.ram.now _ _ passed.state c.start_in-start.ensures c.end_in-end.ensures in
     part.ends

@@ -35,12 +35,12 @@ by-hearer K n l ram t heard to passed e told =
 pub send_to-requires : goal.send_to-requires
 send_to-requires c = let a = c.args in
     let t = sent a.bytes.now a.bits in
-    let to = sym (c.heard_by.ensures ∙ ap (heard_by a.bus.chips) c.address_byte.ensures) ∙ c.in-To.is in
-    record { bus = c.requires.0; small = hearer_small a.bus.chips _ _ to; short = (sent-passed t (passes a.bytes.now a.bits _ c.check_sent.ensures c.in-Passed.is)).1; some = hearer_some a.bus.chips t _ to; six = c.requires.1 }
+    let to = sym (c.heard_by.ensures ∙ ap (heard_by a.bus.chips) c.address_byte.ensures) ∙ c.in-Some.is in
+    record { bus = c.requires.0; small = hearer_small a.bus.chips _ _ to; short = (sent-passed t (passes a.bytes.now a.bits _ c.check_sent.ensures c.in-Ok.is)).1; some = hearer_some a.bus.chips t _ to; six = c.requires.1 }
 
-pub returns-in-Refused : goal.returns-in-Refused
+pub returns-in-Err : goal.returns-in-Err
 unfolding check_sent
-returns-in-Refused c = let a = c.args in
+returns-in-Err c = let a = c.args in
     let K = part_of a.bus.part in
     let r = both_of a.registers.now in
     let ram = columns_in a.bus.packed a.ram.now in
@@ -48,17 +48,17 @@ returns-in-Refused c = let a = c.args in
     let to = heard_by a.bus.chips (address_byte t) in
     said-numbers K _ _ (c.say.ensures.value, c.say.ensures.answer_after)
     (nothing_written a.registers.now ram _ _ (taken K a.bus.chips r ram t to) c.requires.0.size (λ i. (c.type_inv.registers i).fits)
-    (ap (λ (c : Check). or_else c (check_bytes K r to t)) (sym c.check_sent.ensures ∙ c.in-Refused.is)))
+    (ap (λ (c : Check). or_else c (check_bytes K r to t)) (sym c.check_sent.ensures ∙ c.in-Err.is)))
 
-pub returns-in-To : goal.returns-in-To
-returns-in-To c = let a = c.args in
-    c.send_to.ensures ∙ ap (numbered (part_of a.bus.part)) (by-hearer (part_of a.bus.part) a.bus.chips a.registers.now (columns_in a.bus.packed a.ram.now) (sent a.bytes.now a.bits) _ _ (passes a.bytes.now a.bits _ c.check_sent.ensures c.in-Passed.is) (c.heard_by.ensures ∙ ap (heard_by a.bus.chips) c.address_byte.ensures) c.in-To.is)
+pub returns-in-Some : goal.returns-in-Some
+returns-in-Some c = let a = c.args in
+    c.send_to.ensures ∙ ap (numbered (part_of a.bus.part)) (by-hearer (part_of a.bus.part) a.bus.chips a.registers.now (columns_in a.bus.packed a.ram.now) (sent a.bytes.now a.bits) _ _ (passes a.bytes.now a.bits _ c.check_sent.ensures c.in-Ok.is) (c.heard_by.ensures ∙ ap (heard_by a.bus.chips) c.address_byte.ensures) c.in-Some.is)
 
-pub returns-in-Nobody : goal.returns-in-Nobody
-returns-in-Nobody c = let a = c.args in
+pub returns-in-None : goal.returns-in-None
+returns-in-None c = let a = c.args in
     let K = part_of a.bus.part in
     let l = a.registers.now in
     let ram = columns_in a.bus.packed a.ram.now in
     let same : ◌≡◌ {A = LentAfter} (record { answer = Ok (record { counts = no_counts; last = None }); registers = l; ram = ram }) (lent_after (taken K a.bus.chips (both_of l) ram (sent a.bytes.now a.bits) None)) =
     λ j. record { answer = Ok (record { counts = no_counts; last = None }); registers = sym (both-back l c.requires.0.size (λ i. (c.type_inv.registers i).fits)) j; ram = ram } in
-    said-numbers K _ _ (said_of K (c.say-in-Nobody.ensures.value, c.say-in-Nobody.ensures.answer_after) c.without_data.ensures) (same ∙ by-hearer (part_of a.bus.part) a.bus.chips a.registers.now (columns_in a.bus.packed a.ram.now) (sent a.bytes.now a.bits) _ _ (passes a.bytes.now a.bits _ c.check_sent.ensures c.in-Passed.is) (c.heard_by.ensures ∙ ap (heard_by a.bus.chips) c.address_byte.ensures) c.in-Nobody.is)
+    said-numbers K _ _ (said_of K (c.say-in-None.ensures.value, c.say-in-None.ensures.answer_after) c.without_data.ensures) (same ∙ by-hearer (part_of a.bus.part) a.bus.chips a.registers.now (columns_in a.bus.packed a.ram.now) (sent a.bytes.now a.bits) _ _ (passes a.bytes.now a.bits _ c.check_sent.ensures c.in-Ok.is) (c.heard_by.ensures ∙ ap (heard_by a.bus.chips) c.address_byte.ensures) c.in-None.is)

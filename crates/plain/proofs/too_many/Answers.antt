@@ -3,8 +3,8 @@
 use mathlib.Core.Path.{refl, sym, ◌∙◌}
 use Rattle.plain.proofs.too_many.Goals as goal
 
-pub returns-in-Refused : goal.returns-in-Refused
-returns-in-Refused c = rw (sym c.check_part.ensures ∙ c.in-Refused.is) refl
+pub returns-in-Err : goal.returns-in-Err
+returns-in-Err c = rw (sym c.check_part.ensures ∙ c.in-Err.is) refl
 
-pub returns-in-Passed : goal.returns-in-Passed
-returns-in-Passed c = rw (sym c.check_part.ensures ∙ c.in-Passed.is) refl
+pub returns-in-Ok : goal.returns-in-Ok
+returns-in-Ok c = rw (sym c.check_part.ensures ∙ c.in-Ok.is) refl

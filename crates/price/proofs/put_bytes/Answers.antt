@@ -13,8 +13,8 @@ use Rattle.price.proofs.put_bytes.Goals as goal
 pub loop-i-preserved : goal.loop-i-preserved
 loop-i-preserved c = let inv = c.loop-i.invariant in
     let room : c.loop-i.place < 80 = omega (arith, inv.few.0, c.loop-i-test.true, c.requires.bytes) in
-    let found = sym c.begun_at.ensures ∙ c.in-Symbol.is in
-    let s = c.in-Symbol.symbol in
+    let found = sym c.begun_at.ensures ∙ c.in-Some.is in
+    let s = c.in-Some.symbol in
     let byte = c.byte_of.ensures ∙ ap (λ (l : Bytes). byte_by l s) c.bytes_of-bytes.ensures ∙ byte-is _ c.requires.four _ (begun-symbol _ _ _ _ found) in
     spell-turn s c.byte_of.result c.text_size-i.result c.loop-i-test.true room c.requires.enough found byte c.text_size-i.ensures.0 inv
 

@@ -19,23 +19,23 @@ passed : (segments : List ℕ) (mode : ℕ) (out : List ℕ) (k : Check) → k �
 passed segments mode out k told e = fits (length segments) mode 160 out k told e
 
 pub text_before-before-requires : goal.text_before-before-requires
-text_before-before-requires c = (passed c.args.segments.now c.args.mode c.args.out.now c.check_sizes.result c.check_sizes.ensures c.in-Passed.is).enough
+text_before-before-requires c = (passed c.args.segments.now c.args.mode c.args.out.now c.check_sizes.result c.check_sizes.ensures c.in-Ok.is).enough
 
 pub put_texts-requires : goal.put_texts-requires
-put_texts-requires c = (passed c.args.segments.now c.args.mode c.args.out.now c.check_sizes.result c.check_sizes.ensures c.in-Passed.is, c.text_before-before.ensures)
+put_texts-requires c = (passed c.args.segments.now c.args.mode c.args.out.now c.check_sizes.result c.check_sizes.ensures c.in-Ok.is, c.text_before-before.ensures)
 
 pub settled-requires : goal.settled-requires
-settled-requires c = let s = passed c.args.segments.now c.args.mode c.args.out.now c.check_sizes.result c.check_sizes.ensures c.in-Passed.is in
+settled-requires c = let s = passed c.args.segments.now c.args.mode c.args.out.now c.check_sizes.result c.check_sizes.ensures c.in-Ok.is in
     omega (arith, ap length c.text_before-before.ensures, length-take-le 160 c.args.out.now s.enough, c.put_texts.auto.out, s.enough)
 
-pub returns-in-Refused : goal.returns-in-Refused
+pub returns-in-Err : goal.returns-in-Err
 unfolding price_read
-returns-in-Refused c = let n = numbered (refused (length c.args.segments.now) c.args.mode 160 c.args.out.now c.check_sizes.result c.check_sizes.ensures (read_from c.args.mode 0 c.args.segments.now) _ _ c.in-Refused.is) in
+returns-in-Err c = let n = numbered (refused (length c.args.segments.now) c.args.mode 160 c.args.out.now c.check_sizes.result c.check_sizes.ensures (read_from c.args.mode 0 c.args.segments.now) _ _ c.in-Err.is) in
     record { out_after = n.0; result_value = n.1 }
 
-pub returns-in-Passed : goal.returns-in-Passed
+pub returns-in-Ok : goal.returns-in-Ok
 unfolding price_read
-returns-in-Passed c = let n = numbered
+returns-in-Ok c = let n = numbered
     (c.settled.ensures ∙ ap (λ (front : List ℕ). settled c.put_texts.result front c.put_texts.new.out) c.text_before-before.ensures
-    ∙ taken (length c.args.segments.now) c.args.mode 160 c.args.out.now c.check_sizes.result c.check_sizes.ensures c.in-Passed.is c.put_texts.ensures) in
+    ∙ taken (length c.args.segments.now) c.args.mode 160 c.args.out.now c.check_sizes.result c.check_sizes.ensures c.in-Ok.is c.put_texts.ensures) in
     record { out_after = n.0; result_value = n.1 }

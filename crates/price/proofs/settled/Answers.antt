@@ -9,10 +9,10 @@ use Rattle.sheet.specs.Results.{Written}
 use Rattle.price.specs.Fronts.{settled}
 use Rattle.price.proofs.settled.Goals as goal
 
-pub returns-in-Bytes : goal.returns-in-Bytes
+pub returns-in-Ok : goal.returns-in-Ok
 unfolding settled
-returns-in-Bytes c = rw c.in-Bytes.is refl
+returns-in-Ok c = rw c.in-Ok.is refl
 
-pub returns-in-Refused : goal.returns-in-Refused
+pub returns-in-Err : goal.returns-in-Err
 unfolding settled
-returns-in-Refused c = rw c.in-Refused.is (ap (λ (l : List ℕ). record { result = Err c.in-Refused.refusal; out = l ++ drop (length c.args.before.now) c.args.out.now }) c.copy.ensures)
+returns-in-Err c = rw c.in-Err.is (ap (λ (l : List ℕ). record { result = Err c.in-Err.refusal; out = l ++ drop (length c.args.before.now) c.args.out.now }) c.copy.ensures)

@@ -19,23 +19,23 @@ passed : (text : List ℕ) (mode : ℕ) (out : List ℕ) (k : Check) → k ≡ c
 passed text mode out k told e = fits (length text) mode 80 out k told e
 
 pub bytes_before-before-requires : goal.bytes_before-before-requires
-bytes_before-before-requires c = (passed c.args.text.now c.args.mode c.args.out.now c.check_sizes.result c.check_sizes.ensures c.in-Passed.is).enough
+bytes_before-before-requires c = (passed c.args.text.now c.args.mode c.args.out.now c.check_sizes.result c.check_sizes.ensures c.in-Ok.is).enough
 
 pub put_bytes-requires : goal.put_bytes-requires
-put_bytes-requires c = passed c.args.text.now c.args.mode c.args.out.now c.check_sizes.result c.check_sizes.ensures c.in-Passed.is
+put_bytes-requires c = passed c.args.text.now c.args.mode c.args.out.now c.check_sizes.result c.check_sizes.ensures c.in-Ok.is
 
 pub settled-requires : goal.settled-requires
-settled-requires c = let s = passed c.args.text.now c.args.mode c.args.out.now c.check_sizes.result c.check_sizes.ensures c.in-Passed.is in
+settled-requires c = let s = passed c.args.text.now c.args.mode c.args.out.now c.check_sizes.result c.check_sizes.ensures c.in-Ok.is in
     omega (arith, ap length c.bytes_before-before.ensures, length-take-le 80 c.args.out.now s.enough, c.put_bytes.auto.out, s.enough)
 
-pub returns-in-Refused : goal.returns-in-Refused
+pub returns-in-Err : goal.returns-in-Err
 unfolding price_write
-returns-in-Refused c = let n = numbered (refused (length c.args.text.now) c.args.mode 80 c.args.out.now c.check_sizes.result c.check_sizes.ensures (spelled c.args.text.now) _ _ c.in-Refused.is) in
+returns-in-Err c = let n = numbered (refused (length c.args.text.now) c.args.mode 80 c.args.out.now c.check_sizes.result c.check_sizes.ensures (spelled c.args.text.now) _ _ c.in-Err.is) in
     record { out_after = n.0; result_value = n.1 }
 
-pub returns-in-Passed : goal.returns-in-Passed
+pub returns-in-Ok : goal.returns-in-Ok
 unfolding price_write
-returns-in-Passed c = let n = numbered
+returns-in-Ok c = let n = numbered
     (c.settled.ensures ∙ ap (λ (front : List ℕ). settled c.put_bytes.result front c.put_bytes.new.out) c.bytes_before-before.ensures
-    ∙ taken (length c.args.text.now) c.args.mode 80 c.args.out.now c.check_sizes.result c.check_sizes.ensures c.in-Passed.is c.put_bytes.ensures) in
+    ∙ taken (length c.args.text.now) c.args.mode 80 c.args.out.now c.check_sizes.result c.check_sizes.ensures c.in-Ok.is c.put_bytes.ensures) in
     record { out_after = n.0; result_value = n.1 }

@@ -20,9 +20,9 @@ use Rattle.protocol.proofs.fault_in.Goals as goal
 pub loop-i-init : goal.loop-i-init
 loop-i-init c = refl
 
-pub returns-in-Refused : goal.returns-in-Refused
-returns-in-Refused c = let a = c.args in
-    sym (found (part_of a.part) a.cut c.loop-i.marks c.loop-i.expect a.bytes.now c.loop-i.i c.loop-i-test.true _ (sym c.fault.ensures ∙ c.in-Refused.is)) ∙ c.loop-i.invariant
+pub returns-in-Err : goal.returns-in-Err
+returns-in-Err c = let a = c.args in
+    sym (found (part_of a.part) a.cut c.loop-i.marks c.loop-i.expect a.bytes.now c.loop-i.i c.loop-i-test.true _ (sym c.fault.ensures ∙ c.in-Err.is)) ∙ c.loop-i.invariant
 
 -- from a byte that passes to the next
 goes_on : (part : Part) (cut : Bool) (marks : Marks) (expect : Expect) (bytes : List ℕ) (i : ℕ) {after : Marks} {then : Expect} {whole : Check}

@@ -17,12 +17,12 @@ by_hearer : (part : Part) (registers : Both) (chips : Chips) (t : Sent) {byte : 
     → check_bytes part registers to t ≡ check_bytes part registers (heard_by chips (address_byte t)) t
 by_hearer part registers chips t h b told = ap (λ (k : Addressed). check_bytes part registers k t) (sym told ∙ h ∙ ap (heard_by chips) b)
 
-pub returns-in-To : goal.returns-in-To
-returns-in-To c = let a = c.args in
+pub returns-in-Some : goal.returns-in-Some
+returns-in-Some c = let a = c.args in
     c.first_fault.ensures
     ∙ ap (λ (r : Registers). fault_of_sent (part_of a.part) r.unknown (sent a.bytes.now a.bits)) c.registers_of-called.ensures
-    ∙ by_hearer (part_of a.part) a.registers a.chips (sent a.bytes.now a.bits) c.heard_by.ensures c.address_byte.ensures c.in-To.is
+    ∙ by_hearer (part_of a.part) a.registers a.chips (sent a.bytes.now a.bits) c.heard_by.ensures c.address_byte.ensures c.in-Some.is
 
-pub returns-in-Nobody : goal.returns-in-Nobody
-returns-in-Nobody c = let a = c.args in
-    by_hearer (part_of a.part) a.registers a.chips (sent a.bytes.now a.bits) c.heard_by.ensures c.address_byte.ensures c.in-Nobody.is
+pub returns-in-None : goal.returns-in-None
+returns-in-None c = let a = c.args in
+    by_hearer (part_of a.part) a.registers a.chips (sent a.bytes.now a.bits) c.heard_by.ensures c.address_byte.ensures c.in-None.is

@@ -17,10 +17,10 @@ use Rattle.refused.proofs.check_every.Goals as goal
 abbrev rest : (part group : ℕ) (chips : Chips) (wanted : List ℕ) → Check
 rest part group chips wanted = or_else (unless (ltb group 2) GroupOrPhase) (check_columns ((part_of part).columns * chips_in group chips) wanted)
 
-pub returns-in-Refused : goal.returns-in-Refused
+pub returns-in-Err : goal.returns-in-Err
 unfolding check_wanted
-returns-in-Refused c = rest-refused c.args.part c.args.chips c.args.registers c.registers_fit.ensures c.check_registers.ensures (rest c.args.part c.args.group c.args.chips c.args.wanted.now) _ c.in-Refused.is
+returns-in-Err c = rest-refused c.args.part c.args.chips c.args.registers c.registers_fit.ensures c.check_registers.ensures (rest c.args.part c.args.group c.args.chips c.args.wanted.now) _ c.in-Err.is
 
-pub returns-in-Passed : goal.returns-in-Passed
+pub returns-in-Ok : goal.returns-in-Ok
 unfolding check_wanted
-returns-in-Passed c = rest-passed c.args.part c.args.chips c.args.registers c.registers_fit.ensures c.check_registers.ensures (rest c.args.part c.args.group c.args.chips c.args.wanted.now) _ c.in-Passed.is c.check_rows.ensures
+returns-in-Ok c = rest-passed c.args.part c.args.chips c.args.registers c.registers_fit.ensures c.check_registers.ensures (rest c.args.part c.args.group c.args.chips c.args.wanted.now) _ c.in-Ok.is c.check_rows.ensures

@@ -8,13 +8,13 @@ use Rattle.packed_sheet.specs.Packed.{columns_in}
 use Rattle.laws.proofs.First.{three-refused, three-passed}
 use Rattle.refused.proofs.check_state.Goals as goal
 
-pub returns-in-Refused : goal.returns-in-Refused
-returns-in-Refused c = let a = c.args in
+pub returns-in-Err : goal.returns-in-Err
+returns-in-Err c = let a = c.args in
     let K = part_of a.part in
-    three-refused (check_part a.part) (check_chips K a.chips) (unless a.fit Register) (check_ram K a.chips (columns_in a.packed a.ram.now)) _ (sym c.check_registers.ensures ∙ c.in-Refused.is)
+    three-refused (check_part a.part) (check_chips K a.chips) (unless a.fit Register) (check_ram K a.chips (columns_in a.packed a.ram.now)) _ (sym c.check_registers.ensures ∙ c.in-Err.is)
 
-pub returns-in-Passed : goal.returns-in-Passed
-returns-in-Passed c = let a = c.args in
+pub returns-in-Ok : goal.returns-in-Ok
+returns-in-Ok c = let a = c.args in
     let K = part_of a.part in
-    three-passed (check_part a.part) (check_chips K a.chips) (unless a.fit Register) (check_ram K a.chips (columns_in a.packed a.ram.now)) _ (sym c.check_registers.ensures ∙ c.in-Passed.is)
+    three-passed (check_part a.part) (check_chips K a.chips) (unless a.fit Register) (check_ram K a.chips (columns_in a.packed a.ram.now)) _ (sym c.check_registers.ensures ∙ c.in-Ok.is)
     c.check_ram.ensures

@@ -30,11 +30,11 @@ asked : (part : ℕ) (chips : Chips) (registers : Both) (columns : List ℕ) {fi
     → told ≡ or_else (check_part part) (state part chips registers columns)
 asked part chips registers columns {fit = fit} t f = t ∙ ap (or_else (check_part part)) (state-by (part_of part) chips registers fit f columns)
 
-pub returns-in-Refused : goal.returns-in-Refused
+pub returns-in-Err : goal.returns-in-Err
 unfolding check_transfer
-returns-in-Refused c = let a = c.args in
+returns-in-Err c = let a = c.args in
     let columns = columns_in a.packed a.ram.now in
-    then-refused (check_part a.part) (state a.part a.chips a.registers columns) (rest a.part a.chips a.registers (sent a.bytes.now a.bits)) _ (sym (asked a.part a.chips a.registers columns c.check_state.ensures c.registers_fit.ensures) ∙ c.in-Refused.is)
+    then-refused (check_part a.part) (state a.part a.chips a.registers columns) (rest a.part a.chips a.registers (sent a.bytes.now a.bits)) _ (sym (asked a.part a.chips a.registers columns c.check_state.ensures c.registers_fit.ensures) ∙ c.in-Err.is)
 
 -- past the match the state has passed
 passes : (part : ℕ) (chips : Chips) (registers : Both) (columns : List ℕ) (t : Sent) {fit : Bool} {told k : Check}
@@ -43,12 +43,12 @@ passes : (part : ℕ) (chips : Chips) (registers : Both) (columns : List ℕ) (t
 passes part chips registers columns t {k = k} s f p e =
     then-passed (check_part part) (state part chips registers columns) (rest part chips registers t) k (sym (asked part chips registers columns s f) ∙ p) e
 
-pub returns-in-Refused-check_sent : goal.returns-in-Refused-check_sent
+pub returns-in-Err-check_sent : goal.returns-in-Err-check_sent
 unfolding check_transfer check_sent
-returns-in-Refused-check_sent c = let a = c.args in
-    passes a.part a.chips a.registers (columns_in a.packed a.ram.now) (sent a.bytes.now a.bits) c.check_state.ensures c.registers_fit.ensures c.in-Passed.is (rw (sym c.check_sent.ensures ∙ c.in-Refused-check_sent.is) refl)
+returns-in-Err-check_sent c = let a = c.args in
+    passes a.part a.chips a.registers (columns_in a.packed a.ram.now) (sent a.bytes.now a.bits) c.check_state.ensures c.registers_fit.ensures c.in-Ok.is (rw (sym c.check_sent.ensures ∙ c.in-Err-check_sent.is) refl)
 
-pub returns-in-Passed-check_sent : goal.returns-in-Passed-check_sent
+pub returns-in-Ok-check_sent : goal.returns-in-Ok-check_sent
 unfolding check_transfer check_sent
-returns-in-Passed-check_sent c = let a = c.args in
-    passes a.part a.chips a.registers (columns_in a.packed a.ram.now) (sent a.bytes.now a.bits) c.check_state.ensures c.registers_fit.ensures c.in-Passed.is (rw (sym c.check_sent.ensures ∙ c.in-Passed-check_sent.is) c.check_bytes.ensures)
+returns-in-Ok-check_sent c = let a = c.args in
+    passes a.part a.chips a.registers (columns_in a.packed a.ram.now) (sent a.bytes.now a.bits) c.check_state.ensures c.registers_fit.ensures c.in-Ok.is (rw (sym c.check_sent.ensures ∙ c.in-Ok-check_sent.is) c.check_bytes.ensures)

@@ -24,9 +24,9 @@ rest part chips group mode bank wanted =
     or_else (unless (ltb mode 4 && ltb bank 2) Register)
     (or_else (unless (ltb group 2) GroupOrPhase) (check_columns ((part_of part).columns * chips_in group chips) wanted))
 
-pub returns-in-Refused : goal.returns-in-Refused
+pub returns-in-Err : goal.returns-in-Err
 unfolding check_wanted
-returns-in-Refused c = rest-refused c.args.part c.args.chips c.args.registers c.registers_fit.ensures c.check_registers.ensures (let a = c.args in rest a.part a.chips a.group a.mode a.bank a.wanted.now) _ c.in-Refused.is
+returns-in-Err c = rest-refused c.args.part c.args.chips c.args.registers c.registers_fit.ensures c.check_registers.ensures (let a = c.args in rest a.part a.chips a.group a.mode a.bank a.wanted.now) _ c.in-Err.is
 
 -- past the match the part, the counts and the registers have passed
 passes : (part : ℕ) (chips : Chips) (registers : Both) (group mode bank : ℕ) (wanted : List ℕ) {fit : Bool} {told k : Check}
@@ -37,8 +37,8 @@ passes part chips registers group mode bank wanted {k = k} f t p e = rest-passed
 
 pub returns-then-mode-bank : goal.returns-then-mode-bank
 returns-then-mode-bank c = let a = c.args in
-    passes a.part a.chips a.registers a.group a.mode a.bank a.wanted.now c.registers_fit.ensures c.check_registers.ensures c.in-Passed.is (rw c.if-mode-bank.true c.check_rows.ensures)
+    passes a.part a.chips a.registers a.group a.mode a.bank a.wanted.now c.registers_fit.ensures c.check_registers.ensures c.in-Ok.is (rw c.if-mode-bank.true c.check_rows.ensures)
 
 pub returns-else-mode-bank : goal.returns-else-mode-bank
 returns-else-mode-bank c = let a = c.args in
-    passes a.part a.chips a.registers a.group a.mode a.bank a.wanted.now c.registers_fit.ensures c.check_registers.ensures c.in-Passed.is (rw c.if-mode-bank.false refl)
+    passes a.part a.chips a.registers a.group a.mode a.bank a.wanted.now c.registers_fit.ensures c.check_registers.ensures c.in-Ok.is (rw c.if-mode-bank.false refl)

@@ -11,16 +11,16 @@ use Rattle.sheet.specs.Protocol.{sent}
 use Rattle.sheet.specs.Checks.{check_sent, fault_of_sent}
 use Rattle.starts.proofs.check_chips.Goals as goal
 
-pub returns-in-Refused : goal.returns-in-Refused
+pub returns-in-Err : goal.returns-in-Err
 unfolding check_sent
-returns-in-Refused c =
-    rw (le-leb _ _ c.if-found.true, sym c.check_sent.ensures ∙ c.in-Refused.is) refl
+returns-in-Err c =
+    rw (le-leb _ _ c.if-found.true, sym c.check_sent.ensures ∙ c.in-Err.is) refl
 
-pub returns-in-Passed : goal.returns-in-Passed
+pub returns-in-Ok : goal.returns-in-Ok
 unfolding check_sent
-returns-in-Passed c =
+returns-in-Ok c =
     let a = c.args in
-    rw (le-leb _ _ c.if-found.true, sym c.check_sent.ensures ∙ c.in-Passed.is)
+    rw (le-leb _ _ c.if-found.true, sym c.check_sent.ensures ∙ c.in-Ok.is)
     (c.check_bytes.ensures ∙ ap (λ (m : Marks). cond (ltb a.found.hearer a.found.count) (fault_of_sent (part_of a.part) m (sent a.bytes.now a.bits)) (Ok tt)) c.marks_found-marks.ensures)
 
 pub returns-else-found : goal.returns-else-found

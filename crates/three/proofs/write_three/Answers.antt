@@ -48,18 +48,18 @@ size_small part n e few = rw e (pairs_small part n few)
 pub returns-then-chips_in-eq0 : goal.returns-then-chips_in-eq0
 unfolding write_three_part
 returns-then-chips_in-eq0 c = let a = c.args in
-    let both = numbered (none a.part (check_wanted (part_of a.part) a.chips a.registers a.group 3 0 a.wanted.now) (three_transfer (part_of a.part) a.chips a.registers a.group a.wanted.now) a.out.now (sym c.check_every.ensures ∙ c.in-Passed.is) (is_none (part_of a.part) a.chips a.registers a.group a.wanted.now (sym c.chips_in.ensures ∙ c.if-chips_in-eq0.true))) in
+    let both = numbered (none a.part (check_wanted (part_of a.part) a.chips a.registers a.group 3 0 a.wanted.now) (three_transfer (part_of a.part) a.chips a.registers a.group a.wanted.now) a.out.now (sym c.check_every.ensures ∙ c.in-Ok.is) (is_none (part_of a.part) a.chips a.registers a.group a.wanted.now (sym c.chips_in.ensures ∙ c.if-chips_in-eq0.true))) in
     record { out_after = both.0; result_value = both.1 }
 
 pub returns-then-out-size : goal.returns-then-out-size
 unfolding write_three_part
 returns-then-out-size c = let a = c.args in
-    let both = numbered (too_short a.part (check_wanted (part_of a.part) a.chips a.registers a.group 3 0 a.wanted.now) (three_transfer (part_of a.part) a.chips a.registers a.group a.wanted.now) a.out.now (sym c.check_every.ensures ∙ c.in-Passed.is) (omega (arith, size_is c.args.part c.args.chips c.args.registers c.args.group c.args.wanted.now (omega (arith, c.if-chips_in-eq0.false, c.chips_in.ensures)) c.byte_size.ensures, c.if-out-size.true))) in
+    let both = numbered (too_short a.part (check_wanted (part_of a.part) a.chips a.registers a.group 3 0 a.wanted.now) (three_transfer (part_of a.part) a.chips a.registers a.group a.wanted.now) a.out.now (sym c.check_every.ensures ∙ c.in-Ok.is) (omega (arith, size_is c.args.part c.args.chips c.args.registers c.args.group c.args.wanted.now (omega (arith, c.if-chips_in-eq0.false, c.chips_in.ensures)) c.byte_size.ensures, c.if-out-size.true))) in
     record { out_after = both.0; result_value = both.1 }
 
 pub put_three-requires : goal.put_three-requires
 put_three-requires c = let a = c.args in
-    let asked = asks c.args.part c.args.chips c.args.registers c.args.group c.args.wanted.now (sym c.check_every.ensures ∙ c.in-Passed.is) in
+    let asked = asks c.args.part c.args.chips c.args.registers c.args.group c.args.wanted.now (sym c.check_every.ensures ∙ c.in-Ok.is) in
     let own = asked.own_in in
     let e = c.registers_of-own.ensures in (
       asked.group-in,
@@ -74,10 +74,10 @@ put_three-requires c = let a = c.args in
       },
     )
 
-pub returns-in-Refused : goal.returns-in-Refused
+pub returns-in-Err : goal.returns-in-Err
 unfolding write_three_part
-returns-in-Refused c = let a = c.args in
-    let both = numbered (refuses a.part (check_wanted (part_of a.part) a.chips a.registers a.group 3 0 a.wanted.now) (three_transfer (part_of a.part) a.chips a.registers a.group a.wanted.now) a.out.now _ (sym c.check_every.ensures ∙ c.in-Refused.is)) in
+returns-in-Err c = let a = c.args in
+    let both = numbered (refuses a.part (check_wanted (part_of a.part) a.chips a.registers a.group 3 0 a.wanted.now) (three_transfer (part_of a.part) a.chips a.registers a.group a.wanted.now) a.out.now _ (sym c.check_every.ensures ∙ c.in-Err.is)) in
     record { out_after = both.0; result_value = both.1 }
 
 pub returns-else-out-size : goal.returns-else-out-size
@@ -88,14 +88,14 @@ returns-else-out-size c = let a = c.args in
     ∙ sym (is-three (part_of a.part) a.chips a.registers a.group a.wanted.now (omega (arith, c.if-chips_in-eq0.false, c.chips_in.ensures))) in
     let both = numbered
     (ap₂ (λ (k : ℕ) (l : List ℕ). record { result = Ok k; out = l ++ drop k a.out.now }) (size_is c.args.part c.args.chips c.args.registers c.args.group c.args.wanted.now (omega (arith, c.if-chips_in-eq0.false, c.chips_in.ensures)) c.byte_size.ensures) is
-    ∙ written a.part (check_wanted (part_of a.part) a.chips a.registers a.group 3 0 a.wanted.now) (three_transfer (part_of a.part) a.chips a.registers a.group a.wanted.now) a.out.now (sym c.check_every.ensures ∙ c.in-Passed.is) (omega (arith, size_is c.args.part c.args.chips c.args.registers c.args.group c.args.wanted.now (omega (arith, c.if-chips_in-eq0.false, c.chips_in.ensures)) c.byte_size.ensures))) in
+    ∙ written a.part (check_wanted (part_of a.part) a.chips a.registers a.group 3 0 a.wanted.now) (three_transfer (part_of a.part) a.chips a.registers a.group a.wanted.now) a.out.now (sym c.check_every.ensures ∙ c.in-Ok.is) (omega (arith, size_is c.args.part c.args.chips c.args.registers c.args.group c.args.wanted.now (omega (arith, c.if-chips_in-eq0.false, c.chips_in.ensures)) c.byte_size.ensures))) in
     record { out_after = both.0; result_value = both.1 }
 
 pub overflow_mul-size : goal.overflow_mul-size
-overflow_mul-size c = omega (arith, size_small c.args.part (length c.args.wanted.now) c.byte_size.ensures (few_wanted c.args.part (asks c.args.part c.args.chips c.args.registers c.args.group c.args.wanted.now (sym c.check_every.ensures ∙ c.in-Passed.is))))
+overflow_mul-size c = omega (arith, size_small c.args.part (length c.args.wanted.now) c.byte_size.ensures (few_wanted c.args.part (asks c.args.part c.args.chips c.args.registers c.args.group c.args.wanted.now (sym c.check_every.ensures ∙ c.in-Ok.is))))
 
 pub overflow_add-size : goal.overflow_add-size
-overflow_add-size c = omega (arith, size_small c.args.part (length c.args.wanted.now) c.byte_size.ensures (few_wanted c.args.part (asks c.args.part c.args.chips c.args.registers c.args.group c.args.wanted.now (sym c.check_every.ensures ∙ c.in-Passed.is))))
+overflow_add-size c = omega (arith, size_small c.args.part (length c.args.wanted.now) c.byte_size.ensures (few_wanted c.args.part (asks c.args.part c.args.chips c.args.registers c.args.group c.args.wanted.now (sym c.check_every.ensures ∙ c.in-Ok.is))))
 
-pub slice_bounds-put_three-end-in-Passed : goal.slice_bounds-put_three-end-in-Passed
-slice_bounds-put_three-end-in-Passed c = sym (length-take-le _ _ (omega (arith, c.if-out-size.false)))
+pub slice_bounds-put_three-end-in-Ok : goal.slice_bounds-put_three-end-in-Ok
+slice_bounds-put_three-end-in-Ok c = sym (length-take-le _ _ (omega (arith, c.if-out-size.false)))

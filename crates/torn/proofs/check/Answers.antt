@@ -4,10 +4,10 @@ use mathlib.Core.Path.{sym, ◌∙◌}
 use Rattle.log_sheet.specs.Rescue.{check_rescue}
 use Rattle.torn.proofs.check.Goals as goal
 
-pub returns-in-Refused : goal.returns-in-Refused
+pub returns-in-Err : goal.returns-in-Err
 unfolding check_rescue
-returns-in-Refused c = rw (sym c.check_head.ensures ∙ c.in-Refused.is)
+returns-in-Err c = rw (sym c.check_head.ensures ∙ c.in-Err.is)
 
-pub returns-in-Passed : goal.returns-in-Passed
+pub returns-in-Ok : goal.returns-in-Ok
 unfolding check_rescue
-returns-in-Passed c = rw (sym c.check_head.ensures ∙ c.in-Passed.is) c.unless.ensures
+returns-in-Ok c = rw (sym c.check_head.ensures ∙ c.in-Ok.is) c.unless.ensures
