@@ -16,6 +16,7 @@ use Rattle.sheet.specs.declared.Expect.TheVariants.{Control, One, All}
 use Rattle.sheet.specs.declared.Refusal.{Refusal}
 use Rattle.sheet.specs.declared.Refusal.TheVariants.{UnknownPlace}
 use Rattle.std.specs.Prelude.{Err, Ok}
+use Rattle.sheet.specs.Results.{Check}
 use Rattle.sheet.specs.Parts.{Part}
 use Rattle.sheet.specs.Registers.{known}
 use Rattle.sheet.specs.Checks.{unless, fault, marks_after, last_fault, fault_in}
@@ -38,7 +39,7 @@ in_data : (K : Part) (cut : Bool) (u : Marks) (i : ℕ) (xs : List ℕ) → know
 unfolding fault_in
 in_data K cut u i [] t = rw t (go cut)
   where
-    go : (b : Bool) → cond (b && true) (Ok tt) (Ok tt) ≡ Ok tt
+    go : (b : Bool) → ◌≡◌ {A = Check} (cond (b && true) (Ok tt) (Ok tt)) (Ok tt)
     go true = refl
     go false = refl
 in_data K cut u i (x ∷ xs) t = rw t (in_data K cut u (suc i) xs t)
@@ -62,11 +63,11 @@ of-run K cut u bytes i h e =
     ∙ ap (λ (x : ℕ). fault_in K cut u (control_of x) (i + 1) (drop (i + 1) bytes)) e
     ∙ go (ltb (i + 1) (length bytes)) refl (known u) refl
   where
-    either : (b : Bool) → cond b (Ok tt) (Ok tt) ≡ Ok tt
+    either : (b : Bool) → ◌≡◌ {A = Check} (cond b (Ok tt) (Ok tt)) (Ok tt)
     either true = refl
     either false = refl
 
-    last : (b : Bool) → cond (b && true) (Err (UnknownPlace (i + 1))) (Ok tt) ≡ cond b (Err (UnknownPlace (i + 1))) (Ok tt)
+    last : (b : Bool) → ◌≡◌ {A = Check} (cond (b && true) (Err (UnknownPlace (i + 1))) (Ok tt)) (cond b (Err (UnknownPlace (i + 1))) (Ok tt))
     last true = refl
     last false = refl
 

@@ -59,6 +59,7 @@ fn check_bus(part: u8, chips: Chips) -> Result<(), Refusal>
 }
 
 // A power-on: 16, 3, 4, 5.
+#[tactic(auto, unfolding(sheet::specs::Checks::check_power_on))]
 pub fn check_power_on(part: u8, chips: Chips, ram: &[u8], packed: bool) -> Result<(), Refusal>
     ensures { result ≡ or_else (check_part part) (check_power_on (part_of part) chips (columns_in packed ram.now)) }
 {
@@ -108,6 +109,7 @@ fn check_bytes(
 }
 
 // A transfer: 16, 3, 6, 4, 5, 1, 2, 19, then 7, 17 and 18.
+#[tactic(auto, unfolding(sheet::specs::Checks::check_transfer, sheet::specs::Checks::check_state, sheet::specs::Checks::check_registers, sheet::specs::Checks::check_sent))]
 pub fn check_transfer(
     part: u8,
     chips: Chips,
@@ -153,6 +155,7 @@ fn check_rows(part: u8, chips: Chips, group: u8, rows: &[u8]) -> Result<(), Refu
 }
 
 // A writer's wanted rows: 16, 3, 6 (also a wanted mode or bank out of range), 8, 4, 5.
+#[tactic(auto, unfolding(writer_sheet::specs::Writer::check_wanted, sheet::specs::Checks::check_registers))]
 pub fn check_wanted(
     part: u8,
     chips: Chips,
@@ -170,6 +173,7 @@ pub fn check_wanted(
 }
 
 // Those of a transfer for every element in 1:3: 16, 3, 6, 8, 4, 5. No call shares it, so that its registers are not handed on through memory.
+#[tactic(auto, unfolding(writer_sheet::specs::Writer::check_wanted, sheet::specs::Checks::check_registers))]
 pub fn check_every(
     part: u8,
     chips: Chips,
