@@ -151,6 +151,7 @@ pub fn fits(part: u8, chip: Chip) -> bool
 }
 
 // Whether a power-on is refused: 16, 11.
+#[tactic(auto, unfolding(sheet::specs::Plain::chip_power_on))]
 fn check_power_on(part: u8, chip: Chip) -> Result<(), Refusal>
     ensures { result ≡ or_else (check_part part) (chip_power_on (part_of part) chip).check }
 {
@@ -172,6 +173,7 @@ pub fn power_on(part: u8, mut chip: Chip) -> ChipPowerOn
 }
 
 // Whether a picture of the chip into a buffer of this size is refused, the part being known.
+#[tactic(auto, unfolding(sheet::specs::Plain::check_chip_picture))]
 fn check_shown(part: u8, chip: Chip, phase: u8, size: usize) -> Result<(), Refusal>
     ensures { result ≡ check_chip_picture (part_of part) chip phase size }
 {

@@ -146,6 +146,7 @@ fn data_fault(bytes: &[u8], given: &[u8], at: usize) -> Result<(), Refusal>
     }
 }
 
+#[tactic(auto, unfolding(image_sheet::specs::Images::fault_of))]
 fn fault(bytes: &[u8], given: &[u8], at: usize) -> Result<(), Refusal>
     requires { Whole bytes.now }
     ensures { result ≡ fault_of given.now at bytes.now }

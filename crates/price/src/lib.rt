@@ -147,6 +147,7 @@ fn put_texts(mode: u8, segments: &[u8], before: &[u8], out: &mut [u8]) -> Result
 // ---- the calls
 
 // 2, 6, 9.
+#[tactic(auto, unfolding(price_sheet::specs::Price::check_price))]
 fn check_sizes(size: usize, mode: u8, room: usize, out: usize) -> Result<(), Refusal>
     ensures { result ≡ check_price size mode room out }
 {

@@ -21,6 +21,7 @@ pub fn chips_of(log: &[u8]) -> Chips
 }
 
 // 14, 12, 3. Logs are the PCF8532's.
+#[tactic(auto, unfolding(log_sheet::specs::Logs::check_head, sheet::specs::Parts::part_of))]
 pub fn check_head(log: &[u8]) -> Result<(), Refusal>
     ensures { result ≡ check_head log.now }
 {

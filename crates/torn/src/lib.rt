@@ -39,6 +39,7 @@ fn whole_of(log: &[u8]) -> Whole
 }
 
 // 14, 12, 3, then 9 for an output shorter than the log.
+#[tactic(auto, unfolding(log_sheet::specs::Rescue::check_rescue))]
 fn check(log: &[u8], size: usize) -> Result<(), Refusal>
     ensures { result ≡ check_rescue log.now size }
 {

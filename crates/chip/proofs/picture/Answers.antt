@@ -1,5 +1,6 @@
 -- `chip::picture` meets its contract, by the case of the check; one that passes lets the chip be shown.
 -- Assumes nothing.
+use Rattle.std.proofs.lemmas.Result.{err_from_is_err_and}
 use mathlib.Core.Path.{◌≡◌, sym, ap, ◌∙◌}
 use mathlib.Core.Bool.{true}
 use mathlib.Core.List.{List}
@@ -34,19 +35,20 @@ known part c phase out e = chip-picture-passed (part_of part) _ _ _ (both_pass (
 
 pub show_own-requires : goal.show_own-requires
 show_own-requires c = let a = c.args in
-    let h = known a.part a.chip a.phase a.out.now (sym c.check_picture.ensures ∙ c.in-Ok.is) in
+    let h = known a.part a.chip a.phase a.out.now (sym c.check_picture.ensures ∙ c.in_ok-check_picture.was) in
     let r = range-of (part_of a.part) a.chip.registers h.0 in
     (h.1, r.m-in, r.o-in)
 
-pub returns-in-Err : goal.returns-in-Err
-returns-in-Err c = let a = c.args in
-    let h = numbered-picture (sym (by-check a.part a.chip a.phase a.out.now _ (sym c.check_picture.ensures ∙ c.in-Err.is))) in
-    record { out_after = h.0; result_value = h.1 }
+pub returns-in_err-check_picture : goal.returns-in_err-check_picture
+returns-in_err-check_picture c = let a = c.args in
+    let h = numbered-picture (sym (by-check a.part a.chip a.phase a.out.now _ (sym c.check_picture.ensures ∙ c.in_err-check_picture.was))) in
+    let p = err_from_is_err_and c.from_residual.result c.from_residual.ensures.1 in rw (p.1, p.2) (record { out_after = h.0; result_value = h.1 })
 
-pub returns-in-Ok : goal.returns-in-Ok
-returns-in-Ok c = let a = c.args in
+
+pub returns : goal.returns
+returns c = let a = c.args in
     let e = c.show_own.ensures in
     let shown : ◌≡◌ {A = Seen} (record { result = Ok c.show_own.result; out = c.show_own.new.out }) (seen (Ok tt) (picture_of a.chip.registers a.phase (own_columns (part_of a.part) a.chip)) a.out.now) =
     λ j. record { result = Ok (e.value j); out = e.out_after j } in
-    let h = numbered-picture (shown ∙ sym (by-check a.part a.chip a.phase a.out.now _ (sym c.check_picture.ensures ∙ c.in-Ok.is))) in
+    let h = numbered-picture (shown ∙ sym (by-check a.part a.chip a.phase a.out.now _ (sym c.check_picture.ensures ∙ c.in_ok-check_picture.was))) in
     record { out_after = h.0; result_value = h.1 }

@@ -1,5 +1,6 @@
 -- `three::write_three` meets its contract: refused, nothing for no chip, or the transfer at the start of the output.
 -- Assumes nothing.
+use Rattle.std.proofs.lemmas.Result.{err_from_is_err_and}
 use mathlib.Core.Path.{◌≡◌, sym, ap, ap₂, ◌∙◌}
 use mathlib.Core.List.{List, [], ◌∷◌, ◌++◌}
 use Prim.Native.Nat.{ℕ, ◌+◌, ◌*◌, ◌/◌, ◌%◌, ◌≤◌, ◌<◌}
@@ -48,18 +49,18 @@ size_small part n e few = rw e (pairs_small part n few)
 pub returns-then-chips_in-eq0 : goal.returns-then-chips_in-eq0
 unfolding write_three_part
 returns-then-chips_in-eq0 c = let a = c.args in
-    let both = numbered (none a.part (check_wanted (part_of a.part) a.chips a.registers a.group 3 0 a.wanted.now) (three_transfer (part_of a.part) a.chips a.registers a.group a.wanted.now) a.out.now (sym c.check_every.ensures ∙ c.in-Ok.is) (is_none (part_of a.part) a.chips a.registers a.group a.wanted.now (sym c.chips_in.ensures ∙ c.if-chips_in-eq0.true))) in
+    let both = numbered (none a.part (check_wanted (part_of a.part) a.chips a.registers a.group 3 0 a.wanted.now) (three_transfer (part_of a.part) a.chips a.registers a.group a.wanted.now) a.out.now (sym c.check_every.ensures ∙ c.in_ok-check_every.was) (is_none (part_of a.part) a.chips a.registers a.group a.wanted.now (sym c.chips_in.ensures ∙ c.if-chips_in-eq0.true))) in
     record { out_after = both.0; result_value = both.1 }
 
 pub returns-then-out-size : goal.returns-then-out-size
 unfolding write_three_part
 returns-then-out-size c = let a = c.args in
-    let both = numbered (too_short a.part (check_wanted (part_of a.part) a.chips a.registers a.group 3 0 a.wanted.now) (three_transfer (part_of a.part) a.chips a.registers a.group a.wanted.now) a.out.now (sym c.check_every.ensures ∙ c.in-Ok.is) (omega (arith, size_is c.args.part c.args.chips c.args.registers c.args.group c.args.wanted.now (omega (arith, c.if-chips_in-eq0.false, c.chips_in.ensures)) c.byte_size.ensures, c.if-out-size.true))) in
+    let both = numbered (too_short a.part (check_wanted (part_of a.part) a.chips a.registers a.group 3 0 a.wanted.now) (three_transfer (part_of a.part) a.chips a.registers a.group a.wanted.now) a.out.now (sym c.check_every.ensures ∙ c.in_ok-check_every.was) (omega (arith, size_is c.args.part c.args.chips c.args.registers c.args.group c.args.wanted.now (omega (arith, c.if-chips_in-eq0.false, c.chips_in.ensures)) c.byte_size.ensures, c.if-out-size.true))) in
     record { out_after = both.0; result_value = both.1 }
 
 pub put_three-requires : goal.put_three-requires
 put_three-requires c = let a = c.args in
-    let asked = asks c.args.part c.args.chips c.args.registers c.args.group c.args.wanted.now (sym c.check_every.ensures ∙ c.in-Ok.is) in
+    let asked = asks c.args.part c.args.chips c.args.registers c.args.group c.args.wanted.now (sym c.check_every.ensures ∙ c.in_ok-check_every.was) in
     let own = asked.own_in in
     let e = c.registers_of-own.ensures in (
       asked.group-in,
@@ -74,28 +75,26 @@ put_three-requires c = let a = c.args in
       },
     )
 
-pub returns-in-Err : goal.returns-in-Err
+pub returns-in_err-check_every : goal.returns-in_err-check_every
 unfolding write_three_part
-returns-in-Err c = let a = c.args in
-    let both = numbered (refuses a.part (check_wanted (part_of a.part) a.chips a.registers a.group 3 0 a.wanted.now) (three_transfer (part_of a.part) a.chips a.registers a.group a.wanted.now) a.out.now _ (sym c.check_every.ensures ∙ c.in-Err.is)) in
-    record { out_after = both.0; result_value = both.1 }
+returns-in_err-check_every c = let a = c.args in
+    let both = numbered (refuses a.part (check_wanted (part_of a.part) a.chips a.registers a.group 3 0 a.wanted.now) (three_transfer (part_of a.part) a.chips a.registers a.group a.wanted.now) a.out.now _ (sym c.check_every.ensures ∙ c.in_err-check_every.was)) in
+    let p = err_from_is_err_and c.from_residual.result c.from_residual.ensures.1 in rw (p.1, p.2) (record { out_after = both.0; result_value = both.1 })
 
-pub returns-else-out-size : goal.returns-else-out-size
+
+pub returns : goal.returns
 unfolding write_three_part
-returns-else-out-size c = let a = c.args in
+returns c = let a = c.args in
     let is = c.put_three.ensures
     ∙ ap (λ (r : Registers). address_of a.group ∷ each_after80 (mode_set_of r 3 ∷ []) ++ pairs_from (part_of a.part) (length a.wanted.now / 2) 0 a.wanted.now) c.registers_of-own.ensures
     ∙ sym (is-three (part_of a.part) a.chips a.registers a.group a.wanted.now (omega (arith, c.if-chips_in-eq0.false, c.chips_in.ensures))) in
     let both = numbered
     (ap₂ (λ (k : ℕ) (l : List ℕ). record { result = Ok k; out = l ++ drop k a.out.now }) (size_is c.args.part c.args.chips c.args.registers c.args.group c.args.wanted.now (omega (arith, c.if-chips_in-eq0.false, c.chips_in.ensures)) c.byte_size.ensures) is
-    ∙ written a.part (check_wanted (part_of a.part) a.chips a.registers a.group 3 0 a.wanted.now) (three_transfer (part_of a.part) a.chips a.registers a.group a.wanted.now) a.out.now (sym c.check_every.ensures ∙ c.in-Ok.is) (omega (arith, size_is c.args.part c.args.chips c.args.registers c.args.group c.args.wanted.now (omega (arith, c.if-chips_in-eq0.false, c.chips_in.ensures)) c.byte_size.ensures))) in
+    ∙ written a.part (check_wanted (part_of a.part) a.chips a.registers a.group 3 0 a.wanted.now) (three_transfer (part_of a.part) a.chips a.registers a.group a.wanted.now) a.out.now (sym c.check_every.ensures ∙ c.in_ok-check_every.was) (omega (arith, size_is c.args.part c.args.chips c.args.registers c.args.group c.args.wanted.now (omega (arith, c.if-chips_in-eq0.false, c.chips_in.ensures)) c.byte_size.ensures))) in
     record { out_after = both.0; result_value = both.1 }
 
 pub overflow_mul-size : goal.overflow_mul-size
-overflow_mul-size c = omega (arith, size_small c.args.part (length c.args.wanted.now) c.byte_size.ensures (few_wanted c.args.part (asks c.args.part c.args.chips c.args.registers c.args.group c.args.wanted.now (sym c.check_every.ensures ∙ c.in-Ok.is))))
+overflow_mul-size c = omega (arith, size_small c.args.part (length c.args.wanted.now) c.byte_size.ensures (few_wanted c.args.part (asks c.args.part c.args.chips c.args.registers c.args.group c.args.wanted.now (sym c.check_every.ensures ∙ c.in_ok-check_every.was))))
 
 pub overflow_add-size : goal.overflow_add-size
-overflow_add-size c = omega (arith, size_small c.args.part (length c.args.wanted.now) c.byte_size.ensures (few_wanted c.args.part (asks c.args.part c.args.chips c.args.registers c.args.group c.args.wanted.now (sym c.check_every.ensures ∙ c.in-Ok.is))))
-
-pub slice_bounds-put_three-end-in-Ok : goal.slice_bounds-put_three-end-in-Ok
-slice_bounds-put_three-end-in-Ok c = sym (length-take-le _ _ (omega (arith, c.if-out-size.false)))
+overflow_add-size c = omega (arith, size_small c.args.part (length c.args.wanted.now) c.byte_size.ensures (few_wanted c.args.part (asks c.args.part c.args.chips c.args.registers c.args.group c.args.wanted.now (sym c.check_every.ensures ∙ c.in_ok-check_every.was))))

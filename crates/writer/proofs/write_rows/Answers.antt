@@ -1,5 +1,6 @@
 -- `writer::write_rows` meets its contract: refused, nothing for no chip, or the transfer at the start of the output.
 -- Assumes nothing.
+use Rattle.std.proofs.lemmas.Result.{err_from_is_err_and}
 use mathlib.Core.Path.{◌≡◌, sym, ap, ap₂, ◌∙◌}
 use mathlib.Core.List.{List, [], ◌∷◌, ◌++◌}
 use Prim.Native.Nat.{ℕ, ◌+◌, ◌*◌, ◌<◌}
@@ -45,22 +46,22 @@ size_is part n r g mode bank wanted some eo em es =
 pub returns-then-chips_in-eq0 : goal.returns-then-chips_in-eq0
 unfolding write_rows_part
 returns-then-chips_in-eq0 c = let a = c.args in
-    let both = numbered (none a.part (check_wanted (part_of a.part) a.chips a.registers a.group a.mode a.bank a.wanted.now) (rows_transfer (part_of a.part) a.chips a.registers a.group a.mode a.bank a.wanted.now) a.out.now (sym c.check_wanted.ensures ∙ c.in-Ok.is) (is_none (part_of a.part) a.chips a.registers a.group a.mode a.bank a.wanted.now (sym c.chips_in.ensures ∙ c.if-chips_in-eq0.true))) in
+    let both = numbered (none a.part (check_wanted (part_of a.part) a.chips a.registers a.group a.mode a.bank a.wanted.now) (rows_transfer (part_of a.part) a.chips a.registers a.group a.mode a.bank a.wanted.now) a.out.now (sym c.check_wanted.ensures ∙ c.in_ok-check_wanted.was) (is_none (part_of a.part) a.chips a.registers a.group a.mode a.bank a.wanted.now (sym c.chips_in.ensures ∙ c.if-chips_in-eq0.true))) in
     record { out_after = both.0; result_value = both.1 }
 
 pub rows_size-size-requires : goal.rows_size-size-requires
-rows_size-size-requires c = let planes = rows_fit (set_to c.args.mode 0 c.registers_of-own.result) 0 (asks c.args.part c.args.chips c.args.registers c.args.group c.args.mode c.args.bank c.args.wanted.now (sym c.check_wanted.ensures ∙ c.in-Ok.is)).mode-in (omega arith) in
-    (rw c.backplanes_of.ensures planes.0, rw c.backplanes_of.ensures (omega (arith, planes.1)), omega (arith, few_wanted c.args.part (asks c.args.part c.args.chips c.args.registers c.args.group c.args.mode c.args.bank c.args.wanted.now (sym c.check_wanted.ensures ∙ c.in-Ok.is))))
+rows_size-size-requires c = let planes = rows_fit (set_to c.args.mode 0 c.registers_of-own.result) 0 (asks c.args.part c.args.chips c.args.registers c.args.group c.args.mode c.args.bank c.args.wanted.now (sym c.check_wanted.ensures ∙ c.in_ok-check_wanted.was)).mode-in (omega arith) in
+    (rw c.backplanes_of.ensures planes.0, rw c.backplanes_of.ensures (omega (arith, planes.1)), omega (arith, few_wanted c.args.part (asks c.args.part c.args.chips c.args.registers c.args.group c.args.mode c.args.bank c.args.wanted.now (sym c.check_wanted.ensures ∙ c.in_ok-check_wanted.was))))
 
 pub returns-then-out-size : goal.returns-then-out-size
 unfolding write_rows_part
 returns-then-out-size c = let a = c.args in
-    let both = numbered (too_short a.part (check_wanted (part_of a.part) a.chips a.registers a.group a.mode a.bank a.wanted.now) (rows_transfer (part_of a.part) a.chips a.registers a.group a.mode a.bank a.wanted.now) a.out.now (sym c.check_wanted.ensures ∙ c.in-Ok.is) (omega (arith, size_is c.args.part c.args.chips c.args.registers c.args.group c.args.mode c.args.bank c.args.wanted.now (omega (arith, c.chips_in.ensures)) c.registers_of-own.ensures c.backplanes_of.ensures c.rows_size-size.ensures, c.if-out-size.true))) in
+    let both = numbered (too_short a.part (check_wanted (part_of a.part) a.chips a.registers a.group a.mode a.bank a.wanted.now) (rows_transfer (part_of a.part) a.chips a.registers a.group a.mode a.bank a.wanted.now) a.out.now (sym c.check_wanted.ensures ∙ c.in_ok-check_wanted.was) (omega (arith, size_is c.args.part c.args.chips c.args.registers c.args.group c.args.mode c.args.bank c.args.wanted.now (omega (arith, c.chips_in.ensures)) c.registers_of-own.ensures c.backplanes_of.ensures c.rows_size-size.ensures, c.if-out-size.true))) in
     record { out_after = both.0; result_value = both.1 }
 
 pub put_rows-requires : goal.put_rows-requires
 put_rows-requires c = let a = c.args in
-    let asked = asks c.args.part c.args.chips c.args.registers c.args.group c.args.mode c.args.bank c.args.wanted.now (sym c.check_wanted.ensures ∙ c.in-Ok.is) in
+    let asked = asks c.args.part c.args.chips c.args.registers c.args.group c.args.mode c.args.bank c.args.wanted.now (sym c.check_wanted.ensures ∙ c.in_ok-check_wanted.was) in
     let own = asked.own_in in
     let e = c.registers_of-own.ensures in (
       record { group-in = asked.group-in; e-in = rw e own.e-in; b-in = rw e own.b-in; o-in = rw e own.o-in; mode-in = asked.mode-in; bank-in = asked.bank-in },
@@ -69,26 +70,24 @@ put_rows-requires c = let a = c.args in
             length-take-le c.rows_size-size.result a.out.now (omega (arith, c.if-out-size.false)) ∙ c.rows_size-size.ensures
             ∙ ap (λ (m : ℕ). 8 + 2 * length ((part_of a.part).pointer 0) + bytes_for m (length a.wanted.now)) c.backplanes_of.ensures;
         sixteen = rw asked.columns (by-sixteen a.part (chips_in a.group a.chips));
-        near = omega (arith, few_wanted c.args.part (asks c.args.part c.args.chips c.args.registers c.args.group c.args.mode c.args.bank c.args.wanted.now (sym c.check_wanted.ensures ∙ c.in-Ok.is)));
+        near = omega (arith, few_wanted c.args.part (asks c.args.part c.args.chips c.args.registers c.args.group c.args.mode c.args.bank c.args.wanted.now (sym c.check_wanted.ensures ∙ c.in_ok-check_wanted.was)));
       },
     )
 
-pub returns-in-Err : goal.returns-in-Err
+pub returns-in_err-check_wanted : goal.returns-in_err-check_wanted
 unfolding write_rows_part
-returns-in-Err c = let a = c.args in
-    let both = numbered (refuses a.part (check_wanted (part_of a.part) a.chips a.registers a.group a.mode a.bank a.wanted.now) (rows_transfer (part_of a.part) a.chips a.registers a.group a.mode a.bank a.wanted.now) a.out.now _ (sym c.check_wanted.ensures ∙ c.in-Err.is)) in
-    record { out_after = both.0; result_value = both.1 }
+returns-in_err-check_wanted c = let a = c.args in
+    let both = numbered (refuses a.part (check_wanted (part_of a.part) a.chips a.registers a.group a.mode a.bank a.wanted.now) (rows_transfer (part_of a.part) a.chips a.registers a.group a.mode a.bank a.wanted.now) a.out.now _ (sym c.check_wanted.ensures ∙ c.in_err-check_wanted.was)) in
+    let p = err_from_is_err_and c.from_residual.result c.from_residual.ensures.1 in rw (p.1, p.2) (record { out_after = both.0; result_value = both.1 })
 
-pub returns-else-out-size : goal.returns-else-out-size
+
+pub returns : goal.returns
 unfolding write_rows_part
-returns-else-out-size c = let a = c.args in
+returns c = let a = c.args in
     let is = c.put_rows.ensures
     ∙ ap (λ (r : Registers). address_of a.group ∷ each_after80 (settings (part_of a.part) r a.mode a.bank) ++ (0x40 ∷ data_of (set_to a.mode a.bank r) a.wanted.now)) c.registers_of-own.ensures
     ∙ sym (is-rows (part_of a.part) a.chips a.registers a.group a.mode a.bank a.wanted.now (omega (arith, c.chips_in.ensures))) in
     let both = numbered
     (ap₂ (λ (k : ℕ) (l : List ℕ). record { result = Ok k; out = l ++ drop k a.out.now }) (size_is c.args.part c.args.chips c.args.registers c.args.group c.args.mode c.args.bank c.args.wanted.now (omega (arith, c.chips_in.ensures)) c.registers_of-own.ensures c.backplanes_of.ensures c.rows_size-size.ensures) is
-    ∙ written a.part (check_wanted (part_of a.part) a.chips a.registers a.group a.mode a.bank a.wanted.now) (rows_transfer (part_of a.part) a.chips a.registers a.group a.mode a.bank a.wanted.now) a.out.now (sym c.check_wanted.ensures ∙ c.in-Ok.is) (omega (arith, size_is c.args.part c.args.chips c.args.registers c.args.group c.args.mode c.args.bank c.args.wanted.now (omega (arith, c.chips_in.ensures)) c.registers_of-own.ensures c.backplanes_of.ensures c.rows_size-size.ensures))) in
+    ∙ written a.part (check_wanted (part_of a.part) a.chips a.registers a.group a.mode a.bank a.wanted.now) (rows_transfer (part_of a.part) a.chips a.registers a.group a.mode a.bank a.wanted.now) a.out.now (sym c.check_wanted.ensures ∙ c.in_ok-check_wanted.was) (omega (arith, size_is c.args.part c.args.chips c.args.registers c.args.group c.args.mode c.args.bank c.args.wanted.now (omega (arith, c.chips_in.ensures)) c.registers_of-own.ensures c.backplanes_of.ensures c.rows_size-size.ensures))) in
     record { out_after = both.0; result_value = both.1 }
-
-pub slice_bounds-put_rows-end-in-Ok : goal.slice_bounds-put_rows-end-in-Ok
-slice_bounds-put_rows-end-in-Ok c = sym (length-take-le _ _ (omega (arith, c.if-out-size.false)))
