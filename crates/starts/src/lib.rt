@@ -89,6 +89,7 @@ fn marks_found(found: Found) -> Marks
 }
 
 // 11, 1, 2, 19, then 7, 17 and 18.
+#[tactic(auto, unfolding(sheet::specs::Checks::check_sent))]
 fn check_chips(part: u8, bytes: &[u8], bits: u8, found: Found) -> Result<(), Refusal>
     ensures { result ≡ check_list part (sent bytes.now bits) found }
 {

@@ -1,5 +1,6 @@
 -- `price::read` meets its contract: refused by its sizes, by 15, or the text.
 -- Assumes nothing.
+use Rattle.std.proofs.lemmas.Result.{err_from_is_err_and}
 use mathlib.Core.Path.{◌≡◌, ap, ◌∙◌}
 use mathlib.Core.List.{List}
 use Prim.Native.Nat.{ℕ}
@@ -19,23 +20,24 @@ passed : (segments : List ℕ) (mode : ℕ) (out : List ℕ) (k : Check) → k �
 passed segments mode out k told e = fits (length segments) mode 160 out k told e
 
 pub text_before-before-requires : goal.text_before-before-requires
-text_before-before-requires c = (passed c.args.segments.now c.args.mode c.args.out.now c.check_sizes.result c.check_sizes.ensures c.in-Ok.is).enough
+text_before-before-requires c = (passed c.args.segments.now c.args.mode c.args.out.now c.check_sizes.result c.check_sizes.ensures c.in_ok-check_sizes.was).enough
 
 pub put_texts-requires : goal.put_texts-requires
-put_texts-requires c = (passed c.args.segments.now c.args.mode c.args.out.now c.check_sizes.result c.check_sizes.ensures c.in-Ok.is, c.text_before-before.ensures)
+put_texts-requires c = (passed c.args.segments.now c.args.mode c.args.out.now c.check_sizes.result c.check_sizes.ensures c.in_ok-check_sizes.was, c.text_before-before.ensures)
 
 pub settled-requires : goal.settled-requires
-settled-requires c = let s = passed c.args.segments.now c.args.mode c.args.out.now c.check_sizes.result c.check_sizes.ensures c.in-Ok.is in
+settled-requires c = let s = passed c.args.segments.now c.args.mode c.args.out.now c.check_sizes.result c.check_sizes.ensures c.in_ok-check_sizes.was in
     omega (arith, ap length c.text_before-before.ensures, length-take-le 160 c.args.out.now s.enough, c.put_texts.auto.out, s.enough)
 
-pub returns-in-Err : goal.returns-in-Err
+pub returns-in_err-check_sizes : goal.returns-in_err-check_sizes
 unfolding price_read
-returns-in-Err c = let n = numbered (refused (length c.args.segments.now) c.args.mode 160 c.args.out.now c.check_sizes.result c.check_sizes.ensures (read_from c.args.mode 0 c.args.segments.now) _ _ c.in-Err.is) in
-    record { out_after = n.0; result_value = n.1 }
+returns-in_err-check_sizes c = let n = numbered (refused (length c.args.segments.now) c.args.mode 160 c.args.out.now c.check_sizes.result c.check_sizes.ensures (read_from c.args.mode 0 c.args.segments.now) _ _ c.in_err-check_sizes.was) in
+    let e = err_from_is_err_and c.from_residual.result c.from_residual.ensures.1 in rw (e.1, e.2) (record { out_after = n.0; result_value = n.1 })
 
-pub returns-in-Ok : goal.returns-in-Ok
+
+pub returns : goal.returns
 unfolding price_read
-returns-in-Ok c = let n = numbered
+returns c = let n = numbered
     (c.settled.ensures ∙ ap (λ (front : List ℕ). settled c.put_texts.result front c.put_texts.new.out) c.text_before-before.ensures
-    ∙ taken (length c.args.segments.now) c.args.mode 160 c.args.out.now c.check_sizes.result c.check_sizes.ensures c.in-Ok.is c.put_texts.ensures) in
+    ∙ taken (length c.args.segments.now) c.args.mode 160 c.args.out.now c.check_sizes.result c.check_sizes.ensures c.in_ok-check_sizes.was c.put_texts.ensures) in
     record { out_after = n.0; result_value = n.1 }

@@ -1,5 +1,6 @@
 -- `price::write` meets its contract: refused by its sizes, by 15, or the data bytes.
 -- Assumes nothing.
+use Rattle.std.proofs.lemmas.Result.{err_from_is_err_and}
 use mathlib.Core.Path.{◌≡◌, ap, ◌∙◌}
 use mathlib.Core.List.{List}
 use Prim.Native.Nat.{ℕ}
@@ -19,23 +20,24 @@ passed : (text : List ℕ) (mode : ℕ) (out : List ℕ) (k : Check) → k ≡ c
 passed text mode out k told e = fits (length text) mode 80 out k told e
 
 pub bytes_before-before-requires : goal.bytes_before-before-requires
-bytes_before-before-requires c = (passed c.args.text.now c.args.mode c.args.out.now c.check_sizes.result c.check_sizes.ensures c.in-Ok.is).enough
+bytes_before-before-requires c = (passed c.args.text.now c.args.mode c.args.out.now c.check_sizes.result c.check_sizes.ensures c.in_ok-check_sizes.was).enough
 
 pub put_bytes-requires : goal.put_bytes-requires
-put_bytes-requires c = passed c.args.text.now c.args.mode c.args.out.now c.check_sizes.result c.check_sizes.ensures c.in-Ok.is
+put_bytes-requires c = passed c.args.text.now c.args.mode c.args.out.now c.check_sizes.result c.check_sizes.ensures c.in_ok-check_sizes.was
 
 pub settled-requires : goal.settled-requires
-settled-requires c = let s = passed c.args.text.now c.args.mode c.args.out.now c.check_sizes.result c.check_sizes.ensures c.in-Ok.is in
+settled-requires c = let s = passed c.args.text.now c.args.mode c.args.out.now c.check_sizes.result c.check_sizes.ensures c.in_ok-check_sizes.was in
     omega (arith, ap length c.bytes_before-before.ensures, length-take-le 80 c.args.out.now s.enough, c.put_bytes.auto.out, s.enough)
 
-pub returns-in-Err : goal.returns-in-Err
+pub returns-in_err-check_sizes : goal.returns-in_err-check_sizes
 unfolding price_write
-returns-in-Err c = let n = numbered (refused (length c.args.text.now) c.args.mode 80 c.args.out.now c.check_sizes.result c.check_sizes.ensures (spelled c.args.text.now) _ _ c.in-Err.is) in
-    record { out_after = n.0; result_value = n.1 }
+returns-in_err-check_sizes c = let n = numbered (refused (length c.args.text.now) c.args.mode 80 c.args.out.now c.check_sizes.result c.check_sizes.ensures (spelled c.args.text.now) _ _ c.in_err-check_sizes.was) in
+    let e = err_from_is_err_and c.from_residual.result c.from_residual.ensures.1 in rw (e.1, e.2) (record { out_after = n.0; result_value = n.1 })
 
-pub returns-in-Ok : goal.returns-in-Ok
+
+pub returns : goal.returns
 unfolding price_write
-returns-in-Ok c = let n = numbered
+returns c = let n = numbered
     (c.settled.ensures ∙ ap (λ (front : List ℕ). settled c.put_bytes.result front c.put_bytes.new.out) c.bytes_before-before.ensures
-    ∙ taken (length c.args.text.now) c.args.mode 80 c.args.out.now c.check_sizes.result c.check_sizes.ensures c.in-Ok.is c.put_bytes.ensures) in
+    ∙ taken (length c.args.text.now) c.args.mode 80 c.args.out.now c.check_sizes.result c.check_sizes.ensures c.in_ok-check_sizes.was c.put_bytes.ensures) in
     record { out_after = n.0; result_value = n.1 }

@@ -1,5 +1,6 @@
 -- `torn::rescue` meets its contract: refused, or what is whole copied to the start of the output.
 -- Assumes nothing.
+use Rattle.std.proofs.lemmas.Result.{err_from_is_err_and}
 use mathlib.Core.Path.{◌≡◌, sym, ap, ◌∙◌}
 use mathlib.Core.List.{List, ◌++◌}
 use Prim.Native.Nat.{ℕ, ◌-◌, ◌≤◌}
@@ -22,38 +23,39 @@ inside log out w passed is = let f = fits log (length out) passed in
     (omega (arith, f.few, end), omega (arith, f.few, f.room, end))
 
 pub slice_bounds-copy-end : goal.slice_bounds-copy-end
-slice_bounds-copy-end c = let i = inside c.args.log.now c.args.out.now c.whole_of-whole.result (sym c.check.ensures ∙ c.in-Ok.is) c.whole_of-whole.ensures in sym (length-take-le _ _ i.0)
+slice_bounds-copy-end c = let i = inside c.args.log.now c.args.out.now c.whole_of-whole.result (sym c.check.ensures ∙ c.in_ok-check.was) c.whole_of-whole.ensures in sym (length-take-le _ _ i.0)
 
-pub slice_bounds-copy-end-in-Ok : goal.slice_bounds-copy-end-in-Ok
-slice_bounds-copy-end-in-Ok c = (inside c.args.log.now c.args.out.now c.whole_of-whole.result (sym c.check.ensures ∙ c.in-Ok.is) c.whole_of-whole.ensures).1
+pub slice_bounds-copy-end-2 : goal.slice_bounds-copy-end-2
+slice_bounds-copy-end-2 c = (inside c.args.log.now c.args.out.now c.whole_of-whole.result (sym c.check.ensures ∙ c.in_ok-check.was) c.whole_of-whole.ensures).1
 
-pub slice_bounds-copy-end-in-Ok-2 : goal.slice_bounds-copy-end-in-Ok-2
-slice_bounds-copy-end-in-Ok-2 c = let i = inside c.args.log.now c.args.out.now c.whole_of-whole.result (sym c.check.ensures ∙ c.in-Ok.is) c.whole_of-whole.ensures in sym (length-take-le _ _ i.1)
+pub slice_bounds-copy-end-3 : goal.slice_bounds-copy-end-3
+slice_bounds-copy-end-3 c = let i = inside c.args.log.now c.args.out.now c.whole_of-whole.result (sym c.check.ensures ∙ c.in_ok-check.was) c.whole_of-whole.ensures in sym (length-take-le _ _ i.1)
 
 pub copy-requires : goal.copy-requires
-copy-requires c = let i = inside c.args.log.now c.args.out.now c.whole_of-whole.result (sym c.check.ensures ∙ c.in-Ok.is) c.whole_of-whole.ensures in
+copy-requires c = let i = inside c.args.log.now c.args.out.now c.whole_of-whole.result (sym c.check.ensures ∙ c.in_ok-check.was) c.whole_of-whole.ensures in
     length-take-le _ _ i.1 ∙ sym (length-take-le _ _ i.0)
 
 pub overflow_sub-result : goal.overflow_sub-result
-overflow_sub-result c = (inside c.args.log.now c.args.out.now c.whole_of-whole.result (sym c.check.ensures ∙ c.in-Ok.is) c.whole_of-whole.ensures).0
+overflow_sub-result c = (inside c.args.log.now c.args.out.now c.whole_of-whole.result (sym c.check.ensures ∙ c.in_ok-check.was) c.whole_of-whole.ensures).0
 
 -- a result with the output, and so its numbers
 numbered : {a b : RescuedAfter} → a ≡ b → (a ≡ b) × (rescued_numbers a.result ≡ rescued_numbers b.result)
 numbered e = (e, ap (λ (k : RescuedAfter). rescued_numbers k.result) e)
 
-pub returns-in-Err : goal.returns-in-Err
+pub returns-in_err-check : goal.returns-in_err-check
 unfolding rescue_call
-returns-in-Err c = let e = ap (λ (k : Check). rescued_by k c.args.log.now c.args.out.now) (sym c.in-Err.is ∙ c.check.ensures) in
+returns-in_err-check c = let e = ap (λ (k : Check). rescued_by k c.args.log.now c.args.out.now) (sym c.in_err-check.was ∙ c.check.ensures) in
     let n = numbered e in
-    record { out_after = n.0; result_value = n.1 }
+    let e = err_from_is_err_and c.from_residual.result c.from_residual.ensures.1 in rw (e.1, e.2) (record { out_after = n.0; result_value = n.1 })
 
-pub returns-in-Ok : goal.returns-in-Ok
+
+pub returns : goal.returns
 unfolding rescue_call
-returns-in-Ok c = let log = c.args.log.now in
+returns c = let log = c.args.log.now in
     let out = c.args.out.now in
     let whole = c.whole_of-whole.result in
     let n = numbered
-    (ap (λ (l : List ℕ). record { result = Ok (record { records = whole.records; bytes = whole.end; dropped = (length log - whole.end); tear = whole.end }); out = l ++ drop whole.end out }) c.copy.ensures
-    ∙ ap (λ (w : Whole). record { result = Ok (record { records = w.records; bytes = w.end; dropped = (length log - w.end); tear = w.end }); out = take w.end log ++ drop w.end out }) c.whole_of-whole.ensures
-    ∙ ap (λ (k : Check). rescued_by k log out) (sym c.in-Ok.is ∙ c.check.ensures)) in
+    (ap (λ (l : List ℕ). record { result = Ok (record { records = whole.records; bytes = whole.end; dropped = length log - whole.end; tear = whole.end }); out = l ++ drop whole.end out }) c.copy.ensures
+    ∙ ap (λ (w : Whole). record { result = Ok (record { records = w.records; bytes = w.end; dropped = length log - w.end; tear = w.end }); out = take w.end log ++ drop w.end out }) c.whole_of-whole.ensures
+    ∙ ap (λ (k : Check). rescued_by k log out) (sym c.in_ok-check.was ∙ c.check.ensures)) in
     record { out_after = n.0; result_value = n.1 }
