@@ -63,7 +63,9 @@ pub fn write(part: u8, chips: u8, ram: &[u8], out: &mut [u8]) -> Result<usize, R
 {
     refused::check_power_on(part, one_group(chips), ram, false)?;
     let size = file_size(ram.len());
-    checks::unless(size <= out.len(), Refusal::OutputLength)?;
+    if out.len() < size {
+        return Err(Refusal::OutputLength);
+    }
     put_file(out, ram);
     Ok(size)
 }

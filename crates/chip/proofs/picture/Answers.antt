@@ -44,7 +44,6 @@ returns-in_err-check_picture c = let a = c.args in
     let h = numbered-picture (sym (by-check a.part a.chip a.phase a.out.now _ (sym c.check_picture.ensures ∙ c.in_err-check_picture.was))) in
     let p = err_from_is_err_and c.from_residual.result c.from_residual.ensures.1 in rw (p.1, p.2) (record { out_after = h.0; result_value = h.1 })
 
-
 pub returns : goal.returns
 returns c = let a = c.args in
     let e = c.show_own.ensures in

@@ -1,5 +1,6 @@
 -- `image::read` meets its contract: refused before the file, by the file, or what it gives copied to the output.
 -- Assumes nothing.
+use Rattle.std.proofs.lemmas.Result.{err_from_is_err_and}
 use mathlib.Core.Path.{◌≡◌, sym, ap, ◌∙◌}
 use mathlib.Core.List.{List, ◌++◌}
 use Prim.Native.Nat.{ℕ, ◌*◌, ◌≤◌}
@@ -47,47 +48,47 @@ module _ (part chips : ℕ) (file ram : List ℕ) (k : Check) (told : k ≡ chec
       given_is r l e i = ap (λ (x : Check). image x given) (sym i) ∙ e ∙ ap (λ (m : List ℕ). image_from 0 m file) (blank ∙ ap (λ (n : ℕ). replicate n 16) asked.size)
 
 pub slice_bounds-given-end : goal.slice_bounds-given-end
-slice_bounds-given-end c = enough c.args.part c.args.chips c.args.file.now c.args.ram.now c.check_file.result c.check_file.ensures c.in-Ok.is c.none_given-given.result c.none_given-given.ensures
+slice_bounds-given-end c = enough c.args.part c.args.chips c.args.file.now c.args.ram.now c.check_file.result c.check_file.ensures c.in_ok-check_file.was c.none_given-given.result c.none_given-given.ensures
 
 pub slice_bounds-read_records-end : goal.slice_bounds-read_records-end
 slice_bounds-read_records-end c =
-    sym (length-take-le _ _ (enough c.args.part c.args.chips c.args.file.now c.args.ram.now c.check_file.result c.check_file.ensures c.in-Ok.is c.none_given-given.result c.none_given-given.ensures))
+    sym (length-take-le _ _ (enough c.args.part c.args.chips c.args.file.now c.args.ram.now c.check_file.result c.check_file.ensures c.in_ok-check_file.was c.none_given-given.result c.none_given-given.ensures))
 
 pub read_records-requires : goal.read_records-requires
-read_records-requires c = (asked c.args.part c.args.chips c.args.file.now c.args.ram.now c.check_file.result c.check_file.ensures c.in-Ok.is).short
+read_records-requires c = (asked c.args.part c.args.chips c.args.file.now c.args.ram.now c.check_file.result c.check_file.ensures c.in_ok-check_file.was).short
 
-pub slice_bounds-given-end-in-Ok-read_records : goal.slice_bounds-given-end-in-Ok-read_records
-slice_bounds-given-end-in-Ok-read_records c =
-    there c.args.part c.args.chips c.args.file.now c.args.ram.now c.check_file.result c.check_file.ensures c.in-Ok.is c.none_given-given.result c.none_given-given.ensures c.read_records.new.given c.read_records.auto.given
+pub slice_bounds-given-end-2 : goal.slice_bounds-given-end-2
+slice_bounds-given-end-2 c =
+    there c.args.part c.args.chips c.args.file.now c.args.ram.now c.check_file.result c.check_file.ensures c.in_ok-check_file.was c.none_given-given.result c.none_given-given.ensures c.read_records.new.given c.read_records.auto.given
 
 pub slice_bounds-copy-end : goal.slice_bounds-copy-end
 slice_bounds-copy-end c = sym (length-take-le _ _
-    (there c.args.part c.args.chips c.args.file.now c.args.ram.now c.check_file.result c.check_file.ensures c.in-Ok.is c.none_given-given.result c.none_given-given.ensures c.read_records.new.given c.read_records.auto.given))
+    (there c.args.part c.args.chips c.args.file.now c.args.ram.now c.check_file.result c.check_file.ensures c.in_ok-check_file.was c.none_given-given.result c.none_given-given.ensures c.read_records.new.given c.read_records.auto.given))
 
 pub copy-requires : goal.copy-requires
 copy-requires c = sym (length-take-le _ _
-    (there c.args.part c.args.chips c.args.file.now c.args.ram.now c.check_file.result c.check_file.ensures c.in-Ok.is c.none_given-given.result c.none_given-given.ensures c.read_records.new.given c.read_records.auto.given))
+    (there c.args.part c.args.chips c.args.file.now c.args.ram.now c.check_file.result c.check_file.ensures c.in_ok-check_file.was c.none_given-given.result c.none_given-given.ensures c.read_records.new.given c.read_records.auto.given))
 
-pub returns-in-Err : goal.returns-in-Err
-returns-in-Err c = let a = c.args in
-    let n = numbered (not-read a.part a.chips a.file.now a.ram.now _ (sym c.check_file.ensures ∙ c.in-Err.is)) in
-    record { ram_after = n.0; result_value = n.1 }
+pub returns-in_err-check_file : goal.returns-in_err-check_file
+returns-in_err-check_file c = let a = c.args in
+    let n = numbered (not-read a.part a.chips a.file.now a.ram.now _ (sym c.check_file.ensures ∙ c.in_err-check_file.was)) in
+    let e = err_from_is_err_and c.from_residual.result c.from_residual.ensures.1 in rw (e.1, e.2) (record { ram_after = n.0; result_value = n.1 })
 
-pub returns-in-Err-read_records : goal.returns-in-Err-read_records
-returns-in-Err-read_records c = let a = c.args in
-    let is = given_is a.part a.chips a.file.now a.ram.now c.check_file.result c.check_file.ensures c.in-Ok.is c.none_given-given.result c.none_given-given.ensures c.read_records.new.given c.read_records.auto.given
-    c.read_records.result _ c.read_records.ensures c.in-Err-read_records.is in
-    let n = numbered (faulty a.part a.chips a.file.now a.ram.now (sym c.check_file.ensures ∙ c.in-Ok.is) c.read_records.new.given _ is) in
-    record { ram_after = n.0; result_value = n.1 }
+pub returns-in_err-read_records : goal.returns-in_err-read_records
+returns-in_err-read_records c = let a = c.args in
+    let is = given_is a.part a.chips a.file.now a.ram.now c.check_file.result c.check_file.ensures c.in_ok-check_file.was c.none_given-given.result c.none_given-given.ensures c.read_records.new.given c.read_records.auto.given
+    c.read_records.result _ c.read_records.ensures c.in_err-read_records.was in
+    let n = numbered (faulty a.part a.chips a.file.now a.ram.now (sym c.check_file.ensures ∙ c.in_ok-check_file.was) c.read_records.new.given _ is) in
+    let e = err_from_is_err_and c.from_residual-in_err-read_records.result c.from_residual-in_err-read_records.ensures.1 in rw (e.1, e.2) (record { ram_after = n.0; result_value = n.1 })
 
-pub returns-in-Ok-read_records : goal.returns-in-Ok-read_records
-returns-in-Ok-read_records c = let a = c.args in
+pub returns : goal.returns
+returns c = let a = c.args in
     let given = c.read_records.new.given in
-    let is = given_is a.part a.chips a.file.now a.ram.now c.check_file.result c.check_file.ensures c.in-Ok.is c.none_given-given.result c.none_given-given.ensures given c.read_records.auto.given
-    c.read_records.result (Ok tt) c.read_records.ensures c.in-Ok-read_records.is in
-    let same = copied a.part a.chips a.file.now a.ram.now c.check_file.result c.check_file.ensures c.in-Ok.is c.none_given-given.result c.none_given-given.ensures given c.read_records.auto.given in
-    let size = long a.part a.chips a.file.now a.ram.now c.check_file.result c.check_file.ensures c.in-Ok.is c.none_given-given.result c.none_given-given.ensures given c.read_records.auto.given in
+    let is = given_is a.part a.chips a.file.now a.ram.now c.check_file.result c.check_file.ensures c.in_ok-check_file.was c.none_given-given.result c.none_given-given.ensures given c.read_records.auto.given
+    c.read_records.result (Ok tt) c.read_records.ensures c.in_ok-read_records.was in
+    let same = copied a.part a.chips a.file.now a.ram.now c.check_file.result c.check_file.ensures c.in_ok-check_file.was c.none_given-given.result c.none_given-given.ensures given c.read_records.auto.given in
+    let size = long a.part a.chips a.file.now a.ram.now c.check_file.result c.check_file.ensures c.in_ok-check_file.was c.none_given-given.result c.none_given-given.ensures given c.read_records.auto.given in
     let n = numbered
     (ap (λ (l : List ℕ). record { result = Ok (length a.ram.now); out = l }) (c.copy.ensures ∙ same)
-    ∙ all_read a.part a.chips a.file.now a.ram.now (sym c.check_file.ensures ∙ c.in-Ok.is) given is size) in
+    ∙ all_read a.part a.chips a.file.now a.ram.now (sym c.check_file.ensures ∙ c.in_ok-check_file.was) given is size) in
     record { ram_after = n.0; result_value = n.1 }

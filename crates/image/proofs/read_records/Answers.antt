@@ -38,8 +38,8 @@ returns-in-Last c = let given = c.read_record.new.given in
     let last = read_at c.args.file.now c.loop-at.given c.loop-at.at given c.read_record.result (Last c.in-Last.end) c.loop-at-test.true c.read_record.ensures.value c.read_record.ensures.given_after c.in-Last.is in
     ap (λ (k : Check). image k given) c.finish.ensures ∙ both given (drop c.in-Last.end c.args.file.now) ∙ sym last ∙ c.loop-at.invariant.0
 
-pub returns-in-Err : goal.returns-in-Err
-returns-in-Err c = let refused = read_at c.args.file.now c.loop-at.given c.loop-at.at c.read_record.new.given c.read_record.result (Step.Refused c.in-Err.refusal) c.loop-at-test.true c.read_record.ensures.value c.read_record.ensures.given_after c.in-Err.is in
+pub returns-in-Refused : goal.returns-in-Refused
+returns-in-Refused c = let refused = read_at c.args.file.now c.loop-at.given c.loop-at.at c.read_record.new.given c.read_record.result (Step.Refused c.in-Refused.refusal) c.loop-at-test.true c.read_record.ensures.value c.read_record.ensures.given_after c.in-Refused.is in
     sym refused ∙ c.loop-at.invariant.0
 
 pub returns : goal.returns

@@ -40,7 +40,6 @@ returns-in_err-check_picture c = let a = c.args in
     let p = numbered-picture (sym (shown-by-check a.part a.chips a.registers columns a.group a.phase a.out.now _ (sym (asked a.part a.chips a.registers _ columns a.group a.phase _ _ c.registers_fit-fit.ensures c.check_picture.ensures) ∙ c.in_err-check_picture.was))) in
     let e = err_from_is_err_and c.from_residual.result c.from_residual.ensures.1 in rw (e.1, e.2) (record { out_after = p.0; result_value = p.1 })
 
-
 pub returns : goal.returns
 returns c =
     let a = c.args in

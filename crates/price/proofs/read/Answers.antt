@@ -34,7 +34,6 @@ unfolding price_read
 returns-in_err-check_sizes c = let n = numbered (refused (length c.args.segments.now) c.args.mode 160 c.args.out.now c.check_sizes.result c.check_sizes.ensures (read_from c.args.mode 0 c.args.segments.now) _ _ c.in_err-check_sizes.was) in
     let e = err_from_is_err_and c.from_residual.result c.from_residual.ensures.1 in rw (e.1, e.2) (record { out_after = n.0; result_value = n.1 })
 
-
 pub returns : goal.returns
 unfolding price_read
 returns c = let n = numbered

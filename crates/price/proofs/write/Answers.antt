@@ -34,7 +34,6 @@ unfolding price_write
 returns-in_err-check_sizes c = let n = numbered (refused (length c.args.text.now) c.args.mode 80 c.args.out.now c.check_sizes.result c.check_sizes.ensures (spelled c.args.text.now) _ _ c.in_err-check_sizes.was) in
     let e = err_from_is_err_and c.from_residual.result c.from_residual.ensures.1 in rw (e.1, e.2) (record { out_after = n.0; result_value = n.1 })
 
-
 pub returns : goal.returns
 unfolding price_write
 returns c = let n = numbered

@@ -48,7 +48,6 @@ returns-in_err-check c = let e = ap (λ (k : Check). rescued_by k c.args.log.now
     let n = numbered e in
     let e = err_from_is_err_and c.from_residual.result c.from_residual.ensures.1 in rw (e.1, e.2) (record { out_after = n.0; result_value = n.1 })
 
-
 pub returns : goal.returns
 unfolding rescue_call
 returns c = let log = c.args.log.now in

@@ -80,7 +80,6 @@ returns-in_err-check_wanted c = let a = c.args in
     let both = numbered (refuses a.part (check_wanted (part_of a.part) a.chips a.registers a.group a.mode a.bank a.wanted.now) (rows_transfer (part_of a.part) a.chips a.registers a.group a.mode a.bank a.wanted.now) a.out.now _ (sym c.check_wanted.ensures ∙ c.in_err-check_wanted.was)) in
     let p = err_from_is_err_and c.from_residual.result c.from_residual.ensures.1 in rw (p.1, p.2) (record { out_after = both.0; result_value = both.1 })
 
-
 pub returns : goal.returns
 unfolding write_rows_part
 returns c = let a = c.args in
