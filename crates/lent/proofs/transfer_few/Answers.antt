@@ -1,5 +1,6 @@
 -- `lent::transfer_few` meets its contract: the bench's transfer between bytes and chips; refused, nothing is written.
 -- Assumes nothing.
+use Rattle.std.proofs.lemmas.Result.{err_from_is_err_and}
 use mathlib.Core.Path.{sym, ◌∙◌}
 use native.Mathlib.Omega.{arith}
 use Rattle.lent.specs.Lent.{lent_call}
@@ -12,14 +13,14 @@ put_bench-requires c = let a = c.args in
     let f = followed a.part (sent a.bytes.now a.bits) c.bench_of-before.ensures c.transfer_bench-done.ensures.value in
     (omega arith, omega arith, f.1.size)
 
-pub returns-in-Ok : goal.returns-in-Ok
+pub returns : goal.returns
 unfolding lent_call
-returns-in-Ok c = let a = c.args in
+returns c = let a = c.args in
     let f = followed a.part (sent a.bytes.now a.bits) c.bench_of-before.ensures c.transfer_bench-done.ensures.value in
-    rw (c.put_bench.ensures, f.1.count, f.1.first, f.0, sym f.0 ∙ c.in-Ok.is)
+    rw (c.put_bench.ensures, f.1.count, f.1.first, sym f.0 ∙ c.in_ok-said.was)
 
-pub returns-in-Err : goal.returns-in-Err
+pub returns-in_err-said : goal.returns-in_err-said
 unfolding lent_call
-returns-in-Err c = let a = c.args in
+returns-in_err-said c = let a = c.args in
     let f = followed a.part (sent a.bytes.now a.bits) c.bench_of-before.ensures c.transfer_bench-done.ensures.value in
-    rw (sym f.0 ∙ c.in-Err.is)
+    let e = err_from_is_err_and c.from_residual.result c.from_residual.ensures.1 in rw (e.1, e.2, sym f.0 ∙ c.in_err-said.was)

@@ -1,5 +1,6 @@
 -- `lent_long::pictured` meets its contract: refused, or what the group shows and how many elements are lit.
 -- Assumes nothing.
+use Rattle.std.proofs.lemmas.Result.{err_from_is_err_and}
 use mathlib.Core.Path.{◌≡◌, sym, ap, ap₂, ◌∙◌}
 use mathlib.Core.List.{List}
 use Prim.Native.Nat.{ℕ, ◌+◌, ◌-◌, ◌*◌, ◌<◌}
@@ -55,30 +56,31 @@ pub slice_bounds-registers_of-end : goal.slice_bounds-registers_of-end
 slice_bounds-registers_of-end c = let a = c.args in
     let columns = columns_in a.bus.packed a.ram.now in
     let asked = asked a.bus.part a.bus.chips (both_of a.registers.now) _ columns a.group a.phase (length a.out.now) _ c.fits-fit.ensures c.check_picture.ensures in
-    let passed = passes a.bus.part a.bus.chips (both_of a.registers.now) columns a.group a.phase (length a.out.now) _ asked c.in-Ok.is in
+    let passed = passes a.bus.part a.bus.chips (both_of a.registers.now) columns a.group a.phase (length a.out.now) _ asked c.in_ok-check_picture.was in
     omega (arith, c.requires, passed.small)
 
 pub show-requires : goal.show-requires
 show-requires c = let a = c.args in
     let columns = columns_in a.bus.packed a.ram.now in
     let asked = asked a.bus.part a.bus.chips (both_of a.registers.now) _ columns a.group a.phase (length a.out.now) _ c.fits-fit.ensures c.check_picture.ensures in
-    let passed = passes a.bus.part a.bus.chips (both_of a.registers.now) columns a.group a.phase (length a.out.now) _ asked c.in-Ok.is in
+    let passed = passes a.bus.part a.bus.chips (both_of a.registers.now) columns a.group a.phase (length a.out.now) _ asked c.in_ok-check_picture.was in
     let own = own a.group a.registers.now _ passed.small c.requires c.registers_of-shown.ensures in
     let part = cut a.bus.part a.bus.chips (both_of a.registers.now) a.group a.bus.packed a.ram.now _ _ passed.state c.start_in-start.ensures c.end_in-end.ensures in
     showable a.bus.part a.bus.chips (both_of a.registers.now) a.group a.bus.packed a.ram.now _ _ _ _ part (sym own) passed.long
 
-pub returns-in-Err : goal.returns-in-Err
-returns-in-Err c = let a = c.args in
+pub returns-in_err-check_picture : goal.returns-in_err-check_picture
+returns-in_err-check_picture c = let a = c.args in
     let columns = columns_in a.bus.packed a.ram.now in
     let asked = asked a.bus.part a.bus.chips (both_of a.registers.now) _ columns a.group a.phase (length a.out.now) _ c.fits-fit.ensures c.check_picture.ensures in
-    sym (shown-by-check a.bus.part a.bus.chips (both_of a.registers.now) columns a.group a.phase a.out.now _ (sym asked ∙ c.in-Err.is))
+    let e = err_from_is_err_and c.from_residual.result c.from_residual.ensures.1 in
+    rw (e.1, e.2) (sym (shown-by-check a.bus.part a.bus.chips (both_of a.registers.now) columns a.group a.phase a.out.now _ (sym asked ∙ c.in_err-check_picture.was)))
 
-pub returns-in-Ok : goal.returns-in-Ok
-returns-in-Ok c = let put = c.show.ensures in
+pub returns : goal.returns
+returns c = let put = c.show.ensures in
     let a = c.args in
     let columns = columns_in a.bus.packed a.ram.now in
     let asked = asked a.bus.part a.bus.chips (both_of a.registers.now) _ columns a.group a.phase (length a.out.now) _ c.fits-fit.ensures c.check_picture.ensures in
-    let passed = passes a.bus.part a.bus.chips (both_of a.registers.now) columns a.group a.phase (length a.out.now) _ asked c.in-Ok.is in
+    let passed = passes a.bus.part a.bus.chips (both_of a.registers.now) columns a.group a.phase (length a.out.now) _ asked c.in_ok-check_picture.was in
     let own = own a.group a.registers.now _ passed.small c.requires c.registers_of-shown.ensures in
     let part = cut a.bus.part a.bus.chips (both_of a.registers.now) a.group a.bus.packed a.ram.now _ _ passed.state c.start_in-start.ensures c.end_in-end.ensures in
     let same = ap₂ (λ (r : Registers) (shown : List ℕ). picture_of r a.phase shown) own part.part in
@@ -90,7 +92,7 @@ pub slice_bounds-show-count : goal.slice_bounds-show-count
 slice_bounds-show-count c = let a = c.args in
     let columns = columns_in a.bus.packed a.ram.now in
     let asked = asked a.bus.part a.bus.chips (both_of a.registers.now) _ columns a.group a.phase (length a.out.now) _ c.fits-fit.ensures c.check_picture.ensures in
-    let passed = passes a.bus.part a.bus.chips (both_of a.registers.now) columns a.group a.phase (length a.out.now) _ asked c.in-Ok.is in
+    let passed = passes a.bus.part a.bus.chips (both_of a.registers.now) columns a.group a.phase (length a.out.now) _ asked c.in_ok-check_picture.was in
     let part = cut a.bus.part a.bus.chips (both_of a.registers.now) a.group a.bus.packed a.ram.now _ _ passed.state c.start_in-start.ensures c.end_in-end.ensures in
     part.begins
 
@@ -98,7 +100,7 @@ pub slice_bounds-show-start : goal.slice_bounds-show-start
 slice_bounds-show-start c = let a = c.args in
     let columns = columns_in a.bus.packed a.ram.now in
     let asked = asked a.bus.part a.bus.chips (both_of a.registers.now) _ columns a.group a.phase (length a.out.now) _ c.fits-fit.ensures c.check_picture.ensures in
-    let passed = passes a.bus.part a.bus.chips (both_of a.registers.now) columns a.group a.phase (length a.out.now) _ asked c.in-Ok.is in
+    let passed = passes a.bus.part a.bus.chips (both_of a.registers.now) columns a.group a.phase (length a.out.now) _ asked c.in_ok-check_picture.was in
     let part = cut a.bus.part a.bus.chips (both_of a.registers.now) a.group a.bus.packed a.ram.now _ _ passed.state c.start_in-start.ensures c.end_in-end.ensures in
     part.begins
 
@@ -106,6 +108,6 @@ pub slice_bounds-show-end : goal.slice_bounds-show-end
 slice_bounds-show-end c = let a = c.args in
     let columns = columns_in a.bus.packed a.ram.now in
     let asked = asked a.bus.part a.bus.chips (both_of a.registers.now) _ columns a.group a.phase (length a.out.now) _ c.fits-fit.ensures c.check_picture.ensures in
-    let passed = passes a.bus.part a.bus.chips (both_of a.registers.now) columns a.group a.phase (length a.out.now) _ asked c.in-Ok.is in
+    let passed = passes a.bus.part a.bus.chips (both_of a.registers.now) columns a.group a.phase (length a.out.now) _ asked c.in_ok-check_picture.was in
     let part = cut a.bus.part a.bus.chips (both_of a.registers.now) a.group a.bus.packed a.ram.now _ _ passed.state c.start_in-start.ensures c.end_in-end.ensures in
     part.ends
