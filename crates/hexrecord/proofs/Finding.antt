@@ -13,12 +13,11 @@ use lib.Seq.{get_or-drop, get_or-take, length-take-le, drop-drop}
 use borrow.Author.Tests.{ltb-true}
 use Rattle.lemmas.proofs.Tests.{both_true}
 use Rattle.lemmas.proofs.Order.{lt_or_le}
-use Rattle.std.specs.Prelude.{Err}
+use Rattle.std.specs.Prelude.{Option, Some, None, Err}
 use Rattle.sheet.specs.declared.Refusal.TheVariants.{RecordForm}
 use Rattle.image_sheet.specs.Images.{pair_of, are_digits, bytes_of, count_in, digits_in, line_end, end_in, is_line, size_in, count_of, fault_of, fault_in}
 use Rattle.hexadecimal.proofs.Digits.{digit_at, one_pair}
 use Rattle.hexrecord.specs.declared.Line.{Line}
-use Rattle.hexrecord.specs.declared.Line.TheVariants.{Of, None}
 use Rattle.hexrecord.specs.Lines.{line_at}
 
 -- a line ends inside the file: what is past it is 0
@@ -30,10 +29,10 @@ ends-inside i file h =
     (lt_or_le i (length file))
 
 -- a line, by its first character, its end and its digits
-abbrev found : ℕ → ℕ → List ℕ → ℕ → ℕ → Line
-found x over digits count next = cond (eqb x 58 && (ltb 0 over && are_digits digits)) (Of count next) None
+abbrev found : ℕ → ℕ → List ℕ → ℕ → ℕ → Option Line
+found x over digits count next = cond (eqb x 58 && (ltb 0 over && are_digits digits)) (Some (record { count = count; next = next })) None
 
-not-both : (a b c : Bool) (l : Line) → (a && b) ≡ false → cond (a && (b && c)) l None ≡ None
+not-both : (a b c : Bool) (l : Option Line) → (a && b) ≡ false → cond (a && (b && c)) l None ≡ None
 not-both true true c l e = absurd (true≢false e)
 not-both true false c l e = refl
 not-both false b c l e = refl
@@ -73,12 +72,12 @@ module _ (file : List ℕ) (at : ℕ) where
 
     -- a colon and a line's end, and digits between
     pub is-line : (t : Bool) → (eqb (get_or file at 0) 58 && ltb 0 over) ≡ true → are_digits (take (end - (at + 1)) (drop (at + 1) file)) ≡ t
-        → line_at at (drop at file) ≡ cond t (Of count (end + over)) None
+        → line_at at (drop at file) ≡ cond t (Some (record { count = count; next = end + over })) None
     is-line t e d = let both = both_true (eqb (get_or file at 0) 58) (ltb 0 over) e in seen ∙ rw (both.0, both.1, d)
 
     -- or not both
     pub no_line : (eqb (get_or file at 0) 58 && ltb 0 over) ≡ false → line_at at (drop at file) ≡ None
-    no_line e = seen ∙ not-both (eqb (get_or file at 0) 58) (ltb 0 over) (are_digits (take (end - (at + 1)) (drop (at + 1) file))) (Of count (end + over)) e
+    no_line e = seen ∙ not-both (eqb (get_or file at 0) 58) (ltb 0 over) (are_digits (take (end - (at + 1)) (drop (at + 1) file))) (Some (record { count = count; next = end + over })) e
 
 -- ---- what was found is the line that stands there
 
@@ -87,15 +86,15 @@ pub record Lined (at : ℕ) (text : List ℕ) (count next : ℕ) : Type 0 where
   pub counts : count ≡ count_in text
   pub goes : next ≡ at + size_in text
 
-abbrev pub Found : ℕ → List ℕ → Line → Type 0
-Found at text (Of count next) = Lined at text count next
+abbrev pub Found : ℕ → List ℕ → Option Line → Type 0
+Found at text (Some l) = Lined at text l.count l.next
 Found at text None = is_line text ≡ false
 
-pub found-line : (at : ℕ) (text : List ℕ) (l : Line) → l ≡ line_at at text → Found at text l
+pub found-line : (at : ℕ) (text : List ℕ) (l : Option Line) → l ≡ line_at at text → Found at text l
 unfolding line_at
 found-line at text l e = subst (Found at text) (sym e) (by-test (is_line text) refl)
   where
-    by-test : (t : Bool) → is_line text ≡ t → Found at text (cond t (Of (count_in text) (at + size_in text)) None)
+    by-test : (t : Bool) → is_line text ≡ t → Found at text (cond t (Some (record { count = count_in text; next = at + size_in text })) None)
     by-test true t = record { is = t; counts = refl; goes = refl }
     by-test false t = t
 

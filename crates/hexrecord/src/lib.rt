@@ -40,11 +40,11 @@ pub fn put_record(out: &mut [u8], at: usize, kind: u8, address: usize, columns: 
 
 // ---- a line is found
 
-// What stands at a place of a file: a line, what its record's length says and where the next line begins; or none.
+// A line of a file: what its record's length says and where the next line begins.
 #[derive(Clone, Copy)]
-pub enum Line {
-    Of { count: usize, next: usize },
-    None,
+pub struct Line {
+    pub count: usize,
+    pub next: usize,
 }
 
 // The bytes of a line's end at a place: LF, or CR LF; 0 where none stands.
@@ -63,7 +63,7 @@ fn line_end(file: &[u8], i: usize) -> usize
     }
 }
 
-fn line_at(file: &[u8], at: usize) -> Line
+fn line_at(file: &[u8], at: usize) -> Option<Line>
     requires { (at ≤ length file.now) × (length file.now ≤ 65536) }
     ensures { result ≡ line_at at (drop at file.now) }
 {
@@ -73,15 +73,15 @@ fn line_at(file: &[u8], at: usize) -> Line
     let over = line_end(file, end);
     if (checks::byte_at(file, at) == 58) & (0 < over) {
         if hexadecimal::are_digits(&file[start..end]) {
-            Line::Of {
+            Some(Line {
                 count,
                 next: end + over,
-            }
+            })
         } else {
-            Line::None
+            None
         }
     } else {
-        Line::None
+        None
     }
 }
 
@@ -171,30 +171,25 @@ fn store(bytes: &[u8], given: &mut [u8])
     }
 }
 
-// What a record is, and the place after it: one of data, the end record, or a refused one.
+// What a record is, and the place after it: one of data, or the end record.
 #[derive(Clone, Copy)]
 pub enum Step {
     Next(usize),
     Last(usize),
-    Refused(Refusal),
 }
 
 // The record of these bytes, stored unless it is refused.
-fn take(bytes: &[u8], given: &mut [u8], at: usize, next: usize) -> Step
+fn take(bytes: &[u8], given: &mut [u8], at: usize, next: usize) -> Result<Step, Refusal>
     requires { Whole bytes.now }
     ensures value { result ≡ step_of (fault_of given.old at bytes.now) (kind_of bytes.now) next }
     ensures given_after { given.new ≡ given_after (fault_of given.old at bytes.now) given.old bytes.now }
 {
-    match fault(bytes, given, at) {
-        Err(refusal) => Step::Refused(refusal),
-        Ok(()) => {
-            store(bytes, given);
-            if bytes[3] == 1 {
-                Step::Last(next)
-            } else {
-                Step::Next(next)
-            }
-        }
+    fault(bytes, given, at)?;
+    store(bytes, given);
+    if bytes[3] == 1 {
+        Ok(Step::Last(next))
+    } else {
+        Ok(Step::Next(next))
     }
 }
 
@@ -206,20 +201,20 @@ fn longest() -> [u8; 260]
 }
 
 // The record that stands at a place.
-pub fn read_record(file: &[u8], given: &mut [u8], at: usize) -> Step
+pub fn read_record(file: &[u8], given: &mut [u8], at: usize) -> Result<Step, Refusal>
     requires { (at < length file.now) × (length file.now ≤ 65536) }
     ensures value { result ≡ step_of (fault_in given.old at (drop at file.now)) (kind_of (bytes_of (digits_in (drop at file.now)))) (at + size_in (drop at file.now)) }
     ensures given_after { given.new ≡ given_after (fault_in given.old at (drop at file.now)) given.old (bytes_of (digits_in (drop at file.now))) }
 {
     match line_at(file, at) {
-        Line::None => Step::Refused(Refusal::RecordForm(at)),
-        Line::Of { count, next } => {
+        None => Err(Refusal::RecordForm(at)),
+        Some(line) => {
             let mut bytes = longest();
-            let size = count + 5;
+            let size = line.count + 5;
             let start = at + 1;
             let end = start + 2 * size;
             hexadecimal::read(&file[start..end], &mut bytes[..size]);
-            take(&bytes[..size], given, at, next)
+            take(&bytes[..size], given, at, line.next)
         }
     }
 }

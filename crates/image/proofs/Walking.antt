@@ -9,7 +9,8 @@ use lib.Dec.{eqb}
 use lib.ListN.{length, drop}
 use lib.Seq.{drop-drop}
 use Rattle.lemmas.proofs.Lists.{next}
-use Rattle.std.specs.Prelude.{Err, Ok}
+use Rattle.std.specs.Prelude.{Result, Err, Ok}
+use Rattle.sheet.specs.declared.Refusal.{Refusal}
 use Rattle.sheet.specs.Results.{Check}
 use Rattle.image_sheet.specs.Images.{bytes_of, digits_in, size_in, kind_of, stored, image, ended, or_fault, fault_in, image_from, a-record}
 use Rattle.hexrecord.specs.declared.Step.{Step}
@@ -18,10 +19,10 @@ use Rattle.hexrecord.specs.Lines.{step_of, given_after}
 
 module _ (file : List ℕ) (given : List ℕ) (at : ℕ) where
   -- the walk from a place on, by the step there and what is given after it
-  abbrev pub Stepped : List ℕ → Step → Type 0
-  Stepped after (Next next) = (at < next) × (image_from at given (drop at file) ≡ image_from next after (drop next file))
-  Stepped after (Last end) = image_from at given (drop at file) ≡ ended after (drop end file)
-  Stepped after (Step.Refused r) = image_from at given (drop at file) ≡ image (Err r) after
+  abbrev pub Stepped : List ℕ → Result Step Refusal → Type 0
+  Stepped after (Ok (Next next)) = (at < next) × (image_from at given (drop at file) ≡ image_from next after (drop next file))
+  Stepped after (Ok (Last end)) = image_from at given (drop at file) ≡ ended after (drop end file)
+  Stepped after (Err r) = image_from at given (drop at file) ≡ image (Err r) after
 
   -- what is left there
   abbrev text : List ℕ
@@ -44,7 +45,7 @@ module _ (file : List ℕ) (given : List ℕ) (at : ℕ) where
   unfolding size_in
   further = omega arith
 
-  by_kind : at < length file → fault_in given at text ≡ Ok tt → (b : Bool) → eqb (kind_of bytes) 1 ≡ b → Stepped (stored given bytes) (cond b (Last after_it) (Next after_it))
+  by_kind : at < length file → fault_in given at text ≡ Ok tt → (b : Bool) → eqb (kind_of bytes) 1 ≡ b → Stepped (stored given bytes) (cond b (Ok (Last after_it)) (Ok (Next after_it)))
   by_kind h e true t = walk h ∙ rw (e, t)
   by_kind h e false t = (further, walk h ∙ rw (e, t))
 
@@ -52,5 +53,5 @@ module _ (file : List ℕ) (given : List ℕ) (at : ℕ) where
   by-fault h (Ok _) e = by_kind h e (eqb (kind_of bytes) 1) refl
   by-fault h (Err r) e = walk h ∙ rw e
 
-  pub stepped : at < length file → (s : Step) (after : List ℕ) → s ≡ step_of (fault_in given at text) (kind_of bytes) after_it → after ≡ given_after (fault_in given at text) given bytes → Stepped after s
+  pub stepped : at < length file → (s : Result Step Refusal) (after : List ℕ) → s ≡ step_of (fault_in given at text) (kind_of bytes) after_it → after ≡ given_after (fault_in given at text) given bytes → Stepped after s
   stepped h s after e f = subst (λ (l : List ℕ). Stepped l s) (sym f) (subst (Stepped (given_after (fault_in given at text) given bytes)) (sym e) (by-fault h (fault_in given at text) refl))

@@ -98,10 +98,10 @@ fn read_records(file: &[u8], given: &mut [u8]) -> Result<(), Refusal>
 {
     let mut at = 0;
     while at < file.len() {
-        match hexrecord::read_record(file, given, at) {
+        let step = hexrecord::read_record(file, given, at)?;
+        match step {
             Step::Next(next) => at = next,
             Step::Last(end) => return finish(file, given, end),
-            Step::Refused(refusal) => return Err(refusal),
         }
     }
     Err(Refusal::NoEnd)

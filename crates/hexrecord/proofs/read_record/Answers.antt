@@ -10,13 +10,13 @@ use lib.Seq.{length-take-le, take_at}
 use Rattle.sheet.specs.Results.{Check}
 use Rattle.image_sheet.specs.Images.{are_digits, bytes_of, digits_in, kind_of, fault_of, size_in}
 use Rattle.hexrecord.specs.declared.Line.{Line}
-use Rattle.hexrecord.specs.declared.Line.TheVariants.{Of, None}
+use Rattle.std.specs.Prelude.{Option, Some, None}
 use Rattle.hexrecord.specs.Lines.{line_at, step_of, given_after, Whole}
 use Rattle.hexrecord.proofs.Finding.{Lined, Found, found-line, digits, all_there, length_digits, count_small, count-first, part-is, fault-line, fault-none}
 use Rattle.hexrecord.proofs.read_record.Goals as goal
 
 -- what was found at a place
-found_there : (file : List ℕ) (at : ℕ) (l k : Line) → l ≡ line_at at (drop at file) → l ≡ k → Found at (drop at file) k
+found_there : (file : List ℕ) (at : ℕ) (l k : Option Line) → l ≡ line_at at (drop at file) → l ≡ k → Found at (drop at file) k
 found_there file at l k e i = subst (Found at (drop at file)) i (found-line at (drop at file) l e)
 
 module _ (file : List ℕ) (at count next : ℕ) (l : Lined at (drop at file) count next) where
@@ -61,44 +61,44 @@ module _ (file : List ℕ) (at count next : ℕ) (l : Lined at (drop at file) co
       whole = rw bytes-are (ap length (sym bytes-are ∙ same) ∙ omega (arith, size, room, l.counts, count-first (drop at file) l.is))
 
 pub overflow_add-size : goal.overflow_add-size
-overflow_add-size c = let l = found_there c.args.file.now c.args.at c.line_at.result (Of c.in-Of.count c.in-Of.next) c.line_at.ensures c.in-Of.is in
-    omega (arith, short c.args.file.now c.args.at c.in-Of.count c.in-Of.next l)
+overflow_add-size c = let l = found_there c.args.file.now c.args.at c.line_at.result (Some c.in-Some.line) c.line_at.ensures c.in-Some.is in
+    omega (arith, short c.args.file.now c.args.at c.in-Some.line.count c.in-Some.line.next l)
 
 pub overflow_mul-end : goal.overflow_mul-end
-overflow_mul-end c = let l = found_there c.args.file.now c.args.at c.line_at.result (Of c.in-Of.count c.in-Of.next) c.line_at.ensures c.in-Of.is in
-    omega (arith, short c.args.file.now c.args.at c.in-Of.count c.in-Of.next l)
+overflow_mul-end c = let l = found_there c.args.file.now c.args.at c.line_at.result (Some c.in-Some.line) c.line_at.ensures c.in-Some.is in
+    omega (arith, short c.args.file.now c.args.at c.in-Some.line.count c.in-Some.line.next l)
 
 pub overflow_add-end : goal.overflow_add-end
-overflow_add-end c = let l = found_there c.args.file.now c.args.at c.line_at.result (Of c.in-Of.count c.in-Of.next) c.line_at.ensures c.in-Of.is in
-    omega (arith, inside c.args.file.now c.args.at c.in-Of.count c.in-Of.next l)
+overflow_add-end c = let l = found_there c.args.file.now c.args.at c.line_at.result (Some c.in-Some.line) c.line_at.ensures c.in-Some.is in
+    omega (arith, inside c.args.file.now c.args.at c.in-Some.line.count c.in-Some.line.next l)
 
 pub slice_bounds-read-end : goal.slice_bounds-read-end
-slice_bounds-read-end c = let l = found_there c.args.file.now c.args.at c.line_at.result (Of c.in-Of.count c.in-Of.next) c.line_at.ensures c.in-Of.is in
-    omega (arith, inside c.args.file.now c.args.at c.in-Of.count c.in-Of.next l)
+slice_bounds-read-end c = let l = found_there c.args.file.now c.args.at c.line_at.result (Some c.in-Some.line) c.line_at.ensures c.in-Some.is in
+    omega (arith, inside c.args.file.now c.args.at c.in-Some.line.count c.in-Some.line.next l)
 
 pub slice_bounds-bytes-end : goal.slice_bounds-bytes-end
-slice_bounds-bytes-end c = let l = found_there c.args.file.now c.args.at c.line_at.result (Of c.in-Of.count c.in-Of.next) c.line_at.ensures c.in-Of.is in
-    omega (arith, short c.args.file.now c.args.at c.in-Of.count c.in-Of.next l, c.longest-bytes.ensures)
+slice_bounds-bytes-end c = let l = found_there c.args.file.now c.args.at c.line_at.result (Some c.in-Some.line) c.line_at.ensures c.in-Some.is in
+    omega (arith, short c.args.file.now c.args.at c.in-Some.line.count c.in-Some.line.next l, c.longest-bytes.ensures)
 
-pub slice_bounds-read-end-in-Of : goal.slice_bounds-read-end-in-Of
-slice_bounds-read-end-in-Of c = let l = found_there c.args.file.now c.args.at c.line_at.result (Of c.in-Of.count c.in-Of.next) c.line_at.ensures c.in-Of.is in
-    sym (room c.args.file.now c.args.at c.in-Of.count c.in-Of.next l c.longest-bytes.result c.longest-bytes.ensures)
+pub slice_bounds-read-end-in-Some : goal.slice_bounds-read-end-in-Some
+slice_bounds-read-end-in-Some c = let l = found_there c.args.file.now c.args.at c.line_at.result (Some c.in-Some.line) c.line_at.ensures c.in-Some.is in
+    sym (room c.args.file.now c.args.at c.in-Some.line.count c.in-Some.line.next l c.longest-bytes.result c.longest-bytes.ensures)
 
 pub read-requires : goal.read-requires
-read-requires c = let l = found_there c.args.file.now c.args.at c.line_at.result (Of c.in-Of.count c.in-Of.next) c.line_at.ensures c.in-Of.is in
-    (fills c.args.file.now c.args.at c.in-Of.count c.in-Of.next l c.longest-bytes.result c.longest-bytes.ensures, all-digits c.args.file.now c.args.at c.in-Of.count c.in-Of.next l c.longest-bytes.result c.longest-bytes.ensures)
+read-requires c = let l = found_there c.args.file.now c.args.at c.line_at.result (Some c.in-Some.line) c.line_at.ensures c.in-Some.is in
+    (fills c.args.file.now c.args.at c.in-Some.line.count c.in-Some.line.next l c.longest-bytes.result c.longest-bytes.ensures, all-digits c.args.file.now c.args.at c.in-Some.line.count c.in-Some.line.next l c.longest-bytes.result c.longest-bytes.ensures)
 
-pub slice_bounds-bytes-end-in-Of : goal.slice_bounds-bytes-end-in-Of
-slice_bounds-bytes-end-in-Of c = let l = found_there c.args.file.now c.args.at c.line_at.result (Of c.in-Of.count c.in-Of.next) c.line_at.ensures c.in-Of.is in
-    there c.args.file.now c.args.at c.in-Of.count c.in-Of.next l c.longest-bytes.result c.longest-bytes.ensures c.read.new.bytes c.read.auto.bytes c.read.ensures
+pub slice_bounds-bytes-end-in-Some : goal.slice_bounds-bytes-end-in-Some
+slice_bounds-bytes-end-in-Some c = let l = found_there c.args.file.now c.args.at c.line_at.result (Some c.in-Some.line) c.line_at.ensures c.in-Some.is in
+    there c.args.file.now c.args.at c.in-Some.line.count c.in-Some.line.next l c.longest-bytes.result c.longest-bytes.ensures c.read.new.bytes c.read.auto.bytes c.read.ensures
 
 pub slice_bounds-take-end : goal.slice_bounds-take-end
-slice_bounds-take-end c = let l = found_there c.args.file.now c.args.at c.line_at.result (Of c.in-Of.count c.in-Of.next) c.line_at.ensures c.in-Of.is in
-    sym (length-take-le _ _ (there c.args.file.now c.args.at c.in-Of.count c.in-Of.next l c.longest-bytes.result c.longest-bytes.ensures c.read.new.bytes c.read.auto.bytes c.read.ensures))
+slice_bounds-take-end c = let l = found_there c.args.file.now c.args.at c.line_at.result (Some c.in-Some.line) c.line_at.ensures c.in-Some.is in
+    sym (length-take-le _ _ (there c.args.file.now c.args.at c.in-Some.line.count c.in-Some.line.next l c.longest-bytes.result c.longest-bytes.ensures c.read.new.bytes c.read.auto.bytes c.read.ensures))
 
 pub take-requires : goal.take-requires
-take-requires c = let l = found_there c.args.file.now c.args.at c.line_at.result (Of c.in-Of.count c.in-Of.next) c.line_at.ensures c.in-Of.is in
-    whole c.args.file.now c.args.at c.in-Of.count c.in-Of.next l c.longest-bytes.result c.longest-bytes.ensures c.read.new.bytes c.read.auto.bytes c.read.ensures
+take-requires c = let l = found_there c.args.file.now c.args.at c.line_at.result (Some c.in-Some.line) c.line_at.ensures c.in-Some.is in
+    whole c.args.file.now c.args.at c.in-Some.line.count c.in-Some.line.next l c.longest-bytes.result c.longest-bytes.ensures c.read.new.bytes c.read.auto.bytes c.read.ensures
 
 pub returns-in-None : goal.returns-in-None
 returns-in-None c = let text = drop c.args.at c.args.file.now in
@@ -108,13 +108,13 @@ returns-in-None c = let text = drop c.args.at c.args.file.now in
       given_after = sym (ap (λ (k : Check). given_after k c.args.given.now (bytes_of (digits_in text))) e);
     }
 
-pub returns-in-Of : goal.returns-in-Of
-returns-in-Of c = let l = found_there c.args.file.now c.args.at c.line_at.result (Of c.in-Of.count c.in-Of.next) c.line_at.ensures c.in-Of.is in
+pub returns-in-Some : goal.returns-in-Some
+returns-in-Some c = let l = found_there c.args.file.now c.args.at c.line_at.result (Some c.in-Some.line) c.line_at.ensures c.in-Some.is in
     let text = drop c.args.at c.args.file.now in
     let given = c.args.given.now in
     let at = c.args.at in
     let e = fault-line given at text l.is in
-    let are = bytes-are c.args.file.now c.args.at c.in-Of.count c.in-Of.next l c.longest-bytes.result c.longest-bytes.ensures c.read.new.bytes c.read.auto.bytes c.read.ensures in
+    let are = bytes-are c.args.file.now c.args.at c.in-Some.line.count c.in-Some.line.next l c.longest-bytes.result c.longest-bytes.ensures c.read.new.bytes c.read.auto.bytes c.read.ensures in
     record {
       value = c.take.ensures.value
           ∙ (λ i. step_of (fault_of given at (are i)) (kind_of (are i)) (l.goes i))
