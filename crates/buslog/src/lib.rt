@@ -21,6 +21,7 @@ use sheet::{Both, Chips, Refusal};
 // ---- the log
 
 // A log is checked whole before its first line is written: 14, 12, 3, then 13 and 20.
+#[tactic(auto, unfolding(log_sheet::specs::Logs::check_log))]
 pub fn check_log(log: &[u8]) -> Result<(), Refusal>
     ensures value { result ≡ check_log log.now }
     ensures all_counted { result ≡ Ok tt → AllCounted (log_records log.now).bodies }
@@ -159,23 +160,17 @@ fn put_log(log: &[u8], out: &mut [u8]) -> usize
 // Room for the text of any log.
 pub const TEXT: usize = 700000;
 
-#[derive(Clone, Copy)]
-pub enum Replayed {
-    Written(usize),
-    SmallBuffer,
-}
-
-// Writes a log's text to the start of a buffer that has room for any.
-pub fn replay(log: &[u8], out: &mut [u8]) -> Replayed
+// Writes a log's text to the start of a buffer that has room for any, and says how long it is; nothing to a smaller one.
+pub fn replay(log: &[u8], out: &mut [u8]) -> Option<usize>
     ensures out_after { out.new ≡ (replay_call log.now out.old).out }
     ensures value { result ≡ (replay_call log.now out.old).result }
     ensures inside { Inside result (length out.old) }
 {
     if out.len() < TEXT {
-        return Replayed::SmallBuffer;
+        return None;
     }
     match check_log(log) {
-        Err(refusal) => Replayed::Written(lines::put_refusal(out, refusal)),
-        Ok(()) => Replayed::Written(put_log(log, out)),
+        Err(refusal) => Some(lines::put_refusal(out, refusal)),
+        Ok(()) => Some(put_log(log, out)),
     }
 }

@@ -1,5 +1,5 @@
 -- The calls as C sees them: registers and chips as bytes, answers as numbers, through the definitions of `sheet`. Assumes nothing.
-use Rattle.std.specs.Prelude.{ℕ, ◌%◌, true, List, eqb, length}
+use Rattle.std.specs.Prelude.{ℕ, ◌%◌, true, List, eqb, length, Option, Some, None}
 use Rattle.sheet.specs.declared.Chips.{Chips}
 use Rattle.sheet.specs.Refusals.{plain_numbers, picture_numbers, rescued_numbers, check_numbers, written_numbers}
 use Rattle.sheet.specs.Parts.{part_of}
@@ -12,7 +12,6 @@ use Rattle.writer_sheet.specs.Three.{write_three_part}
 use Rattle.image_sheet.specs.Hex.{hex_write_part}
 use Rattle.image_sheet.specs.Images.{hex_read_part}
 use Rattle.price_sheet.specs.Price.{price_write, price_read}
-use Rattle.buslog.specs.declared.Replayed.{Replayed}
 use Rattle.lent.specs.Lent.{lent_call}
 use Rattle.lent_long.specs.LongCalls.{Called, powered_c, after_c, Filled, said_c, seen_c}
 use Rattle.wire.specs.Bytes.{both_of, chip_in, chip_bytes}
@@ -93,6 +92,6 @@ rescue_c log out answer =
 -- ---- replay
 
 -- the bytes of the text, or 0 for too small a buffer: no text is empty
-abbrev pub replay_number : Replayed → ℕ
-replay_number (Replayed.Written n) = n
-replay_number Replayed.SmallBuffer = 0
+abbrev pub replay_number : Option ℕ → ℕ
+replay_number (Some n) = n
+replay_number None = 0

@@ -8,7 +8,6 @@ ghost use Rattle.buslog.specs.Replays.{replay_call};
 ghost use Rattle.lent_long.specs.LongCalls.{power_on_c, transfer_c, picture_c};
 ghost use Rattle.cabi.specs.Calls.{chips_of, packed_power_on_c, packed_transfer_c, packed_picture_c, chip_power_on_c, chip_picture_c, plain_c, write_rows_c, write_three_c, hex_write_c, hex_read_c, price_write_c, price_read_c, rescue_c, replay_number};
 
-use buslog::Replayed;
 use lent_group::Bus;
 use sheet::Chips;
 
@@ -326,7 +325,7 @@ pub extern "C" fn humtrellis_replay(log: &[u8], out: &mut [u8]) -> usize
     ensures out_after { out.new ≡ (replay_call log.now out.old).out }
 {
     match buslog::replay(log, out) {
-        Replayed::Written(length) => length,
-        Replayed::SmallBuffer => 0,
+        Some(length) => length,
+        None => 0,
     }
 }

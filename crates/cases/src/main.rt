@@ -3,8 +3,6 @@
 
 ghost use Rattle.std.specs.Prelude.{◌≡◌, ◌+◌, ◌≤◌, ◌<◌, ◌^◌, length};
 
-use buslog::Replayed;
-
 // The descriptors of standard input and standard output.
 const STDIN_FILENO: i32 = 0;
 
@@ -38,13 +36,8 @@ fn length_at(input: &[u8], at: usize) -> usize
 }
 
 fn write_text(log: &[u8], out: &mut [u8]) {
-    match buslog::replay(log, out) {
-        Replayed::Written(count) => {
-            if count <= out.len() {
-                io::write_all(STDOUT_FILENO, &out[..count]);
-            }
-        }
-        Replayed::SmallBuffer => {}
+    if let Some(count) = buslog::replay(log, out) {
+        io::write_all(STDOUT_FILENO, &out[..count]);
     }
 }
 

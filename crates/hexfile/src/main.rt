@@ -5,27 +5,26 @@
 ghost use Rattle.std.specs.Prelude.{◌≡◌, length, Ok};
 ghost use Rattle.log_sheet.specs.Logs.{check_log};
 
-use input::Input;
 use sheet::Refusal;
 use std::env;
 
-// The number of a group's name: 0, 1, or 2 for none.
-fn group_of(word: &str) -> u8 {
+// The group of a name.
+fn group_of(word: &str) -> Option<u8> {
     match word {
-        "0" => 0,
-        "1" => 1,
-        _ => 2,
+        "0" => Some(0),
+        "1" => Some(1),
+        _ => None,
     }
 }
 
-// Which group the argument names: 0, 1, or 2 for none.
-fn group_named(rt: &HostRuntime) -> u8 {
+// The group that the one argument names.
+fn group_named(rt: &HostRuntime) -> Option<u8> {
     match env::args(rt) {
         Ok(mut words) => match (words.nth(1), words.next()) {
             (Some(word), None) => group_of(word.as_str()),
-            _ => 2,
+            _ => None,
         },
-        Err(_) => 2,
+        Err(_) => None,
     }
 }
 
@@ -85,14 +84,13 @@ fn write_log(rt: &HostRuntime, log: &[u8], group: u8) {
 }
 
 fn main(rt: HostRuntime) {
-    let group = group_named(&rt);
-    if 1 < group {
+    let Some(group) = group_named(&rt) else {
         let _ = eprintln!(rt; "hex: the group is 0 or 1");
         return;
-    }
+    };
     let mut log = input::log_buffer();
     match input::read_input(&mut rt.stdin(), &mut log) {
-        Input::Whole(count) => write_log(&rt, &log[..count], group),
-        Input::Failed(error) => input::fail(&rt, "hex: standard input could not be read", &error),
+        Ok(count) => write_log(&rt, &log[..count], group),
+        Err(error) => input::fail(&rt, "hex: standard input could not be read", &error),
     }
 }

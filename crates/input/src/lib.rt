@@ -1,8 +1,7 @@
 // A program's bus log from standard input, what it writes to standard output, and what it says of a failure on standard error.
 #![tactic(auto)]
 
-ghost use Rattle.std.specs.Prelude.{◌≡◌, length};
-ghost use Rattle.input.specs.Reads.{Within};
+ghost use Rattle.std.specs.Prelude.{◌≡◌, ◌≤◌, length, IfOk};
 
 use std::io::{Error, Read, Write};
 use std::{fs, io};
@@ -14,25 +13,19 @@ pub fn log_buffer() -> [u8; 65537]
     [0; 65537]
 }
 
-// How far the input was read: to its end or until the buffer was full, so many bytes; or to a read that failed.
-#[derive(Drop)]
-pub enum Input {
-    Whole(usize),
-    Failed(Error),
-}
-
-pub fn read_input<R: Read>(input: &mut R, buffer: &mut [u8]) -> Input
-    ensures { Within result buffer.new }
+// The input to its end or until the buffer is full: how many bytes that are.
+pub fn read_input<R: Read>(input: &mut R, buffer: &mut [u8]) -> io::Result<usize>
+    ensures { IfOk result (λ n. n ≤ length buffer.new) }
 {
     let mut done = 0;
     while done < buffer.len() {
-        match input.read(&mut buffer[done..]) {
-            Ok(0) => break,
-            Ok(more) => done += more,
-            Err(error) => return Input::Failed(error),
+        let more = input.read(&mut buffer[done..])?;
+        if more == 0 {
+            break;
         }
+        done += more;
     }
-    Input::Whole(done)
+    Ok(done)
 }
 
 // Some file systems say only late that what was written is lost, so a file is asked for it, where it can be opened again.

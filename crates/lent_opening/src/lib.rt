@@ -127,14 +127,8 @@ pub fn open(part: u8, set: &mut [u8], bytes: &[u8]) -> Opening
                 };
             }
         } else {
-            return Opening {
-                fault: Ok(()),
-                at,
-            };
+            return Opening { fault: Ok(()), at };
         }
     }
-    Opening {
-        fault: Ok(()),
-        at,
-    }
+    Opening { fault: Ok(()), at }
 }

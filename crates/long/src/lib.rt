@@ -114,9 +114,7 @@ pub fn transfer(
             registers,
         },
         Ok(()) => match groups::heard_by(chips, checks::address_byte(bytes, bits)) {
-            Some(group) => deliver(
-                part, chips, registers, ram, packed, bytes, bits, group,
-            ),
+            Some(group) => deliver(part, chips, registers, ram, packed, bytes, bits, group),
             None => Transferred {
                 answer: without_data(0),
                 registers,

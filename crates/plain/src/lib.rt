@@ -75,7 +75,12 @@ fn follow(chips: &mut [Chip], bytes: &[u8], start: Turn) -> Tally
 }
 
 // A transfer, START to STOP, of whose last byte so many bits came, taken or refused by 16, 10, 11, 1, 2, 19, then 7, 17 and 18. The list and the bytes come first.
-pub fn transfer(chips: &mut [Chip], bytes: &[u8], part: u8, bits: u8) -> Result<Acknowledged, Refusal>
+pub fn transfer(
+    chips: &mut [Chip],
+    bytes: &[u8],
+    part: u8,
+    bits: u8,
+) -> Result<Acknowledged, Refusal>
     ensures value { (result ≡ (plain_part part chips.old (sent bytes.now bits)).answer) × (plain_numbers (part_of part) result ≡ plain_numbers (part_of part) (plain_part part chips.old (sent bytes.now bits)).answer) }
     ensures chips_after { chips.new ≡ (plain_part part chips.old (sent bytes.now bits)).chips }
 {

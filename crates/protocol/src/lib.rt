@@ -229,7 +229,13 @@ fn run_fault(came: bool, marks: Marks, i: usize) -> Result<(), Refusal>
 }
 
 // The first fault of what is left of a transfer from a control byte on: mostly a run of data, which has one place to look at.
-pub fn fault_from(part: u8, cut: bool, marks: Marks, bytes: &[u8], from: usize) -> Result<(), Refusal>
+pub fn fault_from(
+    part: u8,
+    cut: bool,
+    marks: Marks,
+    bytes: &[u8],
+    from: usize,
+) -> Result<(), Refusal>
     requires { from < length bytes.now }
     ensures { result ≡ fault_in (part_of part) cut marks Expect.Control from (drop from bytes.now) }
 {

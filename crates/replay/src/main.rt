@@ -5,8 +5,7 @@
 ghost use Rattle.std.specs.Prelude.{◌≡◌, length};
 ghost use Rattle.buslog.specs.Replays.{room};
 
-use buslog::{Replayed, TEXT};
-use input::Input;
+use buslog::TEXT;
 
 fn text_buffer() -> [u8; TEXT]
     ensures { room ≡ length result }
@@ -27,18 +26,15 @@ fn write_text(rt: &HostRuntime, text: &[u8]) {
 
 fn replay_log(rt: &HostRuntime, log: &[u8]) {
     let mut out = text_buffer();
-    match buslog::replay(log, &mut out) {
-        Replayed::Written(count) => write_text(rt, &out[..count]),
-        Replayed::SmallBuffer => {}
+    if let Some(count) = buslog::replay(log, &mut out) {
+        write_text(rt, &out[..count]);
     }
 }
 
 fn main(rt: HostRuntime) {
     let mut log = input::log_buffer();
     match input::read_input(&mut rt.stdin(), &mut log) {
-        Input::Whole(count) => replay_log(&rt, &log[..count]),
-        Input::Failed(error) => {
-            input::fail(&rt, "replay: standard input could not be read", &error)
-        }
+        Ok(count) => replay_log(&rt, &log[..count]),
+        Err(error) => { input::fail(&rt, "replay: standard input could not be read", &error) }
     }
 }

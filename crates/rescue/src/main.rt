@@ -2,9 +2,7 @@
 // Standard error has the report, `R records kept dropped tear`; or why the log is refused, `X number place`; or what could not be read or written.
 #![tactic(auto)]
 
-use input::Input;
 use sheet::Kept;
-
 
 // A line of standard error: a letter, the numbers, and LF.
 fn report(rt: &HostRuntime, letter: &str, numbers: &[usize]) {
@@ -26,12 +24,14 @@ fn write_kept(rt: &HostRuntime, kept: &[u8], numbers: &[usize]) {
 fn rescue_log(rt: &HostRuntime, log: &[u8]) {
     let mut out = input::log_buffer();
     match torn::rescue(log, &mut out) {
-        Ok(Kept {
-            records,
-            bytes,
-            dropped,
-            tear,
-        }) => write_kept(rt, &out[..bytes], &[records, bytes, dropped, tear]),
+        Ok(
+            Kept {
+                records,
+                bytes,
+                dropped,
+                tear,
+            },
+        ) => write_kept(rt, &out[..bytes], &[records, bytes, dropped, tear]),
         Err(refusal) => report(
             rt,
             "X",
@@ -43,9 +43,7 @@ fn rescue_log(rt: &HostRuntime, log: &[u8]) {
 fn main(rt: HostRuntime) {
     let mut log = input::log_buffer();
     match input::read_input(&mut rt.stdin(), &mut log) {
-        Input::Whole(count) => rescue_log(&rt, &log[..count]),
-        Input::Failed(error) => {
-            input::fail(&rt, "rescue: standard input could not be read", &error)
-        }
+        Ok(count) => rescue_log(&rt, &log[..count]),
+        Err(error) => { input::fail(&rt, "rescue: standard input could not be read", &error) }
     }
 }

@@ -94,7 +94,10 @@ fn check_chips(part: u8, bytes: &[u8], bits: u8, found: Found) -> Result<(), Ref
     ensures { result ≡ check_list part (sent bytes.now bits) found }
 {
     let marks = marks_found(found);
-    checks::unless(found.count <= found.misfit, Refusal::ChipField(found.misfit))?;
+    checks::unless(
+        found.count <= found.misfit,
+        Refusal::ChipField(found.misfit),
+    )?;
     checks::check_sent(bytes.len(), bits)?;
     check_bytes(part, bytes, bits, found.hearer < found.count, marks)
 }

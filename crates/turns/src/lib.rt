@@ -34,9 +34,7 @@ fn lower(subaddress: usize, others: Option<usize>) -> Option<usize>
     ensures { result ≡ lower subaddress others }
 {
     match others {
-        Some(other) => {
-            Some(arithmetic::least(subaddress, other))
-        }
+        Some(other) => { Some(arithmetic::least(subaddress, other)) }
         None => Some(subaddress),
     }
 }

@@ -9,7 +9,7 @@ use lib.ListN.{length, drop}
 use lib.Seq.{sets-eq}
 use borrow.Author.Tests.{lt-ltb, le-ltb}
 use Rattle.log_sheet.specs.Logs.{text_of}
-use Rattle.buslog.specs.declared.Replayed.TheVariants.{Written}
+use Rattle.std.specs.Prelude.{Some}
 use Rattle.text.specs.Texts.{written, Puts}
 use Rattle.buslog.specs.Replays.{room, replay_call}
 use Rattle.buslog.proofs.Checked.{text-refused}
@@ -23,11 +23,11 @@ at-start text out after end h p =
     (p.out ∙ sets-eq text out 0 (omega arith) ∙ ap (λ (k : ℕ). text ++ drop k out) (zero-add (length text)), p.place ∙ zero-add (length text))
 
 -- is what a replay leaves
-whole : (log out after : List ℕ) (end : ℕ) → room ≤ length out → length (text_of log) ≤ room → Puts 0 (text_of log) out after end → (after ≡ (replay_call log out).out) × ((Written end ≡ (replay_call log out).result) × (end ≤ length out))
+whole : (log out after : List ℕ) (end : ℕ) → room ≤ length out → length (text_of log) ≤ room → Puts 0 (text_of log) out after end → (after ≡ (replay_call log out).out) × ((Some end ≡ (replay_call log out).result) × (end ≤ length out))
 unfolding replay_call
 whole log out after end h few p =
     let s = at-start (text_of log) out after end (omega arith) p in
-    rw (le-ltb (length out) room h) (s.0, (ap Written s.1, omega (arith, s.1)))
+    rw (le-ltb (length out) room h) (s.0, (ap Some s.1, omega (arith, s.1)))
 
 pub returns-then-out-lt-TEXT : goal.returns-then-out-lt-TEXT
 unfolding replay_call
