@@ -34,22 +34,22 @@ pub fn chips_in(group: u8, chips: Chips) -> u8
 pub fn registers_of(group: u8, registers: Both) -> Registers
     ensures { result ≡ registers_of group registers }
 {
-    let zero = registers.zero;
-    let one = registers.one;
-    if group == 0 { zero } else { one }
+    match group {
+        0 => registers.zero,
+        _ => registers.one,
+    }
 }
 
 // Both register sets, a group's replaced.
-pub fn replaced(group: u8, after: Registers, registers: Both) -> Both
+pub fn replaced(group: u8, after: Registers, mut registers: Both) -> Both
     ensures { result ≡ replaced group after registers }
 {
-    let zero = registers.zero;
-    let one = registers.one;
     if group == 0 {
-        Both { zero: after, one }
+        registers.zero = after;
     } else {
-        Both { zero, one: after }
+        registers.one = after;
     }
+    registers
 }
 
 // Where a group's columns begin in the RAM.

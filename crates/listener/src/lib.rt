@@ -67,11 +67,7 @@ fn acknowledged(mut counts: Counts) -> Counts
 fn is_control(expect: Expect) -> bool
     ensures { result ≡ is_control expect }
 {
-    match expect {
-        Expect::Control => true,
-        Expect::One(_) => false,
-        Expect::All(_) => false,
-    }
+    matches!(expect, Expect::Control)
 }
 
 // The registers after a byte that is no data: a command is obeyed.
@@ -148,15 +144,11 @@ impl Listener {
         requires { self.counts.acknowledged < 2 ^ 32 }
         ensures { result ≡ stepped (part_of part) self byte }
     {
-        let expect = self.expect;
-        let registers = self.registers;
-        let counts = self.counts;
-        let last = self.last;
         Listener {
-            expect: protocol::follow(expect, byte),
-            registers: obeyed_by(part, expect, byte, registers),
-            counts: acknowledged(counts),
-            last,
+            expect: protocol::follow(self.expect, byte),
+            registers: obeyed_by(part, self.expect, byte, self.registers),
+            counts: acknowledged(self.counts),
+            last: self.last,
         }
     }
 
@@ -165,33 +157,24 @@ impl Listener {
         requires { Runs (part_of part) self n }
         ensures { result ≡ ran (part_of part) self n size }
     {
-        let expect = self.expect;
-        let registers = self.registers;
-        let counts = self.counts;
-        let last = self.last;
-        let m = arithmetic::backplanes(registers);
-        let v = arithmetic::position(part, registers);
+        let m = arithmetic::backplanes(self.registers);
+        let v = arithmetic::position(part, self.registers);
         let after = v + arithmetic::width(m) * n;
         Listener {
-            expect: protocol::follow(expect, 0),
-            registers: arithmetic::at_position(part, registers, after),
-            counts: counted(counts, v, size, m, n),
-            last: last_of(part, last, v, size, m, n),
+            expect: protocol::follow(self.expect, 0),
+            registers: arithmetic::at_position(part, self.registers, after),
+            counts: counted(self.counts, v, size, m, n),
+            last: last_of(part, self.last, v, size, m, n),
         }
     }
+
     // After the last whole byte of a transfer: a data byte that is cut makes pointer and counter unknown.
     pub fn end(self, cut: bool) -> Listener
         ensures { result ≡ ended_by cut self }
     {
-        let expect = self.expect;
-        let registers = self.registers;
-        let counts = self.counts;
-        let last = self.last;
         Listener {
-            expect,
-            registers: registers::lose(cut & protocol::is_data(expect), registers),
-            counts,
-            last,
+            registers: registers::lose(cut & protocol::is_data(self.expect), self.registers),
+            ..self
         }
     }
 }

@@ -51,10 +51,7 @@ pub fn follow(expect: Expect, byte: u8) -> Expect
 fn is_data_of(kind: Kind) -> bool
     ensures { result ≡ is_data_of kind }
 {
-    match kind {
-        Kind::Command => false,
-        Kind::Data => true,
-    }
+    matches!(kind, Kind::Data)
 }
 
 // Whether the next byte is data.
@@ -63,8 +60,7 @@ pub fn is_data(expect: Expect) -> bool
 {
     match expect {
         Expect::Control => false,
-        Expect::One(kind) => is_data_of(kind),
-        Expect::All(kind) => is_data_of(kind),
+        Expect::One(kind) | Expect::All(kind) => is_data_of(kind),
     }
 }
 
@@ -129,12 +125,8 @@ fn only(of_data: bool, expect: Expect) -> bool
     ensures { result ≡ only_left of_data expect }
 {
     match expect {
-        Expect::Control => false,
-        Expect::One(_) => false,
-        Expect::All(kind) => match kind {
-            Kind::Command => !of_data,
-            Kind::Data => of_data,
-        },
+        Expect::Control | Expect::One(_) => false,
+        Expect::All(kind) => is_data_of(kind) == of_data,
     }
 }
 

@@ -16,9 +16,7 @@ use sheet::{Both, Chips, Refusal};
 pub fn registers_fit(part: u8, registers: Both) -> bool
     ensures { result ≡ fitting (part_of part) registers }
 {
-    let zero = registers.zero;
-    let one = registers.one;
-    registers::in_range(part, zero) & registers::in_range(part, one)
+    registers::in_range(part, registers.zero) & registers::in_range(part, registers.one)
 }
 
 // So many columns: 4, 5.

@@ -19,16 +19,13 @@ pub fn lose(lost: bool, mut registers: Registers) -> Registers
     ensures { result ≡ lost_by lost registers }
 {
     if lost {
-        let all = Marks {
+        registers.unknown = Marks {
             high: 1,
             low: 1,
             device: 1,
         };
-        registers.unknown = all;
-        registers
-    } else {
-        registers
     }
+    registers
 }
 
 // Whether every mark is 0 or 1.
