@@ -21,12 +21,11 @@ turn ram₀ at m b x ram after k bit l eb e long r = record {
       (e ∙ ap (λ (n : ℕ). changed (with_row (b + k % m) n) (at + k / m) ram) eb
       ∙ ap (changed (with_row (b + k % m) (bit_of x k)) (at + k / m)) r.so_far);
   long = long ∙ r.long;
-  most = omega arith;
 }
 
 pub loop-k-init : goal.loop-k-init
 unfolding put_bits
-loop-k-init c = record { so_far = refl; long = refl; most = omega arith }
+loop-k-init c = record { so_far = refl; long = refl }
 
 pub overflow_add-at : goal.overflow_add-at
 overflow_add-at c = omega (arith, div-le_self c.loop-k.k c.args.m)
@@ -47,4 +46,4 @@ shape_of-ram c = c.loop-k.invariant.long
 
 pub returns : goal.returns
 returns c = let a = c.args in
-    c.loop-k.invariant.so_far ∙ ap (λ (k : ℕ). put_bits k a.m a.b a.at a.x a.ram.now) (omega (arith, c.loop-k.invariant.most, c.loop-k-test.false))
+    c.loop-k.invariant.so_far ∙ ap (λ (k : ℕ). put_bits k a.m a.b a.at a.x a.ram.now) (omega (arith, c.loop-k-test.false))
