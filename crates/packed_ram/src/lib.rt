@@ -40,12 +40,9 @@ fn stream_run(ram: &mut [u8], at: usize, m: usize, bank: u8, shift: usize, befor
 {
     let each = arithmetic::width(m) / 2;
     let mut last = before;
-    let mut i: usize = 0;
-    while i < bytes.len() {
-        let x = bytes[i];
+    for (i, &x) in bytes.iter().enumerate() {
         stream_byte(ram, at + each * i, m, bank, earlier_byte(last, x, shift));
         last = x;
-        i += 1;
     }
 }
 
@@ -54,18 +51,17 @@ fn three_fours(ram: &mut [u8], at: usize, bytes: &[u8])
     requires { (3 * length bytes.now ≤ 2 * length ram.old - 2 * at) × (length ram.old < 65536) × (length bytes.now % 4 ≡ 0) }
     ensures { unpacked ram.new ≡ put_run 3 0 (2 * at) bytes.now (unpacked ram.old) }
 {
-    let mut i: usize = 0;
-    while i < bytes.len() {
+    for four in 0..bytes.len() / 4 {
+        let i = 4 * four;
         let a = packed_words::three_columns(bytes[i]);
         let b = packed_words::three_columns(bytes[i + 1]);
         let c = packed_words::three_columns(bytes[i + 2]);
         let d = packed_words::three_columns(bytes[i + 3]);
         packed_words::put_twelve(
             ram,
-            at + i / 2 * 3,
+            at + 6 * four,
             a + 4096 * b + 0x1000000 * (c + 4096 * d),
         );
-        i += 4;
     }
 }
 
@@ -74,11 +70,8 @@ fn three_bytes(ram: &mut [u8], v: usize, bytes: &[u8])
     requires { (3 * length bytes.now ≤ 2 * length ram.old - v) × (length ram.old < 65536) }
     ensures { unpacked ram.new ≡ put_run 3 0 v bytes.now (unpacked ram.old) }
 {
-    let mut i: usize = 0;
-    while i < bytes.len() {
-        let t = packed_words::three_columns(bytes[i]);
-        packed_words::put_columns(ram, v + 3 * i, 3, 0x377, t);
-        i += 1;
+    for (i, &x) in bytes.iter().enumerate() {
+        packed_words::put_columns(ram, v + 3 * i, 3, 0x377, packed_words::three_columns(x));
     }
 }
 
