@@ -1,11 +1,6 @@
-use mathlib.Core.Path.{◌≡◌}
-use Prim.Native.Nat.{◌-◌, ◌%◌, ◌≤◌}
-use lib.ListN.{length}
+use Prim.Native.Nat.{◌*◌}
 use Rattle.picture.proofs.Drawing.{Drawing}
 use Rattle.picture.proofs.draw.Given as goal
 
-abbrev pub invariant-loop-start : goal.invariant-loop-start
-invariant-loop-start l = Drawing l.first l.height l.columns l.out l.lit l.start × (l.start ≤ length l.columns) × (l.start % 80 ≡ 0)
-
-abbrev pub decreases-loop-start : goal.decreases-loop-start
-decreases-loop-start l = length l.columns - l.start
+abbrev pub invariant-loop-turn : goal.invariant-loop-turn
+invariant-loop-turn l = Drawing l.first l.height l.columns l.out l.lit (80 * l.turn)
