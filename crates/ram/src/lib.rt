@@ -39,9 +39,9 @@ pub fn cut_byte(ram: &mut [u8], at: usize, m: usize, bank: u8, rest: &[u8])
     requires { Cut ram.old at m bank rest.now }
     ensures { ram.new ≡ put_run m (bank_row m bank) at rest.now ram.old }
 {
-    if 0 < rest.len() {
+    if let Some(&x) = rest.first() {
         let b = arithmetic::bank_row(m, bank);
-        put_bits(ram, at, m, b, rest[0]);
+        put_bits(ram, at, m, b, x);
     }
 }
 
