@@ -36,8 +36,7 @@ fn draw(columns: &[u8], first: usize, height: usize, out: &mut [u8]) -> usize
     ensures { record { lit = result; out = out.new } ≡ drawn first height columns.now }
 {
     let mut lit = 0;
-    for turn in 0..columns.len() / 80 {
-        let start = 80 * turn;
+    for start in (0..columns.len()).step_by(80) {
         let middle = start + 48;
         let end = middle + 32;
         let ones = draw_some(
@@ -81,8 +80,7 @@ fn draw_packed(ram: &[u8], first: usize, height: usize, out: &mut [u8]) -> usize
     ensures { record { lit = result; out = out.new } ≡ drawn first height (unpacked ram.now) }
 {
     let mut lit: usize = 0;
-    for turn in 0..ram.len() / 40 {
-        let start = 40 * turn;
+    for start in (0..ram.len()).step_by(40) {
         let end = start + 40;
         draw_pairs(
             &ram[start..end],

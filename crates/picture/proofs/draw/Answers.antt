@@ -1,12 +1,12 @@
 -- `picture::draw` meets its contract: after each turn all columns before a place are written and counted, and the last turn ends at the last column.
 -- Assumes nothing.
-use mathlib.Core.Path.{◌≡◌}
+use mathlib.Core.Path.{◌≡◌, refl}
 use mathlib.Core.List.{List, ◌++◌}
-use Prim.Native.Nat.{ℕ, ◌+◌, ◌-◌, ◌*◌, ◌≤◌}
+use Prim.Native.Nat.{ℕ, ◌+◌, ◌-◌, ◌%◌, ◌≤◌, ◌<◌}
 use native.Mathlib.Omega.{arith}
 use lib.ListN.{length, take, drop}
 use Rattle.picture.specs.Drawn.{Drawn, drawn}
-use Rattle.picture.proofs.Drawing.{Drawing, begun, few, part-turn}
+use Rattle.picture.proofs.Drawing.{Drawing, begun, few, part-turn, done}
 use Rattle.picture.proofs.draw.Goals as goal
 
 -- the first part of a turn is drawn
@@ -15,16 +15,27 @@ halfway : {first height lit start ones : ℕ} {columns out some : List ℕ} → 
     → Drawing first height columns (take start out ++ (some ++ drop (start + 48 - start) (drop start out))) (lit + ones) (start + 48)
 halfway d h e = part-turn d (omega arith) h e
 
+-- a turn's columns are there
+whole : (start n : ℕ) → start < n → start % 80 ≡ 0 → n % 80 ≡ 0 → start + 80 ≤ n
+whole start n h e f = omega arith
+
 -- and then the other
-pub loop-turn-preserved : goal.loop-turn-preserved
-loop-turn-preserved c = let start = 80 * c.loop-turn.turn in
-    let sum : c.loop-turn.lit + (c.draw_some-ones.result + c.draw_some-more.result) ≡ c.loop-turn.lit + c.draw_some-ones.result + c.draw_some-more.result = omega arith in
-    let next : 80 * (c.loop-turn.turn + 1) ≡ start + 48 + 32 = omega arith in
-    rw (sum, next) (part-turn (halfway c.loop-turn.invariant (omega arith) c.draw_some-ones.ensures) (omega arith) (omega arith) c.draw_some-more.ensures)
+pub loop-start-preserved : goal.loop-start-preserved
+loop-start-preserved c = let start = c.loop-start.start in
+    let room = whole start (length c.args.columns.now) c.loop-start-test.true c.loop-start.invariant.1 c.requires.turns in
+    let sum : c.loop-start.lit + (c.draw_some-ones.result + c.draw_some-more.result) ≡ c.loop-start.lit + c.draw_some-ones.result + c.draw_some-more.result = omega arith in
+    let next : start + 80 ≡ start + 48 + 32 = omega arith in
+    (rw (sum, next) (part-turn (halfway c.loop-start.invariant.0 (omega (arith, room)) c.draw_some-ones.ensures) (omega arith) (omega (arith, room)) c.draw_some-more.ensures), omega (arith, c.loop-start.invariant.1), room)
 
-pub overflow_add-lit-in-loop-turn : goal.overflow_add-lit-in-loop-turn
-overflow_add-lit-in-loop-turn c = let pre = c.requires in
-    omega (arith, few c.loop-turn.invariant pre.rows, pre.most)
+pub overflow_add-lit-in-loop-start : goal.overflow_add-lit-in-loop-start
+overflow_add-lit-in-loop-start c = let pre = c.requires in
+    omega (arith, few c.loop-start.invariant.0 pre.rows, pre.most)
 
-pub loop-turn-init : goal.loop-turn-init
-loop-turn-init c = begun c.requires.size
+pub loop-start-init : goal.loop-start-init
+loop-start-init c = (begun c.requires.size, refl, omega arith)
+
+pub returns-2 : goal.returns-2
+returns-2 c = let start = c.loop-start.start in
+    let room = whole start (length c.args.columns.now) c.loop-start-test.true c.loop-start.invariant.1 c.requires.turns in
+    let sum : c.loop-start.lit + (c.draw_some-ones.result + c.draw_some-more.result) ≡ c.loop-start.lit + c.draw_some-ones.result + c.draw_some-more.result = omega arith in
+    rw sum (done (part-turn (halfway c.loop-start.invariant.0 (omega (arith, room)) c.draw_some-ones.ensures) (omega arith) (omega (arith, room)) c.draw_some-more.ensures) (omega arith))
