@@ -133,7 +133,7 @@ pub fn put_word(out: &mut [u8], word: u32)
     requires { length out.old ≡ 4 }
     ensures { out.new ≡ column_of word 0 ∷ column_of word 1 ∷ column_of word 2 ∷ column_of word 3 ∷ [] }
 {
-    words::store_four(out, 0, word);
+    out.copy_from_slice(&word.to_le_bytes());
 }
 
 fn word_data(columns: &[u8], out: &mut [u8])
@@ -186,7 +186,7 @@ fn pair_of(columns: &[u8], at: usize) -> u8
     requires { at + 2 ≤ length columns.now }
     ensures { result ≡ pair_at columns.now at }
 {
-    let rows = (columns[at] as u16 + 256 * (columns[at + 1] as u16)) & 0x0F0F;
+    let rows = u16::from_le_bytes([columns[at], columns[at + 1]]) & 0x0F0F;
     ((rows * 16 + rows / 256) % 256) as u8
 }
 
