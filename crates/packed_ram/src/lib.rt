@@ -169,13 +169,13 @@ pub fn cut_byte(ram: &mut [u8], at: usize, m: usize, bank: u8, rest: &[u8])
     requires { Cut (unpacked ram.old) at m bank rest.now }
     ensures { unpacked ram.new ≡ put_run m (bank_row m bank) at rest.now (unpacked ram.old) }
 {
-    if 0 < rest.len() {
+    if let Some(&x) = rest.first() {
         if at / 2 < ram.len() {
             packed_words::cut_columns(
                 ram,
                 at,
                 packed_words::rows_of(m, bank),
-                packed_words::columns_of(m, rest[0]),
+                packed_words::columns_of(m, x),
             );
         }
     }
