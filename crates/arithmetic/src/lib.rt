@@ -36,11 +36,7 @@ pub fn pointers(part: u8) -> usize
 pub fn columns_in(part: u8, chips: u16) -> usize
     ensures { result ≡ (part_of part).columns * chips }
 {
-    if part == sheet::PCA85133 {
-        80 * (chips as usize)
-    } else {
-        160 * (chips as usize)
-    }
+    columns(part) * chips as usize
 }
 
 // The chip that has a column of the group.
@@ -109,7 +105,7 @@ pub fn at_position(part: u8, mut registers: Registers, v: usize) -> Registers
     ensures { result ≡ at_position (part_of part) registers v }
 {
     registers.p = column_of(part, v);
-    registers.a = least(limit(part), chip_of(part, v));
+    registers.a = limit(part).min(chip_of(part, v));
     registers
 }
 
@@ -117,14 +113,14 @@ pub fn at_position(part: u8, mut registers: Registers, v: usize) -> Registers
 pub fn least(a: usize, b: usize) -> usize
     ensures { result ≡ min a b }
 {
-    if a < b { a } else { b }
+    a.min(b)
 }
 
 // The columns from v on, of as many as there are.
 pub fn columns_from(v: usize, size: usize) -> usize
     ensures { result ≡ size - v }
 {
-    if v < size { size - v } else { 0 }
+    size.saturating_sub(v)
 }
 
 // ---- packed columns, two a byte (paper 02, request 6)

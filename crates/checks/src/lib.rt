@@ -1,7 +1,8 @@
 // The checks that several calls share, each with its refusal. A check is looked at only if the earlier ones passed.
 #![tactic(auto)]
 
-ghost use Rattle.std.specs.Prelude.{◌≡◌, ◌+◌, ◌%◌, ◌≤◌, max, length, get_or, drop, true};
+ghost use Rattle.std.specs.Prelude.{◌≡◌, ◌+◌, ◌%◌, ◌≤◌, max, length, get_or, drop, true, ltb};
+ghost use Rattle.std.specs.List.{position};
 ghost use Rattle.laws.proofs.Nibbles.{Nibbles};
 ghost use Rattle.checks.specs.Highest.{highest_of, first_over};
 ghost use Rattle.sheet.specs.Parts.{part_of};
@@ -28,7 +29,7 @@ pub fn passes(check: Result<(), Refusal>) -> bool
 pub fn byte_at(bytes: &[u8], i: usize) -> u8
     ensures { result ≡ get_or bytes.now i 0 }
 {
-    if i < bytes.len() { bytes[i] } else { 0 }
+    bytes.get(i).copied().unwrap_or(0)
 }
 
 // The part: 16.
@@ -49,22 +50,13 @@ pub fn check_chips(part: u8, chips: Chips) -> Result<(), Refusal>
     )
 }
 
-// The higher of two columns.
-fn higher(a: u8, b: u8) -> u8
-    ensures { result ≡ max a b }
-{
-    if a < b { b } else { a }
-}
-
 // The highest column. No branch leaves the loop, so that many columns are looked at at once.
 fn highest(columns: &[u8]) -> u8
     ensures { result ≡ highest_of columns.now }
 {
     let mut found = 0;
-    let mut i = 0;
-    while i < columns.len() {
-        found = higher(found, columns[i]);
-        i += 1;
+    for &column in columns {
+        found = column.max(found);
     }
     found
 }
@@ -73,28 +65,30 @@ fn highest(columns: &[u8]) -> u8
 fn blocks_passed(columns: &[u8]) -> usize
     ensures { (result + first_over (drop result columns.now) ≡ first_over columns.now) × (result ≤ length columns.now) }
 {
-    let mut i = 0;
-    while 32 <= columns.len() - i {
-        if 15 < highest(&columns[i..i + 32]) {
-            return i;
+    let blocks = columns.len() / 32;
+    for block in 0..blocks {
+        let start = 32 * block;
+        if 15 < highest(&columns[start..start + 32]) {
+            return start;
         }
-        i += 32;
     }
-    i
+    32 * blocks
+}
+
+// The place of the first column over 15, if there is one.
+fn column_over(columns: &[u8]) -> Option<usize>
+    ensures { result ≡ position (λ q. ltb 15 q) columns.now }
+{
+    columns.iter().position(|&column| 15 < column)
 }
 
 // The place of the first column over 15, or past the last: a number, so that no answer goes through memory where there is none.
 pub fn search_over(columns: &[u8]) -> usize
     ensures { result ≡ first_over columns.now }
 {
-    let mut i = blocks_passed(columns);
-    while i < columns.len() {
-        if 15 < columns[i] {
-            return i;
-        }
-        i += 1;
-    }
-    i
+    let passed = blocks_passed(columns);
+    let rest = &columns[passed..];
+    passed + column_over(rest).unwrap_or(rest.len())
 }
 
 // Whether the columns are whole words of eight and none is over 15. The rows of all words are brought together, and no branch leaves the loop.
@@ -104,12 +98,10 @@ fn words_low(columns: &[u8]) -> bool
 {
     let n = columns.len();
     let mut rows: u64 = 0;
-    let mut i = 0;
-    while 8 <= n - i {
-        rows = rows | words::eight_columns(columns, i);
-        i += 8;
+    for word in 0..n / 8 {
+        rows |= words::eight_columns(columns, 8 * word);
     }
-    (i == n) & (rows & 0xF0F0F0F0F0F0F0F0 == 0)
+    (n % 8 == 0) & (rows & 0xF0F0F0F0F0F0F0F0 == 0)
 }
 
 // The first column over 15, if there is one; most RAMs have none.

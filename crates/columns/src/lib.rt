@@ -29,10 +29,8 @@ fn put_rows(m: usize, b: usize, k: usize, byte: u8, column: u8) -> u8
     ensures { result ≡ put_rows m b k byte column }
 {
     let mut put = column;
-    let mut n = 0;
-    while n < m {
+    for n in 0..m {
         put = put_row(b + n, k + n, byte, put);
-        n += 1;
     }
     put
 }
@@ -44,7 +42,7 @@ fn advance(part: u8, mut registers: Registers) -> Registers
 {
     if registers.p + 1 == arithmetic::columns(part) {
         registers.p = 0;
-        registers.a = arithmetic::least(arithmetic::limit(part), registers.a + 1);
+        registers.a = arithmetic::limit(part).min(registers.a + 1);
         registers
     } else {
         registers.p = registers.p + 1;
@@ -73,13 +71,10 @@ fn put_columns(columns: &mut [u8], part: u8, start: Registers, subaddress: u8, b
 {
     let width = arithmetic::width(arithmetic::backplanes(start));
     let mut registers = start;
-    let mut j = 0;
-    while j < width {
+    for j in 0..width {
         let p = registers.p;
         columns[p] = stored(registers, subaddress, byte, j, columns[p]);
-        let next = advance(part, registers);
-        registers = next;
-        j += 1;
+        registers = advance(part, registers);
     }
 }
 
@@ -98,7 +93,7 @@ fn put_field(m: usize, b: usize, k: usize, bits: u8, column: u8) -> u8
     requires { (b + m < 5) × (k < 8) }
     ensures { result ≡ with_rows b (min m (8 - k)) (bits / 2 ^ k % 2 ^ min m (8 - k)) column }
 {
-    let h = arithmetic::least(m, 8 - k);
+    let h = m.min(8 - k);
     let rows = 1u8 << h;
     with_rows(b, h, (bits >> k) % rows, column)
 }
@@ -110,10 +105,8 @@ fn put_inside(columns: &mut [u8], at: usize, m: usize, b: usize, byte: u8)
 {
     let bits = words::reversed(byte);
     let width = arithmetic::width(m);
-    let mut j = 0;
-    while j < width {
+    for j in 0..width {
         columns[at + j] = put_field(m, b, m * j, bits, columns[at + j]);
-        j += 1;
     }
 }
 
@@ -136,7 +129,7 @@ pub fn room(part: u8, registers: Registers) -> usize
     ensures { result ≡ room_in (part_of part) registers }
 {
     let width = arithmetic::width(arithmetic::backplanes(registers));
-    arithmetic::columns_from(registers.p, arithmetic::columns(part)) / width
+    arithmetic::columns(part).saturating_sub(registers.p) / width
 }
 
 // The registers so many data bytes on, stored or not.
@@ -173,18 +166,9 @@ fn store_run(part: u8, chip: Chip, bytes: &[u8]) -> Chip
 {
     let mut columns = chip.columns;
     let mut registers = chip.registers;
-    let mut i = 0;
-    while i < bytes.len() {
-        put_byte(
-            &mut columns[..160],
-            part,
-            registers,
-            chip.subaddress,
-            bytes[i],
-        );
-        let next = pass(part, registers, 1);
-        registers = next;
-        i += 1;
+    for &byte in bytes {
+        put_byte(&mut columns[..160], part, registers, chip.subaddress, byte);
+        registers = pass(part, registers, 1);
     }
     Chip {
         columns,
@@ -217,6 +201,6 @@ pub fn acknowledges_data(part: u8, chip: Chip, byte: u8) -> bool
     let registers = chip.registers;
     let width = arithmetic::width(arithmetic::backplanes(registers));
     let last = arithmetic::position(part, registers) + width - 1;
-    let a = arithmetic::least(arithmetic::limit(part), arithmetic::chip_of(part, last));
+    let a = arithmetic::limit(part).min(arithmetic::chip_of(part, last));
     a == chip.subaddress as usize
 }

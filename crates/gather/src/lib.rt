@@ -52,10 +52,8 @@ fn byte_data(columns: &[u8], m: usize, bank: u8, out: &mut [u8])
     requires { ByBytes columns.now m bank out.old }
     ensures { out.new ≡ data_from (length out.old) m (2 * bank) columns.now }
 {
-    let mut j: usize = 0;
-    while j < out.len() {
-        out[j] = byte_of(columns, m, bank, j);
-        j += 1;
+    for (j, byte) in out.iter_mut().enumerate() {
+        *byte = byte_of(columns, m, bank, j);
     }
 }
 
@@ -135,18 +133,17 @@ pub fn put_word(out: &mut [u8], word: u32)
     requires { length out.old ≡ 4 }
     ensures { out.new ≡ column_of word 0 ∷ column_of word 1 ∷ column_of word 2 ∷ column_of word 3 ∷ [] }
 {
-    words::store_four(out, 0, word);
+    out.copy_from_slice(&word.to_le_bytes());
 }
 
 fn word_data(columns: &[u8], out: &mut [u8])
     requires { ByWords columns.now out.old }
     ensures { out.new ≡ data_from (length out.old) 3 0 columns.now }
 {
-    let mut j: usize = 0;
-    while j < out.len() {
+    for four in 0..out.len() / 4 {
+        let j = 4 * four;
         let word = three_bytes(columns, 3 * j);
         put_word(&mut out[j..j + 4], word);
-        j += 4;
     }
 }
 
@@ -175,11 +172,10 @@ fn three_data(columns: &[u8], out: &mut [u8])
     requires { (length out.old ≡ bytes_for 3 (length columns.now)) × (length columns.now < 2 ^ 32) }
     ensures { out.new ≡ data_from (length out.old) 3 0 columns.now }
 {
-    let mut j = columns.len() / 12 * 4;
-    word_data(columns, &mut out[..j]);
-    while j < out.len() {
+    let whole = columns.len() / 12 * 4;
+    word_data(columns, &mut out[..whole]);
+    for j in whole..out.len() {
         out[j] = three_byte(columns, 3 * j);
-        j += 1;
     }
 }
 
@@ -190,7 +186,7 @@ fn pair_of(columns: &[u8], at: usize) -> u8
     requires { at + 2 ≤ length columns.now }
     ensures { result ≡ pair_at columns.now at }
 {
-    let rows = (columns[at] as u16 + 256 * (columns[at + 1] as u16)) & 0x0F0F;
+    let rows = u16::from_le_bytes([columns[at], columns[at + 1]]) & 0x0F0F;
     ((rows * 16 + rows / 256) % 256) as u8
 }
 
@@ -198,10 +194,8 @@ fn put_pairs(columns: &[u8], out: &mut [u8])
     requires { 2 * length out.old ≤ length columns.now }
     ensures { out.new ≡ pairs_at (length out.old) columns.now }
 {
-    let mut j: usize = 0;
-    while j < out.len() {
-        out[j] = pair_of(columns, 2 * j);
-        j += 1;
+    for (j, pair) in out.iter_mut().enumerate() {
+        *pair = pair_of(columns, 2 * j);
     }
 }
 
@@ -216,10 +210,8 @@ fn turned_four(pair: u8) -> u8
 fn turn_pairs(out: &mut [u8])
     ensures { out.new ≡ map turned_four out.old }
 {
-    let mut j: usize = 0;
-    while j < out.len() {
-        out[j] = turned_four(out[j]);
-        j += 1;
+    for pair in out.iter_mut() {
+        *pair = turned_four(*pair);
     }
 }
 
@@ -239,10 +231,10 @@ pub fn count(m: usize, size: usize) -> usize
     ensures { result ≡ bytes_for m size }
 {
     match m {
-        1 => (size + 7) / 8,
-        2 => (size + 3) / 4,
-        3 => (size + 2) / 3,
-        _ => (size + 1) / 2,
+        1 => size.div_ceil(8),
+        2 => size.div_ceil(4),
+        3 => size.div_ceil(3),
+        _ => size.div_ceil(2),
     }
 }
 

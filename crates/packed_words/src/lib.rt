@@ -30,10 +30,8 @@ fn put_bytes(ram: &mut [u8], at: usize, n: usize, rows: u64, t: u64)
     requires { (at + n ≤ length ram.old) × (n ≤ 8) }
     ensures { ram.new ≡ merged n rows t at ram.old }
 {
-    let mut j: usize = 0;
-    while j < n {
+    for j in 0..n {
         put(ram, at + j, two_of(rows, j), two_of(t, j));
-        j += 1;
     }
 }
 

@@ -22,13 +22,10 @@ fn draw_some(columns: &[u8], first: usize, height: usize, out: &mut [u8]) -> u8
     ensures { record { lit = result; out = out.new } ≡ drawn first height columns.now }
 {
     let mut ones = 0;
-    let mut i = 0;
-    while i < columns.len() {
-        let column = columns[i];
+    for (i, &column) in columns.iter().enumerate() {
         let value = lit_rows(first, height, column);
         out[i] = value;
-        ones += u8::count_ones(value) as u8;
-        i += 1;
+        ones += value.count_ones() as u8;
     }
     ones
 }
@@ -38,10 +35,8 @@ fn draw(columns: &[u8], first: usize, height: usize, out: &mut [u8]) -> usize
     requires { Drawable columns.now first height out.old }
     ensures { record { lit = result; out = out.new } ≡ drawn first height columns.now }
 {
-    let n = columns.len();
     let mut lit = 0;
-    let mut start = 0;
-    while 80 <= n - start {
+    for start in (0..columns.len()).step_by(80) {
         let middle = start + 48;
         let end = middle + 32;
         let ones = draw_some(
@@ -52,7 +47,6 @@ fn draw(columns: &[u8], first: usize, height: usize, out: &mut [u8]) -> usize
         );
         let more = draw_some(&columns[middle..end], first, height, &mut out[middle..end]);
         lit += ones as usize + more as usize;
-        start = end;
     }
     lit
 }
@@ -62,12 +56,9 @@ fn draw_pairs(ram: &[u8], first: usize, height: usize, out: &mut [u8])
     requires { (length out.old ≡ length (unpacked ram.now)) × (first < 8) × (height < 8) }
     ensures { out.new ≡ rows_of first height (unpacked ram.now) }
 {
-    let mut i: usize = 0;
-    while i < ram.len() {
-        let pair = ram[i];
+    for (i, &pair) in ram.iter().enumerate() {
         out[2 * i] = lit_rows(first, height, pair % 16);
         out[2 * i + 1] = lit_rows(first, height, pair / 16);
-        i += 1;
     }
 }
 
@@ -77,10 +68,8 @@ fn count_some(columns: &[u8]) -> u8
     ensures { result ≡ lit_in columns.now }
 {
     let mut ones = 0;
-    let mut i = 0;
-    while i < columns.len() {
-        ones += u8::count_ones(columns[i]) as u8;
-        i += 1;
+    for &column in columns {
+        ones += column.count_ones() as u8;
     }
     ones
 }
@@ -90,10 +79,8 @@ fn draw_packed(ram: &[u8], first: usize, height: usize, out: &mut [u8]) -> usize
     requires { Drawable (unpacked ram.now) first height out.old }
     ensures { record { lit = result; out = out.new } ≡ drawn first height (unpacked ram.now) }
 {
-    let n = ram.len();
     let mut lit: usize = 0;
-    let mut start = 0;
-    while 40 <= n - start {
+    for start in (0..ram.len()).step_by(40) {
         let end = start + 40;
         draw_pairs(
             &ram[start..end],
@@ -104,7 +91,6 @@ fn draw_packed(ram: &[u8], first: usize, height: usize, out: &mut [u8]) -> usize
         let ones = count_some(&out[2 * start..2 * start + 48]);
         let others = count_some(&out[2 * start + 48..2 * end]);
         lit += ones as usize + others as usize;
-        start = end;
     }
     lit
 }

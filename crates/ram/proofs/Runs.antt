@@ -34,12 +34,11 @@ run-cut m b v x xs ram h = run_past m b (v + width_of m) xs (put_bits 8 m b v x 
 pub record Running (m b v : ℕ) (bytes ram₀ ram : List ℕ) (i : ℕ) : Type 0 where
   pub so_far : ram ≡ put_run m b v (take i bytes) ram₀
   pub long : length ram ≡ length ram₀
-  pub most : i ≤ length bytes
 
 module _ {m b v : ℕ} {bytes ram₀ : List ℕ} where
   pub begun : Running m b v bytes ram₀ ram₀ 0
   unfolding put_run
-  begun = record { so_far = refl; long = refl; most = omega arith }
+  begun = record { so_far = refl; long = refl }
 
   -- a byte more
   pub turn : {ram after : List ℕ} {i : ℕ} → i < length bytes → after ≡ put_bits 8 m b (v + width_of m * i) (get_or bytes i 0) ram
@@ -49,7 +48,7 @@ module _ {m b v : ℕ} {bytes ram₀ : List ℕ} where
       let more : put_run m b v (take (i + 1) bytes) ram₀ ≡ put_bits 8 m b (v + width_of m * i) (get_or bytes i 0) (put_run m b v (take i bytes) ram₀) =
       rw (add-one i, take-suc bytes i 0 l) (run-append m b v (take i bytes) (get_or bytes i 0 ∷ []) ram₀ ∙ rw (length-take-le i bytes (le_of_lt l))) in
       let s : after ≡ put_run m b v (take (i + 1) bytes) ram₀ = e ∙ ap (put_bits 8 m b (v + width_of m * i) (get_or bytes i 0)) r.so_far ∙ sym more in
-      record { so_far = s; long = ap length s ∙ length_run m b v (take (i + 1) bytes) ram₀; most = omega arith }
+      record { so_far = s; long = ap length s ∙ length_run m b v (take (i + 1) bytes) ram₀ }
 
   -- all bytes
   pub done : {ram : List ℕ} {i : ℕ} → length bytes ≤ i → Running m b v bytes ram₀ ram i → ram ≡ put_run m b v bytes ram₀

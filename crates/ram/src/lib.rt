@@ -26,11 +26,9 @@ fn put_bits(ram: &mut [u8], at: usize, m: usize, b: usize, x: u8)
     requires { (0 < m) × (b + m ≤ 4) × (at < 2 ^ 32) }
     ensures { ram.new ≡ put_bits 8 m b at x ram.old }
 {
-    let mut k: usize = 0;
-    while k < 8 {
+    for k in 0..8 {
         let bit = arithmetic::bit_of(x, k);
         put_row(ram, at + k / m, b + k % m, bit);
-        k += 1;
     }
 }
 
@@ -40,9 +38,9 @@ pub fn cut_byte(ram: &mut [u8], at: usize, m: usize, bank: u8, rest: &[u8])
     requires { Cut ram.old at m bank rest.now }
     ensures { ram.new ≡ put_run m (bank_row m bank) at rest.now ram.old }
 {
-    if 0 < rest.len() {
+    if let Some(&x) = rest.first() {
         let b = arithmetic::bank_row(m, bank);
-        put_bits(ram, at, m, b, rest[0]);
+        put_bits(ram, at, m, b, x);
     }
 }
 
@@ -62,13 +60,10 @@ fn static_run(ram: &mut [u8], v: usize, bank: u8, bytes: &[u8])
 {
     let rows = 0x01010101 * (1 + 3 * words::wide(bank));
     let shift = 7 - 2 * words::wide(bank);
-    let mut i: usize = 0;
-    while i < bytes.len() {
-        let x = bytes[i];
+    for (i, &x) in bytes.iter().enumerate() {
         let at = v + 8 * i;
         words::put_four(ram, at, rows, static_columns(x, 0x10204080, shift));
         words::put_four(ram, at + 4, rows, static_columns(x, 0x01020408, shift));
-        i += 1;
     }
 }
 
@@ -78,10 +73,8 @@ fn two_run(ram: &mut [u8], v: usize, bank: u8, bytes: &[u8])
     ensures { ram.new ≡ put_run 2 (2 * bank) v bytes.now ram.old }
 {
     let rows = 0x03030303 * (1 + 3 * words::wide(bank));
-    let mut i: usize = 0;
-    while i < bytes.len() {
-        words::put_four(ram, v + 4 * i, rows, words::spread(bytes[i]));
-        i += 1;
+    for (i, &x) in bytes.iter().enumerate() {
+        words::put_four(ram, v + 4 * i, rows, words::spread(x));
     }
 }
 
@@ -142,14 +135,13 @@ fn three_fours(ram: &mut [u8], v: usize, bytes: &[u8])
     // copied once, and not at each index
     let first = FIRST_BITS;
     let last = LAST_BITS;
-    let mut i: usize = 0;
-    while i < bytes.len() {
+    for four in 0..bytes.len() / 4 {
+        let i = 4 * four;
         let a = three_columns(&first, &last, bytes[i]);
         let b = three_columns(&first, &last, bytes[i + 1]);
         let c = three_columns(&first, &last, bytes[i + 2]);
         let d = three_columns(&first, &last, bytes[i + 3]);
         words::put_twelve(ram, v + 3 * i, a, b, c, d);
-        i += 4;
     }
 }
 
@@ -158,10 +150,8 @@ fn three_bytes(ram: &mut [u8], v: usize, bytes: &[u8])
     requires { 3 * length bytes.now ≤ length ram.old - v }
     ensures { ram.new ≡ put_run 3 0 v bytes.now ram.old }
 {
-    let mut i: usize = 0;
-    while i < bytes.len() {
-        words::three_byte(ram, v + 3 * i, bytes[i]);
-        i += 1;
+    for (i, &x) in bytes.iter().enumerate() {
+        words::three_byte(ram, v + 3 * i, x);
     }
 }
 
@@ -180,10 +170,8 @@ fn four_run(ram: &mut [u8], v: usize, bytes: &[u8])
     requires { (2 * length bytes.now ≤ length ram.old - v) × (over_in 0 ram.old ≡ Ok tt) }
     ensures { ram.new ≡ put_run 4 0 v bytes.now ram.old }
 {
-    let mut i: usize = 0;
-    while i < bytes.len() {
-        words::four_byte(ram, v + 2 * i, bytes[i]);
-        i += 1;
+    for (i, &x) in bytes.iter().enumerate() {
+        words::four_byte(ram, v + 2 * i, x);
     }
 }
 

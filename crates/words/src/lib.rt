@@ -12,9 +12,7 @@ ghost use Rattle.words.specs.Fields.{field, joined, laid, merged, three_rows, Sp
 pub fn reversed(x: u8) -> u8
     ensures { result ≡ field x 0 8 }
 {
-    let pairs = (x & 0x33) * 4 + (x / 4 & 0x33);
-    let nibbles = (pairs & 0x55) * 2 + (pairs / 2 & 0x55);
-    nibbles % 16 * 16 + nibbles / 16
+    x.reverse_bits()
 }
 
 // Makes f the rows of a column from the row worth low up to below the one worth high.
@@ -61,9 +59,7 @@ pub fn four_columns(ram: &[u8], at: usize) -> u32
     requires { at + 4 ≤ length ram.now }
     ensures { result ≡ joined 4 (λ j. get_or ram.now (at + j) 0) }
 {
-    let low = wide(ram[at]) + 256 * wide(ram[at + 1]);
-    let high = wide(ram[at + 2]) + 256 * wide(ram[at + 3]);
-    low + 65536 * high
+    u32::from_le_bytes([ram[at], ram[at + 1], ram[at + 2], ram[at + 3]])
 }
 
 // A word stored as four columns, the lowest first. The four stores become one.
@@ -71,10 +67,7 @@ pub fn store_four(ram: &mut [u8], at: usize, w: u32)
     requires { at + 4 ≤ length ram.old }
     ensures { ram.new ≡ laid 4 w at ram.old }
 {
-    ram[at] = (w % 256) as u8;
-    ram[at + 1] = (w / 256 % 256) as u8;
-    ram[at + 2] = (w / 65536 % 256) as u8;
-    ram[at + 3] = (w / 16777216 % 256) as u8;
+    ram[at..at + 4].copy_from_slice(&w.to_le_bytes());
 }
 
 // Four columns at once: the rows in `rows` become those of t.
@@ -117,11 +110,10 @@ pub fn put_two(ram: &mut [u8], at: usize, rows: u32, t: u32)
     requires { at + 2 ≤ length ram.old }
     ensures { ram.new ≡ merged 2 rows t at ram.old }
 {
-    let old = wide(ram[at]) + 256 * wide(ram[at + 1]);
+    let old = u16::from_le_bytes([ram[at], ram[at + 1]]) as u32;
     let kept = (old | rows) ^ rows;
     let w = kept | (t & rows);
-    ram[at] = (w % 256) as u8;
-    ram[at + 1] = (w / 256 % 256) as u8;
+    ram[at..at + 2].copy_from_slice(&w.to_le_bytes()[..2]);
 }
 
 // A byte's four columns of two rows as a word, in both banks. The product has bit k of the byte at bit k + 10 j, for j from 0 to 3.

@@ -2,7 +2,6 @@
 -- Assumes nothing.
 use borrow.Author.Tests.{eq-eqb, ne_eqb}
 use Rattle.sheet.specs.Registers.{backplanes}
-use borrow.Author.Rules.{rules}
 use Rattle.arithmetic.proofs.backplanes.Goals as goal
 
 pub returns-then-registers-eq0 : goal.returns-then-registers-eq0

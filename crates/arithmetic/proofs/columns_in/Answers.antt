@@ -1,11 +1,9 @@
--- `arithmetic::columns_in` meets its contract for either part.
+-- `arithmetic::columns_in` meets its contract: a part's columns are few.
 -- Assumes nothing.
-use Rattle.laws.proofs.Named.{is-pca85133, is-pcf8532}
-use borrow.Author.Rules.{rules}
+use native.Mathlib.Nat.{mul-le-mul_right}
+use native.Mathlib.Omega.{arith}
+use Rattle.laws.proofs.Named.{columns-small}
 use Rattle.arithmetic.proofs.columns_in.Goals as goal
 
-pub returns-then-part-eq-PCA85133 : goal.returns-then-part-eq-PCA85133
-returns-then-part-eq-PCA85133 c = rw (is-pca85133 _ c.if-part-eq-PCA85133.true)
-
-pub returns-else-part-eq-PCA85133 : goal.returns-else-part-eq-PCA85133
-returns-else-part-eq-PCA85133 c = rw (is-pcf8532 _ c.if-part-eq-PCA85133.false)
+pub overflow_mul-result : goal.overflow_mul-result
+overflow_mul-result c = rw c.columns.ensures (omega (arith, mul-le-mul_right c.args.chips (columns-small c.args.part)))

@@ -5,7 +5,6 @@ use Rattle.sheet.specs.Parts.{part_of}
 use Rattle.sheet.specs.Places.{position}
 use Rattle.laws.proofs.Ranges.{range-of}
 use Rattle.laws.proofs.Named.{ram-small, columns-small}
-use borrow.Author.Rules.{rules}
 use Rattle.arithmetic.proofs.position.Goals as goal
 
 pub overflow_mul-result : goal.overflow_mul-result

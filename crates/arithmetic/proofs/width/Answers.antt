@@ -2,7 +2,6 @@
 -- Assumes nothing.
 use native.Mathlib.Nat.{div-le_self}
 use native.Mathlib.Omega.{arith}
-use borrow.Author.Rules.{rules}
 use Rattle.arithmetic.proofs.width.Goals as goal
 
 pub overflow_add-result : goal.overflow_add-result

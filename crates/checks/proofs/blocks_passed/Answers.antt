@@ -1,8 +1,8 @@
 -- `checks::blocks_passed` meets its contract: what is left from column i on gives the whole answer.
 -- Assumes nothing.
-use mathlib.Core.Path.{◌≡◌, ap, ◌∙◌}
+use mathlib.Core.Path.{◌≡◌, ap, subst, ◌∙◌}
 use mathlib.Core.List.{List, [], ◌∷◌}
-use Prim.Native.Nat.{ℕ, zero, suc, ◌+◌, ◌-◌, ◌≤◌}
+use Prim.Native.Nat.{ℕ, zero, suc, ◌+◌, ◌-◌, ◌*◌, ◌/◌, ◌≤◌}
 use native.Mathlib.Nat.{add-sub_cancel_left}
 use native.Mathlib.Omega.{arith}
 use lib.ListN.{length, length-drop, take, drop}
@@ -23,24 +23,19 @@ block l i le h =
     let e : 32 + first_over (drop 32 (drop i l)) ≡ first_over (drop i l) = passed_over 32 (drop i l) (omega (arith, length-drop i l)) (rw (← add-sub_cancel_left i 32) h) in
     omega (arith, e, ap first_over (drop-drop 32 i l))
 
-pub loop-i-preserved : goal.loop-i-preserved
-loop-i-preserved c = let columns = c.args.columns.now in
-    (block columns c.loop-i.i c.loop-i-test.true (omega (arith, c.highest.ensures, c.if-highest-gt15.false)) ∙ c.loop-i.invariant.0, omega (arith, c.loop-i-test.true, c.loop-i.invariant.1))
+pub loop-block-init : goal.loop-block-init
+loop-block-init c = omega arith
 
-pub loop-i-init : goal.loop-i-init
-loop-i-init c = (omega arith, omega arith)
-
-pub overflow_sub-columns : goal.overflow_sub-columns
-overflow_sub-columns c = omega (arith, c.loop-i.invariant.1)
-
-pub slice_bounds-highest-start : goal.slice_bounds-highest-start
-slice_bounds-highest-start c = omega arith
-
-pub slice_bounds-highest-end : goal.slice_bounds-highest-end
-slice_bounds-highest-end c = omega (arith, c.loop-i.invariant.1, c.loop-i-test.true)
+pub loop-block-preserved : goal.loop-block-preserved
+loop-block-preserved c = let columns = c.args.columns.now in
+    let start = 32 * c.loop-block.block in
+    let next : 32 * (c.loop-block.block + 1) ≡ start + 32 = omega arith in
+    rw next (block columns start (omega (arith, c.loop-block-test.true)) (omega (arith, c.highest.ensures, c.if-highest-gt15.false)) ∙ c.loop-block.invariant)
 
 pub returns-then-highest-gt15 : goal.returns-then-highest-gt15
-returns-then-highest-gt15 c = c.loop-i.invariant
+returns-then-highest-gt15 c = (c.loop-block.invariant, omega (arith, c.loop-block-test.true))
 
 pub returns : goal.returns
-returns c = c.loop-i.invariant
+returns c = let columns = c.args.columns.now in
+    let all : c.loop-block.block ≡ length columns / 32 = omega (arith, c.loop-block-test.false, c.loop-block.auto.block-end) in
+    (subst (λ (k : ℕ). 32 * k + first_over (drop (32 * k) columns) ≡ first_over columns) all c.loop-block.invariant, omega arith)

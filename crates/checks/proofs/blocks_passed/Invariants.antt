@@ -1,11 +1,8 @@
 use mathlib.Core.Path.{◌≡◌}
-use Prim.Native.Nat.{◌+◌, ◌-◌, ◌≤◌}
-use lib.ListN.{length, drop}
+use Prim.Native.Nat.{◌+◌, ◌*◌}
+use lib.ListN.{drop}
 use Rattle.checks.specs.Highest.{first_over}
 use Rattle.checks.proofs.blocks_passed.Given as goal
 
-abbrev pub invariant-loop-i : goal.invariant-loop-i
-invariant-loop-i l = (l.i + first_over (drop l.i l.columns) ≡ first_over l.columns) × (l.i ≤ length l.columns)
-
-abbrev pub decreases-loop-i : goal.decreases-loop-i
-decreases-loop-i l = length l.columns - l.i
+abbrev pub invariant-loop-block : goal.invariant-loop-block
+invariant-loop-block l = 32 * l.block + first_over (drop (32 * l.block) l.columns) ≡ first_over l.columns

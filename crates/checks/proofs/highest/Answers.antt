@@ -17,13 +17,13 @@ done : (l : List ℕ) (i : ℕ) → length l ≤ i → highest_of (drop i l) ≡
 unfolding highest_of
 done l i h = rw (drop_of_length-le l h)
 
-pub loop-i-init : goal.loop-i-init
-loop-i-init c = omega arith
+pub loop-column-init : goal.loop-column-init
+loop-column-init c = omega arith
 
-pub loop-i-preserved : goal.loop-i-preserved
-loop-i-preserved c = let l = c.args.columns.now in
-    omega (arith, turn l c.loop-i.i c.loop-i-test.true, c.higher-found.ensures, c.loop-i.invariant)
+pub loop-column-preserved : goal.loop-column-preserved
+loop-column-preserved c = let l = c.args.columns.now in
+    omega (arith, turn l c.loop-column.column-index c.loop-column-test.true, c.max-found.ensures, c.loop-column.invariant)
 
 pub returns : goal.returns
 returns c = let l = c.args.columns.now in
-    omega (arith, done l c.loop-i.i c.loop-i-test.false, c.loop-i.invariant)
+    omega (arith, done l c.loop-column.column-index c.loop-column-test.false, c.loop-column.invariant)

@@ -4,9 +4,9 @@ use mathlib.Core.Path.{◌≡◌, sym, ap, ap₂, subst, ◌∙◌}
 use mathlib.Core.Bool.{◌&&◌}
 use mathlib.Core.List.{List}
 use mathlib.Core.Logic.{⊎_elim}
-use Prim.Native.Nat.{ℕ, ◌+◌, ◌-◌, ◌^◌, ◌≤◌, ◌<◌}
+use Prim.Native.Nat.{ℕ, ◌+◌, ◌-◌, ◌*◌, ◌%◌, ◌^◌, ◌≤◌, ◌<◌}
 use native.Mathlib.Omega.{arith}
-use lib.Bits.{bit_and, bit_or, and_zero_l, or_lt}
+use lib.Bits.{bit_and, bit_or, and_zero_l}
 use lib.ListN.{length, get_or, get_or-eq_default}
 use borrow.Author.Tests.{eqb-true, eq-eqb}
 use Rattle.lemmas.proofs.Order.{lt_or_le}
@@ -32,39 +32,25 @@ module _ (columns : List ℕ) (bytes : (k : ℕ) → get_or columns k 0 < 256) (
   turned none low = together 64 rows w over fits small (none (λ j h. low j (omega (arith, h))))
       (ap (λ (n : ℕ). bit_and n over) told ∙ low_word (λ k. get_or columns (i + k) 0) (λ k. bytes (i + k)) (λ k h. low (i + k) (omega (arith, h))))
 
-pub loop-i-preserved : goal.loop-i-preserved
-loop-i-preserved c = let columns = c.args.columns.now in
-    let bytes : (k : ℕ) → get_or columns k 0 < 256 = λ i. (c.shared_slice_known-1.given i).fits in
-    let rows = c.loop-i.rows in
+pub loop-word-init : goal.loop-word-init
+loop-word-init c = (λ e j h. absurd (omega (arith, h)), λ low. and_zero_l over)
+
+pub loop-word-preserved : goal.loop-word-preserved
+loop-word-preserved c = let columns = c.args.columns.now in
+    let rows = c.loop-word.rows in
+    let at = 8 * c.loop-word.word in
     let w = c.eight_columns-rows.result in
-    let fits = c.loop-i.invariant.1 in
+    let fits : rows < 2 ^ 64 = c.loop-word.auto.rows-fits.fits in
+    let bytes : (k : ℕ) → get_or columns k 0 < 256 = λ i. (c.type_inv.columns i).fits in
     let told = c.eight_columns-rows.ensures in (
-      turn columns bytes rows c.loop-i.i w fits told c.loop-i.invariant.0,
-      or_lt 64 rows w fits (small columns bytes rows c.loop-i.i w fits told),
-      omega (arith, c.loop-i-test.true, c.loop-i.invariant.2),
-      turned columns bytes rows c.loop-i.i w fits told c.loop-i.invariant.3,
-      omega (arith, c.loop-i.invariant.4),
+      λ none j h. turn columns bytes rows at w fits told c.loop-word.invariant.0 none j (omega (arith, h)),
+      λ low. turned columns bytes rows at w fits told c.loop-word.invariant.1 (λ j h. low j (omega (arith, h))),
     )
 
 pub returns : goal.returns
 returns c = let columns = c.args.columns.now in record {
   nibbles = λ t. let both = both_true _ _ t in
-      let all = eqb-true c.loop-i.i (length columns) both.0 in
-      λ j. ⊎_elim (λ (l : j < length columns). c.loop-i.invariant.0 (eqb-true _ 0 both.1) j (omega (arith, l, all))) (λ (l : length columns ≤ j). rw (get_or-eq_default columns 0 l) (omega arith)) (lt_or_le j (length columns));
-  value = λ eight low. ap₂ ◌&&◌ (eq-eqb c.loop-i.i (length columns) (omega (arith, c.loop-i-test.false, c.loop-i.invariant.2, c.loop-i.invariant.4, eight))) (eq-eqb _ 0 (c.loop-i.invariant.3 (λ j h. low j)));
+      let all : 8 * c.loop-word.word ≡ length columns = omega (arith, eqb-true (length columns % 8) 0 both.0, c.loop-word-test.false, c.loop-word.auto.word-end) in
+      λ j. ⊎_elim (λ (l : j < length columns). c.loop-word.invariant.0 (eqb-true _ 0 both.1) j (omega (arith, l, all))) (λ (l : length columns ≤ j). rw (get_or-eq_default columns 0 l) (omega arith)) (lt_or_le j (length columns));
+  value = λ eight low. ap₂ ◌&&◌ (eq-eqb _ 0 eight) (eq-eqb _ 0 (c.loop-word.invariant.1 (λ j h. low j)));
 }
-
-pub loop-i-init : goal.loop-i-init
-loop-i-init c = (λ e j h. absurd (omega (arith, h)), omega arith, omega arith, λ low. and_zero_l over, omega arith)
-
-pub overflow_sub-n : goal.overflow_sub-n
-overflow_sub-n c = c.loop-i.invariant.2
-
-pub eight_columns-rows-requires : goal.eight_columns-rows-requires
-eight_columns-rows-requires c = omega (arith, c.loop-i-test.true, c.loop-i.invariant.2)
-
-pub overflow_add-i : goal.overflow_add-i
-overflow_add-i c = omega (arith, c.loop-i-test.true, c.loop-i.invariant.2)
-
-pub loop-i-smaller : goal.loop-i-smaller
-loop-i-smaller c = omega (arith, c.loop-i-test.true)

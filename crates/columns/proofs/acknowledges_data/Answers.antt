@@ -33,7 +33,7 @@ returns c = let K = part_of c.args.part in
     let chip = c.args.chip in
     let r = chip.registers in
     ap (λ (a : ℕ). eqb a chip.subaddress)
-    (c.least-a.ensures
+    (c.min-a.ensures
     ∙ ap₂ min c.limit.ensures c.chip_of.ensures
     ∙ ap₂ (λ (v w : ℕ). min K.limit ((v + w - 1) / K.columns)) c.position.ensures (c.width-width.ensures ∙ ap width_of c.backplanes.ensures)
     ∙ ap (λ (k : ℕ). min K.limit (k / K.columns)) (last (position K r) (7 / backplanes r))

@@ -18,7 +18,7 @@ overflow_add-registers-then-registers-columns c = omega (arith, c.requires.1, li
 pub returns-then-registers-columns : goal.returns-then-registers-columns
 unfolding advanced
 returns-then-registers-columns c = rw (eq-eqb _ _ (c.if-registers-columns.true ∙ c.columns.ensures))
-    (λ j. at_place c.args.registers 0 ((c.least.ensures ∙ ap (λ (k : ℕ). min k (c.args.registers.a + 1)) c.limit.ensures) j))
+    (λ j. at_place c.args.registers 0 ((c.min.ensures ∙ ap (λ (k : ℕ). min k (c.args.registers.a + 1)) c.limit.ensures) j))
 
 pub returns-else-registers-columns : goal.returns-else-registers-columns
 unfolding advanced

@@ -20,20 +20,20 @@ use Rattle.columns.proofs.put_columns.Invariants.{Put}
 use Rattle.columns.proofs.put_columns.Goals as goal
 
 -- the registers of a turn are in range, and of the same mode; the columns are as many as before
-range : {K : Part} {subaddress byte width j : ℕ} {r₀ r : Registers} {columns₀ columns : List ℕ} → Put K subaddress byte width r₀ columns₀ columns r j
+range : {K : Part} {subaddress byte j : ℕ} {r₀ r : Registers} {columns₀ columns : List ℕ} → Put K subaddress byte r₀ columns₀ columns r j
     → in_range K r₀ ≡ true → InRange K r
-range {K} {subaddress} {byte} {width} {j} {r₀} h ok = subst (InRange K) (sym h.moved) (on_in K j r₀ (range-of K _ ok))
+range {K} {subaddress} {byte} {j} {r₀} h ok = subst (InRange K) (sym h.moved) (on_in K j r₀ (range-of K _ ok))
 
-planes : {K : Part} {subaddress byte width j : ℕ} {r₀ r : Registers} {columns₀ columns : List ℕ} → Put K subaddress byte width r₀ columns₀ columns r j
+planes : {K : Part} {subaddress byte j : ℕ} {r₀ r : Registers} {columns₀ columns : List ℕ} → Put K subaddress byte r₀ columns₀ columns r j
     → in_range K r₀ ≡ true → backplanes r ≡ backplanes r₀
-planes {K} {subaddress} {byte} {width} {j} {r₀} h ok = ap backplanes h.moved ∙ on-planes K j r₀ (range-of K _ ok)
+planes {K} {subaddress} {byte} {j} {r₀} h ok = ap backplanes h.moved ∙ on-planes K j r₀ (range-of K _ ok)
 
-same : {K : Part} {subaddress byte width j : ℕ} {r₀ r : Registers} {columns₀ columns : List ℕ} → Put K subaddress byte width r₀ columns₀ columns r j
+same : {K : Part} {subaddress byte j : ℕ} {r₀ r : Registers} {columns₀ columns : List ℕ} → Put K subaddress byte r₀ columns₀ columns r j
     → length columns ≡ length columns₀
-same {K} {subaddress} {byte} {width} {j} {r₀} {r} {columns₀} h = ap length h.so_far ∙ length-after K subaddress byte r₀ j columns₀
+same {K} {subaddress} {byte} {j} {r₀} {r} {columns₀} h = ap length h.so_far ∙ length-after K subaddress byte r₀ j columns₀
 
 -- so P is one of the columns
-there : {K : Part} {subaddress byte width j : ℕ} {r₀ r : Registers} {columns₀ columns : List ℕ} → Put K subaddress byte width r₀ columns₀ columns r j
+there : {K : Part} {subaddress byte j : ℕ} {r₀ r : Registers} {columns₀ columns : List ℕ} → Put K subaddress byte r₀ columns₀ columns r j
     → in_range K r₀ ≡ true → K.columns ≤ length columns₀ → r.p < length columns
 there {K} h ok fits = omega (arith, (range h ok).p-in, same h)
 
@@ -42,7 +42,7 @@ width-width-requires c = rw c.backplanes.ensures (planes_pos _)
 
 pub loop-j-init : goal.loop-j-init
 unfolding columns_after advanced_by
-loop-j-init c = record { so_far = refl; moved = refl; most = omega arith }
+loop-j-init c = record { so_far = refl; moved = refl }
 
 pub bounds-columns-p : goal.bounds-columns-p
 bounds-columns-p c = there c.loop-j.invariant c.requires.1 c.requires.0
@@ -56,8 +56,8 @@ stored-requires c = let r = c.args.start in
 pub bounds-columns-p-in-loop-j : goal.bounds-columns-p-in-loop-j
 bounds-columns-p-in-loop-j c = there c.loop-j.invariant c.requires.1 c.requires.0
 
-pub advance-next-requires : goal.advance-next-requires
-advance-next-requires c = let h = range c.loop-j.invariant c.requires.1 in (h.p-in, h.a_in)
+pub advance-registers-requires : goal.advance-registers-requires
+advance-registers-requires c = let h = range c.loop-j.invariant c.requires.1 in (h.p-in, h.a_in)
 
 pub loop-j-preserved : goal.loop-j-preserved
 unfolding columns_after advanced_by
@@ -66,14 +66,5 @@ loop-j-preserved c = let a = c.args in
     (record {
       so_far = ap (λ (q : ℕ). set c.loop-j.columns c.loop-j.registers.p q) c.stored.ensures
           ∙ ap₂ (λ (k : List ℕ) (r : Registers). set k r.p (stored_in r a.subaddress a.byte c.loop-j.j (get_or k r.p 0))) c.loop-j.invariant.so_far c.loop-j.invariant.moved;
-      moved = c.advance-next.ensures ∙ ap (advanced (part_of a.part)) c.loop-j.invariant.moved;
-      most = c.loop-j-test.true;
+      moved = c.advance-registers.ensures ∙ ap (advanced (part_of a.part)) c.loop-j.invariant.moved;
     })
-
-pub shape_of-columns : goal.shape_of-columns
-shape_of-columns c = same c.loop-j.invariant
-
-pub returns : goal.returns
-returns c = let a = c.args in
-    let e : c.loop-j.j ≡ c.width-width.result = omega (arith, c.loop-j.invariant.most) in
-    c.loop-j.invariant.so_far ∙ ap (λ (n : ℕ). columns_after (part_of a.part) a.subaddress a.byte a.start n a.columns.now) (e ∙ c.width-width.ensures ∙ ap width_of c.backplanes.ensures)

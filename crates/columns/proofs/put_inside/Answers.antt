@@ -3,16 +3,15 @@
 use mathlib.Core.Path.{◌≡◌, refl, ap, ◌∙◌}
 use mathlib.Core.List.{List}
 use Prim.Native.Nat.{ℕ, ◌+◌, ◌-◌, ◌*◌, ◌/◌, ◌%◌, ◌^◌, ◌≤◌, ◌<◌, min}
-use native.Mathlib.Nat.{mul-zero, mul-suc, min-le_left, min-eq_right, min-eq_left, le_of_lt}
+use native.Mathlib.Nat.{mul-zero, mul-suc, min-le_left, min-eq_right, le_of_lt}
 use native.Mathlib.Numerals.{add-one}
 use native.Mathlib.Omega.{arith}
 use lib.ListN.{length, get_or, set}
 use Rattle.sheet.specs.Data.{changed, put_bits, width_of}
-use Rattle.laws.proofs.Counts.{width_full, width-less}
+use Rattle.laws.proofs.Counts.{width-less}
 use Rattle.laws.proofs.Runs.{length-bits}
 use Rattle.words.specs.Fields.{with_rows, field}
 use Rattle.words.proofs.Bytes.{later}
-use borrow.Author.Rules.{rules}
 use Rattle.columns.proofs.put_inside.Invariants.{Put}
 use Rattle.columns.proofs.put_inside.Goals as goal
 
@@ -28,47 +27,20 @@ more m b x v y j ram before after told small eb ea =
     later m b x v y ram told j h (8 - m * j - h) before after (min-le_left m (8 - m * j)) all (eb ∙ ap (λ (n : ℕ). put_bits n m b v x ram) (min-eq_right (le_of_lt small))) ea
     ∙ ap (λ (n : ℕ). put_bits n m b v x ram) next
 
-same : {m b byte at width j : ℕ} {columns₀ columns : List ℕ} → Put m b byte at width columns₀ columns j → length columns ≡ length columns₀
-same {m} {b} {byte} {at} {width} {j} {columns₀} h = ap length h.so_far ∙ length-bits (min 8 (m * j)) m b at byte columns₀
+same : {m b byte at j : ℕ} {columns₀ columns : List ℕ} → Put m b byte at columns₀ columns j → length columns ≡ length columns₀
+same {m} {b} {byte} {at} {j} {columns₀} h = ap length h.so_far ∙ length-bits (min 8 (m * j)) m b at byte columns₀
 
 -- a turn's column is there, and the byte has a bit for it
-there : {m b byte at width j : ℕ} {columns₀ columns : List ℕ} → Put m b byte at width columns₀ columns j
+there : {m b byte at width j : ℕ} {columns₀ columns : List ℕ} → Put m b byte at columns₀ columns j
     → 0 < m → at + width_of m ≤ length columns₀ → width ≡ width_of m → j < width → (at + j < length columns) × (m * j < 8)
 there {m} {b} {byte} {at} {width} {j} h some fits w l = (omega (arith, same h), width-less m j some (omega arith))
 
 pub loop-j-init : goal.loop-j-init
 unfolding put_bits
-loop-j-init c = record { so_far = rw (mul-zero c.args.m) refl; most = omega arith }
-
-pub overflow_mul-m : goal.overflow_mul-m
-overflow_mul-m c = omega (arith, (there c.loop-j.invariant c.requires.0 c.requires.2 c.width-width.ensures c.loop-j-test.true).1)
-
-pub overflow_add-at : goal.overflow_add-at
-overflow_add-at c = let h = (there c.loop-j.invariant c.requires.0 c.requires.2 c.width-width.ensures c.loop-j-test.true).0 in let e = same c.loop-j.invariant in search rules
-
-pub bounds-columns-at : goal.bounds-columns-at
-bounds-columns-at c = (there c.loop-j.invariant c.requires.0 c.requires.2 c.width-width.ensures c.loop-j-test.true).0
-
-pub put_field-requires : goal.put_field-requires
-put_field-requires c = (c.requires.1, (there c.loop-j.invariant c.requires.0 c.requires.2 c.width-width.ensures c.loop-j-test.true).1)
-
-pub overflow_add-columns : goal.overflow_add-columns
-overflow_add-columns c = let h = (there c.loop-j.invariant c.requires.0 c.requires.2 c.width-width.ensures c.loop-j-test.true).0 in let e = same c.loop-j.invariant in search rules
-
-pub bounds-columns-at-in-loop-j : goal.bounds-columns-at-in-loop-j
-bounds-columns-at-in-loop-j c = (there c.loop-j.invariant c.requires.0 c.requires.2 c.width-width.ensures c.loop-j-test.true).0
+loop-j-init c = record { so_far = rw (mul-zero c.args.m) refl }
 
 pub loop-j-preserved : goal.loop-j-preserved
 loop-j-preserved c = let a = c.args in
     record {
       so_far = more a.m a.b a.byte a.at c.reversed-bits.result c.loop-j.j a.columns.now c.loop-j.columns _ c.reversed-bits.ensures (there c.loop-j.invariant c.requires.0 c.requires.2 c.width-width.ensures c.loop-j-test.true).1 c.loop-j.invariant.so_far (ap (λ (q : ℕ). set c.loop-j.columns (a.at + c.loop-j.j) q) c.put_field.ensures);
-      most = omega (arith, c.loop-j-test.true);
     }
-
-pub shape_of-columns : goal.shape_of-columns
-shape_of-columns c = same c.loop-j.invariant
-
-pub returns : goal.returns
-returns c = let a = c.args in
-    let e : c.loop-j.j ≡ width_of a.m = omega (arith, c.loop-j.invariant.most, c.width-width.ensures, c.loop-j-test.false) in
-    c.loop-j.invariant.so_far ∙ ap (λ (n : ℕ). put_bits n a.m a.b a.at a.byte a.columns.now) (ap (λ (j : ℕ). min 8 (a.m * j)) e ∙ min-eq_left (width_full a.m c.requires.0))

@@ -1,16 +1,12 @@
 use mathlib.Core.Path.{◌≡◌}
 use mathlib.Core.List.{List}
-use Prim.Native.Nat.{ℕ, ◌-◌, ◌*◌, ◌≤◌, min}
+use Prim.Native.Nat.{ℕ, ◌*◌, min}
 use Rattle.sheet.specs.Data.{put_bits}
 use Rattle.columns.proofs.put_inside.Given as goal
 
 -- the first j columns are put
-pub record Put (m b byte at width : ℕ) (columns₀ columns : List ℕ) (j : ℕ) : Type 0 where
+pub record Put (m b byte at : ℕ) (columns₀ columns : List ℕ) (j : ℕ) : Type 0 where
   pub so_far : columns ≡ put_bits (min 8 (m * j)) m b at byte columns₀
-  pub most : j ≤ width
 
 abbrev pub invariant-loop-j : goal.invariant-loop-j
-invariant-loop-j l = Put l.m l.b l.byte l.at l.width l.initial.columns l.columns l.j
-
-abbrev pub decreases-loop-j : goal.decreases-loop-j
-decreases-loop-j l = l.width - l.j
+invariant-loop-j l = Put l.m l.b l.byte l.at l.initial.columns l.columns l.j

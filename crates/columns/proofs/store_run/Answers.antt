@@ -1,6 +1,6 @@
 -- store_run: what is left of the bytes gives the whole answer.
 -- Assumes nothing.
-use mathlib.Core.Path.{◌≡◌, refl, sym, ap, ap₂, ◌∙◌}
+use mathlib.Core.Path.{◌≡◌, sym, ap, ap₂, ◌∙◌}
 use mathlib.Core.List.{List}
 use Prim.Native.Nat.{ℕ, ◌+◌, ◌≤◌, ◌<◌}
 use native.Mathlib.Nat.{mul-one}
@@ -15,7 +15,6 @@ use Rattle.sheet.specs.Places.{advanced_by}
 use Rattle.sheet.specs.Data.{width_of}
 use Rattle.laws.proofs.Ranges.{range-of, in-range}
 use Rattle.laws.proofs.Named.{columns-small}
-use borrow.Author.Rules.{rules}
 use Rattle.columns.specs.Stored.{ran_over, columns_after}
 use Rattle.columns.proofs.Apart.{with, byte-apart, length-after, on_in}
 use Rattle.columns.proofs.store_run.Invariants.{Stored}
@@ -35,7 +34,6 @@ more K chip bytes columns r i after next s l ec er =
           ∙ s.left;
       right = ap (in_range K) er ∙ in-range K _ (on_in K (width_of (backplanes r)) r (range-of K r s.right));
       same = ap length ec ∙ length-after K chip.subaddress x r (width_of (backplanes r)) columns ∙ s.same;
-      most = omega arith;
     }
 
 -- at the end none is left
@@ -43,25 +41,16 @@ done : (K : Part) (chip : Chip) (bytes : List ℕ) (columns : List ℕ) (r : Reg
 unfolding ran_over
 done K chip bytes columns r i s l = sym (ap (λ (xs : List ℕ). ran_over K xs (with chip columns r)) (drop_of_length-le bytes l)) ∙ s.left
 
-pub loop-i-init : goal.loop-i-init
-loop-i-init c = record { left = refl; right = c.requires; same = search rules; most = omega arith }
-
-pub slice_bounds-put_byte-end : goal.slice_bounds-put_byte-end
-slice_bounds-put_byte-end c = sym c.loop-i.invariant.same
-
 pub put_byte-requires : goal.put_byte-requires
-put_byte-requires c = (omega (arith, c.loop-i.invariant.same, columns-small c.args.part), c.loop-i.invariant.right)
+put_byte-requires c = (omega (arith, c.loop-byte.invariant.same, columns-small c.args.part), c.loop-byte.invariant.right)
 
-pub pass-next-requires : goal.pass-next-requires
-pass-next-requires c = (c.loop-i.invariant.right, omega arith)
-
-pub loop-i-preserved : goal.loop-i-preserved
-loop-i-preserved c = let a = c.args in
+pub loop-byte-preserved : goal.loop-byte-preserved
+loop-byte-preserved c = let a = c.args in
     let K = part_of a.part in
-    let r = c.loop-i.registers in
-    more K a.chip a.bytes.now c.loop-i.columns r c.loop-i.i _ _ c.loop-i.invariant c.loop-i-test.true c.put_byte.ensures
-    (c.pass-next.ensures ∙ ap (λ (n : ℕ). advanced_by K n r) (mul-one (width_of (backplanes r))))
+    let r = c.loop-byte.registers in
+    more K a.chip a.bytes.now c.loop-byte.columns r c.loop-byte.byte-index _ _ c.loop-byte.invariant c.loop-byte-test.true c.put_byte.ensures
+    (c.pass-registers.ensures ∙ ap (λ (n : ℕ). advanced_by K n r) (mul-one (width_of (backplanes r))))
 
 pub returns : goal.returns
 returns c = let a = c.args in
-    done (part_of a.part) a.chip a.bytes.now c.loop-i.columns c.loop-i.registers c.loop-i.i c.loop-i.invariant (omega (arith, c.loop-i-test.false))
+    done (part_of a.part) a.chip a.bytes.now c.loop-byte.columns c.loop-byte.registers c.loop-byte.byte-index c.loop-byte.invariant (omega (arith, c.loop-byte-test.false))

@@ -1,7 +1,7 @@
 use mathlib.Core.Path.{◌≡◌}
 use mathlib.Core.Bool.{true}
 use mathlib.Core.List.{List}
-use Prim.Native.Nat.{ℕ, ◌-◌, ◌≤◌}
+use Prim.Native.Nat.{ℕ}
 use lib.ListN.{length, drop}
 use Rattle.sheet.specs.declared.Chip.{Chip}
 use Rattle.sheet.specs.declared.Registers.{Registers}
@@ -16,10 +16,6 @@ pub record Stored (K : Part) (chip : Chip) (bytes : List ℕ) (columns : List �
   pub left : ran_over K (drop i bytes) (with chip columns r) ≡ ran_over K bytes chip
   pub right : in_range K r ≡ true
   pub same : length columns ≡ 160
-  pub most : i ≤ length bytes
 
-abbrev pub invariant-loop-i : goal.invariant-loop-i
-invariant-loop-i l = Stored (part_of l.part) l.chip l.bytes l.columns l.registers l.i
-
-abbrev pub decreases-loop-i : goal.decreases-loop-i
-decreases-loop-i l = length l.bytes - l.i
+abbrev pub invariant-loop-byte : goal.invariant-loop-byte
+invariant-loop-byte l = Stored (part_of l.part) l.chip l.bytes l.columns l.registers l.byte-index

@@ -1,12 +1,10 @@
--- `gather::put_word` meets its contract: four bytes, set whole.
+-- `gather::put_word` meets its contract: the four bytes of the number.
 -- Assumes nothing.
-use mathlib.Core.Path.{◌∙◌}
-use mathlib.Core.List.{[], ◌∷◌}
-use Rattle.lemmas.proofs.Lists.{filled}
-use Rattle.words.specs.Fields.{column_of, laid}
+use mathlib.Core.Path.{refl, ◌∙◌}
+use native.Mathlib.Nat.{div-one}
+use Rattle.words.specs.Fields.{column_of}
 use Rattle.gather.proofs.put_word.Goals as goal
 
 pub returns : goal.returns
-unfolding laid
-returns c = let w = c.args.word in
-    c.store_four.ensures ∙ filled (column_of w 0 ∷ column_of w 1 ∷ column_of w 2 ∷ column_of w 3 ∷ []) c.args.out.now c.requires
+unfolding column_of
+returns c = c.copy_from_slice.ensures.after ∙ c.to_le_bytes.ensures ∙ rw (div-one c.args.word) refl

@@ -1,11 +1,6 @@
-use mathlib.Core.Path.{◌≡◌}
-use Prim.Native.Nat.{◌-◌, ◌%◌}
-use lib.ListN.{length}
+use Prim.Native.Nat.{◌*◌}
 use Rattle.gather.proofs.Gathering.{Gathering}
 use Rattle.gather.proofs.word_data.Given as goal
 
-abbrev pub invariant-loop-j : goal.invariant-loop-j
-invariant-loop-j l = (l.j % 4 ≡ 0) × Gathering 3 0 l.columns l.initial.out l.out l.j
-
-abbrev pub decreases-loop-j : goal.decreases-loop-j
-decreases-loop-j l = length l.initial.out - l.j
+abbrev pub invariant-loop-four : goal.invariant-loop-four
+invariant-loop-four l = Gathering 3 0 l.columns l.initial.out l.out (4 * l.four)

@@ -4,7 +4,7 @@ use mathlib.Core.Path.{◌≡◌, sym, ap, ap₂, ◌∙◌, subst}
 use mathlib.Core.Logic.{◌≢◌}
 use mathlib.Core.List.{List, ◌∷◌}
 use Prim.Native.Nat.{ℕ, suc, ◌+◌, ◌-◌, ◌*◌, ◌/◌, ◌%◌, ◌^◌, ◌≤◌, ◌<◌}
-use native.Mathlib.Nat.{div-add-mod', mod-lt, mul-zero}
+use native.Mathlib.Nat.{div-add-mod', mod-lt, mul-zero, mul-one}
 use native.Mathlib.Omega.{arith}
 use lib.ListN.{length, get_or}
 use lib.Pow.{shr_lt, shr_le}
@@ -46,7 +46,12 @@ pub shifted_run-requires : goal.shifted_run-requires
 shifted_run-requires c = let h = c.requires.0 in (
   record { some = h.some; four = h.four; two = h.two; fit = omega (arith, h.fit, column-before c.args.v c.requires.2); nibbles = h.nibbles },
   c.requires.1,
+  omega arith,
 )
+
+-- by one column, the bits of the mode
+by-one : (m b at p : ℕ) (bytes ram after : List ℕ) → after ≡ put_run m b (2 * at) (stream (m * 1) p bytes) ram → after ≡ put_run m b (2 * at) (stream m p bytes) ram
+by-one m b at p bytes ram after e = e ∙ ap (λ (s : ℕ). put_run m b (2 * at) (stream s p bytes) ram) (mul-one m)
 
 -- the stream leaves the RAM as long as it was
 long : (m b v : ℕ) (xs ram after : List ℕ) → unpacked after ≡ put_run m b v xs (unpacked ram) → length after ≡ length ram
@@ -59,7 +64,7 @@ put_columns-requires c = let m = c.args.m in
     let e : 4 * width_of m ≡ 4 + down = omega (arith, c.width-w.ensures) in
     let rows = c.rows_of.ensures.small in
     let columns = c.columns_of-t.ensures.small in (
-      subst (λ (n : ℕ). c.args.v - 1 + c.width-w.result * length c.args.bytes.now + 1 ≤ 2 * n) (sym (long m (bank_row m c.args.bank) (2 * (c.args.v / 2)) (stream m c.ending_in-before.result c.args.bytes.now) c.args.ram.now c.shifted_run.new.ram c.shifted_run.ensures)) (ends c.args.v c.args.m (length c.args.bytes.now) c.args.ram.now c.width-w.ensures c.requires.0.fit c.requires.3 c.requires.2),
+      subst (λ (n : ℕ). c.args.v - 1 + c.width-w.result * length c.args.bytes.now + 1 ≤ 2 * n) (sym (long m (bank_row m c.args.bank) (2 * (c.args.v / 2)) (stream m c.ending_in-before.result c.args.bytes.now) c.args.ram.now c.shifted_run.new.ram (by-one _ _ _ _ _ _ _ c.shifted_run.ensures))) (ends c.args.v c.args.m (length c.args.bytes.now) c.args.ram.now c.width-w.ensures c.requires.0.fit c.requires.3 c.requires.2),
       omega arith,
       shr_lt 4 down (subst (λ (n : ℕ). c.rows_of.result < 2 ^ n) e rows),
       omega (arith, shr_le c.columns_of-t.result down, rows_lt (width_of m) c.columns_of-t.result (few m) columns),
@@ -85,7 +90,7 @@ returns c = let a = c.args in
     changed-alike (ending m b p) (λ i. i) (2 * at) ram (ap (ending m b p) (even-column at a.ram.now) ∙ c.ending_in-before.ensures ∙ sym (even-column at a.ram.now)) ∙ unchanged (2 * at) ram in
     c.put_columns.ensures
     ∙ ap (λ (d : ℕ). placed 1 (c.rows_of.result / 2 ^ (4 * d)) (c.columns_of-t.result / 2 ^ (4 * d)) (a.v - 1 + c.width-w.result * n) (unpacked c.shifted_run.new.ram)) {x = c.width-w.result - 1} {y = 7 / m} (omega (arith, c.width-w.ensures))
-    ∙ ap₂ (λ (i : ℕ) (l : List ℕ). placed 1 (c.rows_of.result / 2 ^ (4 * (7 / m))) (c.columns_of-t.result / 2 ^ (4 * (7 / m))) i l) column c.shifted_run.ensures
+    ∙ ap₂ (λ (i : ℕ) (l : List ℕ). placed 1 (c.rows_of.result / 2 ^ (4 * (7 / m))) (c.columns_of-t.result / 2 ^ (4 * (7 / m))) i l) column (by-one _ _ _ _ _ _ _ c.shifted_run.ensures)
     ∙ last-put m a.bank (get_or bytes (n - 1) 0) (2 * at + width_of m * n) c.rows_of.result c.columns_of-t.result after h.four h.two whole
     (run-nibbles m b (2 * at) (stream m p bytes) ram h.some rows (nibbles-of 0 ram h.nibbles)) c.rows_of.ensures c.columns_of-t.ensures
     ∙ ap (λ (x : ℕ). changed (ending m b x) (2 * at + width_of m * n) after) last

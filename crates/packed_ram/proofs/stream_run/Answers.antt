@@ -36,9 +36,6 @@ stream_byte-requires c = (c.requires.0.some, c.requires.0.four, c.requires.1, c.
 pub loop-i-preserved : goal.loop-i-preserved
 loop-i-preserved c = packed-turn (c.width-each.result / 2) c.args.at c.loop-i.ram _ (twice c.args.m c.width-each.ensures c.requires.0.some c.requires.0.four c.requires.1) c.loop-i-test.true c.earlier_byte.ensures c.stream_byte.ensures c.loop-i.invariant
 
-pub width-each-requires : goal.width-each-requires
-width-each-requires c = c.requires.0.some
-
 pub loop-i-init : goal.loop-i-init
 loop-i-init c = stream-begun
 
@@ -47,9 +44,6 @@ overflow_mul-each c = omega (arith, there c.args.at c.args.m c.loop-i.i c.width-
 
 pub overflow_add-at : goal.overflow_add-at
 overflow_add-at c = omega (arith, there c.args.at c.args.m c.loop-i.i c.width-each.result (length c.args.bytes.now) c.args.ram.now c.loop-i.ram (twice c.args.m c.width-each.ensures c.requires.0.some c.requires.0.four c.requires.1) c.requires.0.fit c.loop-i-test.true (as_long c.args.ram.now c.loop-i.ram c.loop-i.invariant.run), as_long c.args.ram.now c.loop-i.ram c.loop-i.invariant.run)
-
-pub shape_of-ram : goal.shape_of-ram
-shape_of-ram c = as_long c.args.ram.now c.loop-i.ram c.loop-i.invariant.run
 
 pub returns : goal.returns
 returns c = stream-done c.loop-i-test.false c.loop-i.invariant

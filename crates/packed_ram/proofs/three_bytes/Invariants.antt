@@ -1,11 +1,6 @@
-use Prim.Native.Nat.{◌-◌}
-use lib.ListN.{length}
 use Rattle.packed_sheet.specs.Packed.{unpacked}
 use Rattle.ram.proofs.Runs.{Running}
 use Rattle.packed_ram.proofs.three_bytes.Given as goal
 
 abbrev pub invariant-loop-i : goal.invariant-loop-i
 invariant-loop-i l = Running 3 0 l.v l.bytes (unpacked l.initial.ram) (unpacked l.ram) l.i
-
-abbrev pub decreases-loop-i : goal.decreases-loop-i
-decreases-loop-i l = length l.bytes - l.i

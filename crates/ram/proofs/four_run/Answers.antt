@@ -2,7 +2,7 @@
 -- Assumes nothing.
 use native.Mathlib.Omega.{arith}
 use Rattle.laws.proofs.Nibbles.{check-nibbles}
-use Rattle.ram.proofs.Runs.{begun, turn, done, small}
+use Rattle.ram.proofs.Runs.{begun, turn, small}
 use Rattle.ram.proofs.four_run.Goals as goal
 
 pub four_byte-requires : goal.four_byte-requires
@@ -16,9 +16,3 @@ loop-i-init c = begun
 
 pub loop-i-preserved : goal.loop-i-preserved
 loop-i-preserved c = turn c.loop-i-test.true c.four_byte.ensures c.loop-i.invariant
-
-pub shape_of-ram : goal.shape_of-ram
-shape_of-ram c = c.loop-i.invariant.long
-
-pub returns : goal.returns
-returns c = done c.loop-i-test.false c.loop-i.invariant

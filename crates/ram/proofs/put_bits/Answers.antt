@@ -3,9 +3,7 @@
 use mathlib.Core.Path.{◌≡◌, refl, ap, ◌∙◌}
 use mathlib.Core.List.{List}
 use Prim.Native.Nat.{ℕ, ◌+◌, ◌/◌, ◌%◌, ◌<◌}
-use native.Mathlib.Nat.{mod-lt, div-le_self}
 use native.Mathlib.Numerals.{add-one}
-use native.Mathlib.Omega.{arith}
 use lib.ListN.{length}
 use Rattle.sheet.specs.Data.{changed, with_row, bit_of, put_bits}
 use Rattle.ram.proofs.put_bits.Invariants.{Putting}
@@ -21,30 +19,13 @@ turn ram₀ at m b x ram after k bit l eb e long r = record {
       (e ∙ ap (λ (n : ℕ). changed (with_row (b + k % m) n) (at + k / m) ram) eb
       ∙ ap (changed (with_row (b + k % m) (bit_of x k)) (at + k / m)) r.so_far);
   long = long ∙ r.long;
-  most = omega arith;
 }
 
 pub loop-k-init : goal.loop-k-init
 unfolding put_bits
-loop-k-init c = record { so_far = refl; long = refl; most = omega arith }
-
-pub overflow_add-at : goal.overflow_add-at
-overflow_add-at c = omega (arith, div-le_self c.loop-k.k c.args.m)
-
-pub overflow_add-b : goal.overflow_add-b
-overflow_add-b c = omega (arith, mod-lt c.loop-k.k c.requires.0)
-
-pub put_row-requires : goal.put_row-requires
-put_row-requires c = (omega (arith, mod-lt c.loop-k.k c.requires.0), omega arith)
+loop-k-init c = record { so_far = refl; long = refl }
 
 pub loop-k-preserved : goal.loop-k-preserved
 loop-k-preserved c = let a = c.args in
     turn a.ram.now a.at a.m a.b a.x c.loop-k.ram c.put_row.new.ram c.loop-k.k c.bit_of-bit.result
     c.loop-k-test.true c.bit_of-bit.ensures c.put_row.ensures c.put_row.auto.ram c.loop-k.invariant
-
-pub shape_of-ram : goal.shape_of-ram
-shape_of-ram c = c.loop-k.invariant.long
-
-pub returns : goal.returns
-returns c = let a = c.args in
-    c.loop-k.invariant.so_far ∙ ap (λ (k : ℕ). put_bits k a.m a.b a.at a.x a.ram.now) (omega (arith, c.loop-k.invariant.most, c.loop-k-test.false))

@@ -11,7 +11,7 @@ use Rattle.lemmas.proofs.Tests.{all, all-at}
 use Rattle.words.specs.Fields.{with_rows, field, column_of, mixed, merged, InBank}
 use Rattle.words.proofs.Words.{first-four, four-columns}
 use Rattle.ram.specs.Tables.{static_columns}
-use Rattle.ram.proofs.Runs.{begun, turn, done, small}
+use Rattle.ram.proofs.Runs.{begun, turn, small}
 use Rattle.ram.proofs.static_run.Goals as goal
 
 -- four columns of a byte from its column k on, in a bank, as a test that computes
@@ -52,9 +52,3 @@ loop-i-preserved c = let a = c.args in
 
 pub loop-i-init : goal.loop-i-init
 loop-i-init c = begun
-
-pub shape_of-ram : goal.shape_of-ram
-shape_of-ram c = c.loop-i.invariant.long
-
-pub returns : goal.returns
-returns c = done c.loop-i-test.false c.loop-i.invariant

@@ -1,11 +1,6 @@
-use mathlib.Core.Path.{◌≡◌}
-use Prim.Native.Nat.{◌-◌, ◌%◌}
-use lib.ListN.{length}
+use Prim.Native.Nat.{◌*◌}
 use Rattle.ram.proofs.Runs.{Running}
 use Rattle.ram.proofs.three_fours.Given as goal
 
-abbrev pub invariant-loop-i : goal.invariant-loop-i
-invariant-loop-i l = Running 3 0 l.v l.bytes l.initial.ram l.ram l.i × (l.i % 4 ≡ 0)
-
-abbrev pub decreases-loop-i : goal.decreases-loop-i
-decreases-loop-i l = length l.bytes - l.i
+abbrev pub invariant-loop-four : goal.invariant-loop-four
+invariant-loop-four l = Running 3 0 l.v l.bytes l.initial.ram l.ram (4 * l.four)

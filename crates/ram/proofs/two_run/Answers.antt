@@ -6,7 +6,7 @@ use native.Mathlib.Omega.{arith}
 use lib.ListN.{get_or}
 use Rattle.words.specs.Fields.{with_rows, column_of, mixed, merged}
 use Rattle.words.proofs.Words.{first-four, in_bank}
-use Rattle.ram.proofs.Runs.{begun, turn, done, small}
+use Rattle.ram.proofs.Runs.{begun, turn, small}
 use Rattle.ram.proofs.two_run.Goals as goal
 
 pub loop-i-preserved : goal.loop-i-preserved
@@ -25,9 +25,3 @@ loop-i-preserved c = let a = c.args in
 
 pub loop-i-init : goal.loop-i-init
 loop-i-init c = begun
-
-pub shape_of-ram : goal.shape_of-ram
-shape_of-ram c = c.loop-i.invariant.long
-
-pub returns : goal.returns
-returns c = done c.loop-i-test.false c.loop-i.invariant

@@ -1,10 +1,6 @@
-use Prim.Native.Nat.{◌-◌, ◌*◌}
-use lib.ListN.{length}
+use Prim.Native.Nat.{◌*◌}
 use Rattle.ram.proofs.Runs.{Running}
 use Rattle.ram.proofs.two_run.Given as goal
 
 abbrev pub invariant-loop-i : goal.invariant-loop-i
 invariant-loop-i l = Running 2 (2 * l.bank) l.v l.bytes l.initial.ram l.ram l.i
-
-abbrev pub decreases-loop-i : goal.decreases-loop-i
-decreases-loop-i l = length l.bytes - l.i

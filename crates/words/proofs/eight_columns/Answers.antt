@@ -7,7 +7,6 @@ use native.Mathlib.Nat.{add_assoc}
 use lib.ListN.{get_or}
 use Rattle.words.specs.Fields.{joined}
 use Rattle.words.proofs.Words.{joined-eight}
-use borrow.Author.Rules.{rules}
 use Rattle.words.proofs.eight_columns.Goals as goal
 
 both : (ram : List ℕ) (at a b : ℕ) → a ≡ joined 4 (λ j. get_or ram (at + j) 0) → b ≡ joined 4 (λ j. get_or ram (at + 4 + j) 0) → a + 4294967296 * b ≡ joined 8 (λ j. get_or ram (at + j) 0)

@@ -4,7 +4,6 @@ use native.Mathlib.Omega.{arith}
 use lib.ListN.{length-set}
 use Rattle.laws.proofs.Nibbles.{nibbles-of}
 use Rattle.words.proofs.Bytes.{four-put}
-use borrow.Author.Rules.{rules}
 use Rattle.words.proofs.four_byte.Goals as goal
 
 pub bounds-ram-at-2 : goal.bounds-ram-at-2

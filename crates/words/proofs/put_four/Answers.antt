@@ -4,7 +4,6 @@ use mathlib.Core.Path.{ap, ◌∙◌}
 use Prim.Native.Nat.{ℕ}
 use Rattle.words.specs.Fields.{laid, mixed}
 use Rattle.words.proofs.Words.{word-merged}
-use borrow.Author.Rules.{rules}
 use Rattle.words.proofs.put_four.Goals as goal
 
 pub returns : goal.returns

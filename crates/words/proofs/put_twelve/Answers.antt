@@ -5,7 +5,6 @@ use mathlib.Core.List.{List}
 use Prim.Native.Nat.{ℕ, ◌+◌, ◌*◌, ◌/◌, ◌%◌}
 use Rattle.words.specs.Fields.{merged}
 use Rattle.words.proofs.Words.{twelve}
-use borrow.Author.Rules.{rules}
 use Rattle.words.proofs.put_twelve.Goals as goal
 
 pub returns : goal.returns

@@ -8,7 +8,6 @@ use lib.Dec.{T, ltb, ltb→lt}
 use Rattle.lemmas.proofs.Tests.{all-at, and_left, and_right}
 use Rattle.words.specs.Fields.{field, column_of, Spread}
 use Rattle.words.proofs.Words.{is_spread, tested}
-use borrow.Author.Rules.{rules}
 use Rattle.words.proofs.spread.Goals as goal
 
 unfoldable word : ℕ → ℕ

@@ -4,7 +4,6 @@ use mathlib.Core.Path.{refl}
 use native.Mathlib.Omega.{arith}
 use Rattle.words.specs.Fields.{with_rows}
 use Rattle.words.proofs.Bytes.{first, later}
-use borrow.Author.Rules.{rules}
 use Rattle.words.proofs.three_byte.Goals as goal
 
 pub returns : goal.returns

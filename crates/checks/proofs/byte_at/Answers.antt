@@ -1,8 +1,0 @@
--- `checks::byte_at` meets its contract: past its end a list gives the 0.
--- Assumes nothing.
-use mathlib.Core.Path.{sym}
-use lib.ListN.{get_or-eq_default}
-use Rattle.checks.proofs.byte_at.Goals as goal
-
-pub returns-else-i-bytes : goal.returns-else-i-bytes
-returns-else-i-bytes c = sym (get_or-eq_default c.args.bytes.now 0 c.if-i-bytes.false)
