@@ -157,7 +157,7 @@ fn store(bytes: &[u8], given: &mut [u8])
         let start = address_of(bytes);
         let end = start + count;
         let last = 4 + count;
-        copies::copy(&bytes[4..last], &mut given[start..end]);
+        given[start..end].copy_from_slice(&bytes[4..last]);
     }
 }
 
