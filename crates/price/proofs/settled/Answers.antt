@@ -14,4 +14,4 @@ returns-in-Bytes c = rw c.in-Bytes.is refl
 
 pub returns-in-Refused : goal.returns-in-Refused
 unfolding settled
-returns-in-Refused c = rw c.in-Refused.is (ap (λ (l : List ℕ). record { result = Written.Refused c.in-Refused.refusal; out = l ++ drop (length c.args.before.now) c.args.out.now }) c.copy.ensures)
+returns-in-Refused c = rw c.in-Refused.is (ap (λ (l : List ℕ). record { result = Written.Refused c.in-Refused.refusal; out = l ++ drop (length c.args.before.now) c.args.out.now }) c.copy_from_slice.ensures.after)
