@@ -2,13 +2,11 @@
 -- Assumes nothing.
 use mathlib.Core.Path.{◌≡◌, refl, sym, ap, ◌∙◌}
 use Prim.Native.Nat.{ℕ}
-use lib.Dec.{eqb}
-use borrow.Author.Tests.{le-leb, lt-leb}
+use borrow.Author.Tests.{lt-leb}
 use Rattle.sheet.specs.declared.Chips.{Chips}
 use Rattle.sheet.specs.declared.Check.{Check}
-use Rattle.sheet.specs.declared.Refusal.TheVariants.{RamLength}
 use Rattle.sheet.specs.Parts.{part_of}
-use Rattle.sheet.specs.Checks.{unless, check_chips}
+use Rattle.sheet.specs.Checks.{check_chips}
 use Rattle.image_sheet.specs.Hex.{one_group}
 use Rattle.image_sheet.specs.Images.{check_file}
 use Rattle.image.proofs.check_file.Goals as goal
