@@ -53,12 +53,12 @@ fn text_size(symbol: Symbol) -> usize
 
 // ---- what stands at the start of an output is kept while it is written over, since a refusal leaves it as it was
 
-// In two halves, each short enough to be copied without a call.
+// In two parts of at most 80 bytes, which are copied without a call.
 fn before<const N: usize>(out: &[u8]) -> [u8; N]
     requires { N ≤ length out.now }
     ensures { result ≡ take N out.now }
 {
-    let half = N / 2;
+    let half = N.min(80);
     let mut before = [0; N];
     let all = &mut before[..];
     all[..half].copy_from_slice(&out[..half]);
