@@ -8,22 +8,11 @@ const STDIN_FILENO: i32 = 0;
 
 const STDOUT_FILENO: i32 = 1;
 
-fn input_buffer() -> [u8; 700000]
+// Room for all logs, and for a log's text.
+fn buffer() -> [u8; 700000]
     ensures { 700000 ≡ length result }
 {
     [0; 700000]
-}
-
-fn text_buffer() -> [u8; 700000]
-    ensures { 700000 ≡ length result }
-{
-    [0; 700000]
-}
-
-fn wide(byte: u8) -> usize
-    ensures { result < 256 }
-{
-    byte as usize
 }
 
 // The four-byte length at a place.
@@ -31,8 +20,7 @@ fn length_at(input: &[u8], at: usize) -> usize
     requires { at + 4 ≤ length input.now }
     ensures { result < 2 ^ 32 }
 {
-    ((wide(input[at]) * 256 + wide(input[at + 1])) * 256 + wide(input[at + 2])) * 256
-        + wide(input[at + 3])
+    u32::from_be_bytes([input[at], input[at + 1], input[at + 2], input[at + 3]]) as usize
 }
 
 fn write_text(log: &[u8], out: &mut [u8]) {
@@ -45,6 +33,7 @@ fn write_text(log: &[u8], out: &mut [u8]) {
 fn write_all(input: &[u8], out: &mut [u8]) {
     let mut at: usize = 0;
     let mut index: u64 = 0;
+    // a log is as long as it says, which no `for` goes by
     while at < input.len() {
         if input.len() - at < 4 {
             return;
@@ -65,8 +54,8 @@ fn write_all(input: &[u8], out: &mut [u8]) {
 }
 
 fn main() {
-    let mut input = input_buffer();
+    let mut input = buffer();
     let size = io::read_full(STDIN_FILENO, &mut input);
-    let mut out = text_buffer();
+    let mut out = buffer();
     write_all(&input[..size], &mut out);
 }

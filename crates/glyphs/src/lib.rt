@@ -99,11 +99,9 @@ fn arranged(mode: u8) -> Bytes
     let order = order_of(mode);
     let mut first: u64 = 0;
     let mut second: u64 = 0;
-    let mut left: usize = 8;
-    while 0 < left {
-        left -= 1;
-        first = pushed(first, FIRST, order[left]);
-        second = pushed(second, SECOND, order[left]);
+    for i in (0..8).rev() {
+        first = pushed(first, FIRST, order[i]);
+        second = pushed(second, SECOND, order[i]);
     }
     Bytes { first, second }
 }

@@ -31,6 +31,7 @@ fn hear_bytes(
     let size = arithmetic::columns_held(ram.len(), packed);
     let mut listener = listener::begun(Expect::Control, opened, from);
     let mut i = from;
+    // a turn takes one byte or a whole run, which no `for` goes by
     while i < n {
         let expect = listener.expect;
         let end = listener::data_end(expect, i, n);

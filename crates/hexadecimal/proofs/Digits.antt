@@ -8,6 +8,8 @@ use native.Mathlib.Omega.{arith}
 use lib.Dec.{leb, ltb}
 use lib.ListN.{length, get_or, drop, drop_of_length-le}
 use borrow.Author.Tests.{ltb-true, leb-true}
+use Rattle.std.specs.Prelude.{nat_lt, ◌&&◌}
+use Rattle.std.specs.List.{list_all}
 use Rattle.lemmas.proofs.Tests.{both_true}
 use Rattle.lemmas.proofs.Lists.{next}
 use Rattle.sheet.specs.Parts.{within}
@@ -42,3 +44,9 @@ one_pair text i h =
 pub no_pair : (text : List ℕ) (i : ℕ) → length text ≤ 2 * i → bytes_of (drop (2 * i) text) ≡ []
 unfolding bytes_of
 no_pair text i h = rw (drop_of_length-le text {i = 2 * i} h)
+
+-- each character passes the same test
+pub all-digits : (l : List ℕ) → list_all (λ (c : ℕ). nat_lt (value_of c) 16) l ≡ are_digits l
+unfolding are_digits
+all-digits [] = refl
+all-digits (c ∷ cs) = ap (λ (b : Bool). ltb (value_of c) 16 && b) (all-digits cs)

@@ -13,7 +13,11 @@ fn digit_of(value: u8) -> u8
     requires { value < 16 }
     ensures { result ≡ digit_of value }
 {
-    if value < 10 { 48 + value } else { 55 + value }
+    if value < 10 {
+        b'0' + value
+    } else {
+        b'A' + (value - 10)
+    }
 }
 
 // Two digits a byte, written at a place; the place after them is returned.
@@ -22,12 +26,9 @@ pub fn put_text(out: &mut [u8], at: usize, bytes: &[u8]) -> usize
     ensures { Puts at (text_of bytes.now) out.old out.new result }
 {
     let mut place = at;
-    let mut i = 0;
-    while i < bytes.len() {
-        let byte = bytes[i];
+    for byte in bytes {
         let half = text::put_byte(out, place, digit_of(byte / 16));
         place = text::put_byte(out, half, digit_of(byte % 16));
-        i += 1;
     }
     place
 }
@@ -35,15 +36,14 @@ pub fn put_text(out: &mut [u8], at: usize, bytes: &[u8]) -> usize
 // ---- text to bytes
 
 // A digit's value; 16 for a character that is none, a small letter too.
+#[tactic(auto, unfolding(image_sheet::specs::Images::value_of, sheet::specs::Parts::within))]
 fn value_of(character: u8) -> u8
     ensures { result ≡ value_of character }
 {
-    if (48 <= character) & (character <= 57) {
-        character - 48
-    } else if (65 <= character) & (character <= 70) {
-        character - 55
-    } else {
-        16
+    match character {
+        b'0'..=b'9' => character - b'0',
+        b'A'..=b'F' => character - b'A' + 10,
+        _ => 16,
     }
 }
 
@@ -57,14 +57,7 @@ pub fn pair_of(high: u8, low: u8) -> usize
 pub fn are_digits(text: &[u8]) -> bool
     ensures { result ≡ are_digits text.now }
 {
-    let mut i = 0;
-    while i < text.len() {
-        if 16 <= value_of(text[i]) {
-            return false;
-        }
-        i += 1;
-    }
-    true
+    text.iter().all(|character| value_of(*character) < 16)
 }
 
 // The bytes that the digits say.
@@ -72,10 +65,8 @@ pub fn read(text: &[u8], bytes: &mut [u8])
     requires { (length text.now ≡ 2 * length bytes.old) × (are_digits text.now ≡ true) }
     ensures { bytes.new ≡ bytes_of text.now }
 {
-    let mut i = 0;
-    while i < bytes.len() {
-        bytes[i] = pair_of(text[2 * i], text[2 * i + 1]) as u8;
-        i += 1;
+    for (i, byte) in bytes.iter_mut().enumerate() {
+        *byte = pair_of(text[2 * i], text[2 * i + 1]) as u8;
     }
 }
 
@@ -85,11 +76,5 @@ pub fn read(text: &[u8], bytes: &mut [u8])
 pub fn sum(bytes: &[u8]) -> usize
     ensures { result ≡ sum_of bytes.now % 256 }
 {
-    let mut sum: usize = 0;
-    let mut i = 0;
-    while i < bytes.len() {
-        sum = (sum + bytes[i] as usize) % 256;
-        i += 1;
-    }
-    sum
+    bytes.iter().fold(0u8, |sum, byte| sum.wrapping_add(*byte)) as usize
 }

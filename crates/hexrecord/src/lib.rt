@@ -16,7 +16,7 @@ fn checksum(head: &[u8], columns: &[u8]) -> u8
     ensures { result ≡ checksum_of (head.now ++ columns.now) }
 {
     let sum = hexadecimal::sum(head) + hexadecimal::sum(columns);
-    ((256 - sum % 256) % 256) as u8
+    ((sum % 256) as u8).wrapping_neg()
 }
 
 // A record's line; the place after it is returned.
@@ -24,12 +24,8 @@ pub fn put_record(out: &mut [u8], at: usize, kind: u8, address: usize, columns: 
     requires { Room at kind address columns.now out.old }
     ensures { Puts at (line_of (record_of kind address columns.now)) out.old out.new result }
 {
-    let head = [
-        columns.len() as u8,
-        (address / 256) as u8,
-        (address % 256) as u8,
-        kind,
-    ];
+    let [high, low] = (address as u16).to_be_bytes();
+    let head = [columns.len() as u8, high, low, kind];
     let last = [checksum(&head, columns)];
     let start = text::put_byte(out, at, b':');
     let body = hexadecimal::put_text(out, start, &head);
@@ -91,7 +87,7 @@ fn address_of(bytes: &[u8]) -> usize
     requires { Whole bytes.now }
     ensures { (result ≡ address_of bytes.now) × (result < 65536) }
 {
-    256 * (bytes[1] as usize) + bytes[2] as usize
+    u16::from_be_bytes([bytes[1], bytes[2]]) as usize
 }
 
 // 21 of an end record, 22, 23.
@@ -113,14 +109,7 @@ fn head_fault(bytes: &[u8], at: usize) -> Result<(), Refusal>
 fn none_given(columns: &[u8]) -> bool
     ensures { result ≡ none_given columns.now }
 {
-    let mut i = 0;
-    while i < columns.len() {
-        if columns[i] <= 15 {
-            return false;
-        }
-        i += 1;
-    }
-    true
+    columns.iter().all(|column| 15 < *column)
 }
 
 // 24, 25, 5. A record without data has none.
@@ -167,7 +156,7 @@ fn store(bytes: &[u8], given: &mut [u8])
         let start = address_of(bytes);
         let end = start + count;
         let last = 4 + count;
-        copies::copy(&bytes[4..last], &mut given[start..end]);
+        given[start..end].copy_from_slice(&bytes[4..last]);
     }
 }
 
@@ -193,13 +182,6 @@ fn take(bytes: &[u8], given: &mut [u8], at: usize, next: usize) -> Result<Step, 
     }
 }
 
-// Room for the longest record: its length is one byte.
-fn longest() -> [u8; 260]
-    ensures { length result ≡ 260 }
-{
-    [0; 260]
-}
-
 // The record that stands at a place.
 pub fn read_record(file: &[u8], given: &mut [u8], at: usize) -> Result<Step, Refusal>
     requires { (at < length file.now) × (length file.now ≤ 65536) }
@@ -209,7 +191,8 @@ pub fn read_record(file: &[u8], given: &mut [u8], at: usize) -> Result<Step, Ref
     match line_at(file, at) {
         None => Err(Refusal::RecordForm(at)),
         Some(line) => {
-            let mut bytes = longest();
+            // room for the longest: its length is one byte
+            let mut bytes = [0; 260];
             let size = line.count + 5;
             let start = at + 1;
             let end = start + 2 * size;

@@ -29,11 +29,10 @@ fn put_data(out: &mut [u8], ram: &[u8]) -> usize
     ensures { Puts 0 (data_lines ((length ram.now + 15) / 16) 0 ram.now) out.old out.new result }
 {
     let mut place = 0;
-    let mut address = 0;
-    while address < ram.len() {
+    for i in 0..ram.len() / 16 {
+        let address = 16 * i;
         let end = address + 16;
         place = hexrecord::put_record(out, place, 0, address, &ram[address..end]);
-        address = end;
     }
     place
 }
@@ -138,6 +137,6 @@ pub fn read(part: u8, chips: u8, file: &[u8], ram: &mut [u8]) -> Result<usize, R
     let mut given = none_given();
     let size = ram.len();
     read_records(file, &mut given[..size])?;
-    copies::copy(&given[..size], ram);
+    ram.copy_from_slice(&given[..size]);
     Ok(size)
 }

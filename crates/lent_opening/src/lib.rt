@@ -114,6 +114,7 @@ pub fn open(part: u8, set: &mut [u8], bytes: &[u8]) -> Opening
     ensures { (record { fault = result.fault; registers = registers_in set.new; at = result.at } ≡ opened (part_of part) (registers_in set.old) 1 (drop 1 bytes.now)) × (length set.new ≡ 12) }
 {
     let mut at: usize = 1;
+    // the place is a part of the answer: `chunks_exact` would want it counted beside the pairs
     while 2 <= bytes.len() - at {
         if bytes[at] == 0x80 {
             let command = decode::decode(part, bytes[at + 1]);

@@ -71,10 +71,8 @@ pub fn put_columns(out: &mut [u8], at: usize, group: usize, picture: &[u8]) -> u
     ensures { Puts at (column_lines group 0 picture.now) out.old out.new result }
 {
     let mut place = at;
-    let mut i = 0;
-    while i < picture.len() {
-        place = put_column(out, place, group, i, picture[i]);
-        i += 1;
+    for (i, value) in picture.iter().enumerate() {
+        place = put_column(out, place, group, i, *value);
     }
     place
 }

@@ -8,28 +8,44 @@ ghost use Rattle.sheet.specs.Parts.{part_of};
 ghost use Rattle.sheet.specs.Protocol.{sent};
 ghost use Rattle.sheet.specs.Plain.{plain_part};
 ghost use Rattle.turns.specs.Asking.{said_by};
-ghost use Rattle.starts.specs.Questions.{yes, first_yes};
+ghost use Rattle.starts.specs.Questions.{found_in};
 ghost use Rattle.turns.specs.Turns.{taken_by, followed, tally_of, Ready};
 ghost use Rattle.plain.specs.Benches.{too_many, first_transferred, bench_transferred};
 
 use sheet::{Acknowledged, Chip, Refusal};
-use starts::{Found, Question};
+use starts::Found;
 use turns::{BusByte, Said, Tally, Turn};
 
 // ---- the list
 
-// The place of the first chip that says yes, or the count.
-fn first(chips: &[Chip], question: Question) -> usize
-    ensures { result ≡ first_yes (yes question) chips.now }
+// The places of the first chip that does not fit, that hears the address, and that hears it and has each mark unknown; or the count.
+fn found(chips: &[Chip], part: u8, called: u8) -> Found
+    ensures { result ≡ found_in part called chips.now }
 {
-    let mut i = 0;
-    while i < chips.len() {
-        if starts::says_yes(chips[i], question) {
-            return i;
-        }
-        i += 1;
+    let count = chips.len();
+    Found {
+        count,
+        misfit: chips
+            .iter()
+            .position(|chip| !chip::fits(part, *chip))
+            .unwrap_or(count),
+        hearer: chips
+            .iter()
+            .position(|chip| chip::hears(*chip, called))
+            .unwrap_or(count),
+        high: chips
+            .iter()
+            .position(|chip| chip::hears(*chip, called) & (chip::marks(*chip).high == 1))
+            .unwrap_or(count),
+        low: chips
+            .iter()
+            .position(|chip| chip::hears(*chip, called) & (chip::marks(*chip).low == 1))
+            .unwrap_or(count),
+        device: chips
+            .iter()
+            .position(|chip| chip::hears(*chip, called) & (chip::marks(*chip).device == 1))
+            .unwrap_or(count),
     }
-    i
 }
 
 // Who acknowledges a byte, the smallest subaddress, and how many bytes of so many are answered alike.
@@ -37,9 +53,7 @@ fn ask_all(chips: &[Chip], heard: BusByte, most: usize) -> Said
     ensures { result ≡ said_by heard most chips.now }
 {
     let mut said = turns::nothing_said(most);
-    let mut i = chips.len();
-    while 0 < i {
-        i -= 1;
+    for i in (0..chips.len()).rev() {
         said = turns::say_with(chips[i], heard, said);
     }
     said
@@ -51,10 +65,8 @@ fn take_all(chips: &mut [Chip], bytes: &[u8], turn: Turn, count: usize)
     ensures { chips.new ≡ map (taken_by bytes.now turn count) chips.old }
 {
     let limit = turns::reach(turn, count, chips.len());
-    let mut i = 0;
-    while i < limit {
+    for i in 0..limit {
         chips[i] = turns::take(bytes, chips[i], turn, count);
-        i += 1;
     }
 }
 
@@ -85,20 +97,7 @@ pub fn transfer(
     ensures chips_after { chips.new ≡ (plain_part part chips.old (sent bytes.now bits)).chips }
 {
     let called = starts::address(bytes, bits);
-    let misfit = first(chips, Question::Misfit(part));
-    let hearer = first(chips, Question::Hears(called));
-    let high = first(chips, Question::HighUnknown(called));
-    let low = first(chips, Question::LowUnknown(called));
-    let device = first(chips, Question::DeviceUnknown(called));
-    let count = chips.len();
-    let found = Found {
-        count,
-        misfit,
-        hearer,
-        high,
-        low,
-        device,
-    };
+    let found = found(chips, part, called);
     let start = starts::begin(bytes, part, bits, found);
     let tally = follow(chips, bytes, start.turn);
     starts::answer(start.check, tally)

@@ -53,31 +53,16 @@ fn text_size(symbol: Symbol) -> usize
 
 // ---- what stands at the start of an output is kept while it is written over, since a refusal leaves it as it was
 
-fn no_bytes() -> [u8; 80] {
-    [0; 80]
-}
-
-fn no_text() -> [u8; 160] {
-    [0; 160]
-}
-
-fn bytes_before(out: &[u8]) -> [u8; 80]
-    requires { 80 ≤ length out.now }
-    ensures { result ≡ take 80 out.now }
+// In two parts of at most 80 bytes, which are copied without a call.
+fn before<const N: usize>(out: &[u8]) -> [u8; N]
+    requires { N ≤ length out.now }
+    ensures { result ≡ take N out.now }
 {
-    let mut before = no_bytes();
-    copies::copy(&out[..80], &mut before);
-    before
-}
-
-// In two halves, which are copied without a call.
-fn text_before(out: &[u8]) -> [u8; 160]
-    requires { 160 ≤ length out.now }
-    ensures { result ≡ take 160 out.now }
-{
-    let mut before = no_text();
-    copies::copy(&out[..80], &mut before[..80]);
-    copies::copy(&out[80..160], &mut before[80..]);
+    let half = N.min(80);
+    let mut before = [0; N];
+    let all = &mut before[..];
+    all[..half].copy_from_slice(&out[..half]);
+    all[half..].copy_from_slice(&out[half..N]);
     before
 }
 
@@ -89,8 +74,7 @@ fn settled(written: Result<usize, Refusal>, before: &[u8], out: &mut [u8]) -> Re
     match written {
         Ok(size) => Ok(size),
         Err(refusal) => {
-            let size = before.len();
-            copies::copy(before, &mut out[..size]);
+            out[..before.len()].copy_from_slice(before);
             Err(refusal)
         }
     }
@@ -106,6 +90,7 @@ fn put_bytes(mode: u8, text: &[u8], out: &mut [u8]) -> Result<usize, Refusal>
     let bytes = glyphs::bytes_of(mode);
     let mut place = 0;
     let mut i = 0;
+    // a symbol is one to three bytes of the text, which no `for` goes by
     while i < text.len() {
         match begun_at(text, i) {
             Some(symbol) => {
@@ -125,18 +110,15 @@ fn put_texts(mode: u8, segments: &[u8], before: &[u8], out: &mut [u8]) -> Result
     ensures { Put (read_from mode 0 segments.now) (texts_of (read_from mode 0 segments.now).symbols) 160 out.old out.new result }
 {
     let mut place = 0;
-    let mut i = 0;
-    while i < segments.len() {
-        let byte = segments[i];
-        let entry = glyphs::entry_of(mode, byte);
-        if (entry % 256) as u8 != byte {
+    for (i, byte) in segments.iter().enumerate() {
+        let entry = glyphs::entry_of(mode, *byte);
+        if (entry % 256) as u8 != *byte {
             return Err(Refusal::NoSymbol(i));
         }
         let code = entry / 256;
         out[place] = (code % 256) as u8;
         out[place + 1] = 0x2E;
         place += (code / 256) as usize;
-        i += 1;
     }
     if place < before.len() {
         out[place] = before[place];
@@ -163,7 +145,7 @@ pub fn write(mode: u8, text: &[u8], out: &mut [u8]) -> Result<usize, Refusal>
     ensures result_value { written_numbers result ≡ written_numbers (price_write mode text.now out.old).result }
 {
     check_sizes(text.len(), mode, 80, out.len())?;
-    let before = bytes_before(out);
+    let before = before::<80>(out);
     settled(put_bytes(mode, text, out), &before, out)
 }
 
@@ -174,6 +156,6 @@ pub fn read(mode: u8, segments: &[u8], out: &mut [u8]) -> Result<usize, Refusal>
     ensures result_value { written_numbers result ≡ written_numbers (price_read mode segments.now out.old).result }
 {
     check_sizes(segments.len(), mode, 160, out.len())?;
-    let before = text_before(out);
+    let before = before::<160>(out);
     settled(put_texts(mode, segments, &before, out), &before, out)
 }

@@ -135,10 +135,8 @@ fn all_defined(part: u8, commands: &[u8]) -> bool
     ensures { result ≡ all_defined (part_of part) commands.now }
 {
     let mut found = true;
-    let mut i = 0;
-    while i < commands.len() {
-        found = found & decode::is_defined(part, commands[i]);
-        i += 1;
+    for command in commands {
+        found = found & decode::is_defined(part, *command);
     }
     found
 }
@@ -149,6 +147,7 @@ fn after_defined(part: u8, bytes: &[u8], from: usize) -> usize
     ensures { (undefined_in (part_of part) result (drop result bytes.now) ≡ undefined_in (part_of part) from (drop from bytes.now)) × (result ≤ length bytes.now) }
 {
     let mut i = from;
+    // the place is the answer: `chunks_exact` would want it counted beside the blocks
     while 64 <= bytes.len() - i {
         let end = i + 64;
         if all_defined(part, &bytes[i..end]) {
@@ -165,11 +164,8 @@ fn undefined_from(part: u8, bytes: &[u8], from: usize) -> Result<(), Refusal>
     requires { from ≤ length bytes.now }
     ensures { result ≡ undefined_in (part_of part) from (drop from bytes.now) }
 {
-    let mut i = after_defined(part, bytes, from);
-    while i < bytes.len() {
-        if decode::is_defined(part, bytes[i]) {
-            i += 1;
-        } else {
+    for i in after_defined(part, bytes, from)..bytes.len() {
+        if !decode::is_defined(part, bytes[i]) {
             return Err(Refusal::UndefinedCommand(i));
         }
     }
@@ -182,8 +178,7 @@ fn fault_in(part: u8, cut: bool, initial: Marks, bytes: &[u8], from: usize) -> R
 {
     let mut expect = Expect::Control;
     let mut marks = initial;
-    let mut i = from;
-    while i < bytes.len() {
+    for i in from..bytes.len() {
         let byte = bytes[i];
         if let Err(refusal) = fault(part, marks, expect, i, byte) {
             return Err(refusal);
@@ -196,9 +191,8 @@ fn fault_in(part: u8, cut: bool, initial: Marks, bytes: &[u8], from: usize) -> R
         if only(false, expect) {
             return undefined_from(part, bytes, i + 1);
         }
-        i += 1;
     }
-    last_fault(cut, marks, expect, i)
+    last_fault(cut, marks, expect, from.max(bytes.len()))
 }
 
 // The first fault of a transfer to chips with these marks. Nothing is changed.

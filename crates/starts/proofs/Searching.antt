@@ -1,25 +1,24 @@
--- The first chip of a list of which f holds: whether there is one, and going along the list for it.
+-- The first chip of a list of which f holds: whether there is one, and the place that a search finds.
 -- Assumes nothing.
 use mathlib.Core.Path.{◌≡◌, refl, sym, ap, ◌∙◌}
 use mathlib.Core.Bool.{Bool, true, false, cond, not, ◌||◌}
 use mathlib.Core.List.{List, [], ◌∷◌}
-use Prim.Native.Nat.{ℕ, zero, suc, ◌+◌, ◌<◌, ◌≤◌}
+use Prim.Native.Nat.{ℕ, zero, suc, ◌<◌, ◌≤◌}
 use native.Mathlib.Omega.{arith}
-use lib.Dec.{T, ltb, leb-zero, leb-suc-suc}
-use lib.ListN.{length, get_or, drop}
-use lib.Seq.{drop-cons, drop-length}
+use lib.Dec.{ltb, leb-zero, leb-suc-suc}
+use lib.ListN.{length}
+use mathlib.Core.Logic.{⊎_elim}
+use borrow.Author.Tests.{lt-ltb, le-ltb}
+use Rattle.std.specs.Prelude.{Option, Some, None}
+use Rattle.std.specs.Option.{unwrap_or}
+use Rattle.std.specs.List.{position, position_or_len}
+use Rattle.std.proofs.lemmas.List.Recursion.{is_position_or_len}
+use Rattle.std.proofs.lemmas.List.Folds.{length-prefix_len}
+use lib.ListN.{length-take}
+use Rattle.lemmas.proofs.Order.{lt_or_le}
 use Rattle.sheet.specs.declared.Chip.{Chip}
 use Rattle.sheet.specs.Plain.{any}
 use Rattle.starts.specs.Questions.{first_yes}
-
--- a test that came out, as an equation
-pub is_true : (t : Bool) → T t → t ≡ true
-is_true true h = refl
-is_true false h = absurd h
-
-pub is_false : (t : Bool) → T (not t) → t ≡ false
-is_false true h = absurd h
-is_false false h = refl
 
 -- f holds of some chip exactly if the first lies within the list
 pub any-first : (f : Chip → Bool) (cs : List Chip) → any f cs ≡ ltb (first_yes f cs) (length cs)
@@ -31,26 +30,16 @@ any-first f (c ∷ cs) = by-test (f c) (any f cs) (first_yes f cs) (length cs) (
     by-test true u n m e = sym (leb-suc-suc zero m ∙ leb-zero m)
     by-test false u n m e = e ∙ sym (leb-suc-suc (suc n) m)
 
--- up to i it holds of none
-pub record Sought (f : Chip → Bool) (xs : List Chip) (i : ℕ) : Type 0 where
-  pub within : i ≤ length xs
-  pub left : first_yes f xs ≡ i + first_yes f (drop i xs)
+is-place : (f : Chip → Bool) (cs : List Chip) → first_yes f cs ≡ position_or_len f cs
+unfolding first_yes
+is-place f cs = is_position_or_len (first_yes f) f refl (λ x xs. ap (λ (n : ℕ). cond (f x) 0 n) (omega arith)) cs
 
-module _ (f : Chip → Bool) (xs : List Chip) (i : ℕ) (s : Sought f xs i) where
-  -- what is left begins with chip i
-  here : (d : Chip) → i < length xs → first_yes f (drop i xs) ≡ cond (f (get_or xs i d)) 0 (suc (first_yes f (drop (suc i) xs)))
-  unfolding first_yes
-  here d l = ap (first_yes f) (drop-cons xs i d l)
+-- the place that a search finds, or the count
+pub first-place : (f : Chip → Bool) (cs : List Chip) {found : Option ℕ} → found ≡ position f cs → unwrap_or found (length cs) ≡ first_yes f cs
+first-place f cs e = ap (λ (o : Option ℕ). unwrap_or o (length cs)) e ∙ or-count (position_or_len f cs) (length cs) no-longer ∙ sym (is-place f cs)
+  where
+    or-count : (n m : ℕ) → n ≤ m → unwrap_or (cond (ltb n m) (Some n) None) m ≡ n
+    or-count n m h = ⊎_elim (λ (l : n < m). rw (lt-ltb n m l) refl) (λ (l : m ≤ n). rw (le-ltb n m l) (omega arith)) (lt_or_le n m)
 
-  pub found : (d : Chip) → i < length xs → f (get_or xs i d) ≡ true → i ≡ first_yes f xs
-  found d l e = omega (arith, s.left, here d l ∙ ap (λ (t : Bool). cond t 0 (suc (first_yes f (drop (suc i) xs)))) e)
-
-  pub not_yet : (d : Chip) → i < length xs → f (get_or xs i d) ≡ false → Sought f xs (suc i)
-  not_yet d l e = record { within = l; left = omega (arith, s.left, here d l ∙ ap (λ (t : Bool). cond t 0 (suc (first_yes f (drop (suc i) xs)))) e) }
-
-  pub none : length xs ≤ i → i ≡ first_yes f xs
-  unfolding first_yes
-  none l = omega (arith, s.left, s.within, ap (λ (k : ℕ). first_yes f (drop k xs)) (is-length l) ∙ ap (first_yes f) (drop-length xs))
-    where
-      is-length : length xs ≤ i → i ≡ length xs
-      is-length h = omega (arith, s.within)
+    no-longer : position_or_len f cs ≤ length cs
+    no-longer = omega (arith, length-prefix_len (λ c. not (f c)) cs, length-take (position_or_len f cs) cs)

@@ -24,8 +24,7 @@ use Rattle.laws.proofs.Fits.{both_pass, sent-passed, all_in}
 use Rattle.laws.proofs.First.{or-else, plain-first}
 use Rattle.starts.specs.declared.Found.{Found}
 use Rattle.starts.specs.declared.Start.{Start}
-use Rattle.starts.specs.declared.Question.TheVariants.{Misfit, Hears, HighUnknown, LowUnknown, DeviceUnknown}
-use Rattle.starts.specs.Questions.{yes, first_yes}
+use Rattle.starts.specs.Questions.{misfits, high_unknown, low_unknown, device_unknown, first_yes, found_in}
 use Rattle.turns.specs.Turns.{tally_of, plain_left, followed, Ready}
 use Rattle.starts.specs.Starts.{marks_found, check_of, turn_at, first_turn, start_of, answer_of}
 use Rattle.starts.proofs.Searching.{any-first}
@@ -47,10 +46,10 @@ module _ (part : ℕ) (cs : List Chip) (t : Sent) where
 -- ---- the checks
 
 -- the first chip that does not fit, counted from i, stands at i and the place of the first that says so
-misfit : (part i : ℕ) (cs : List Chip) → misfit_in (part_of part) i cs ≡ unless (leb (length cs) (first_yes (yes (Misfit part)) cs)) (ChipField (i + first_yes (yes (Misfit part)) cs))
+misfit : (part i : ℕ) (cs : List Chip) → misfit_in (part_of part) i cs ≡ unless (leb (length cs) (first_yes (misfits part) cs)) (ChipField (i + first_yes (misfits part) cs))
 unfolding misfit_in first_yes
 misfit part i [] = refl
-misfit part i (c ∷ cs) = by-test (chip_fits (part_of part) c) (length cs) (first_yes (yes (Misfit part)) cs) (misfit_in (part_of part) (suc i) cs) (misfit part (suc i) cs)
+misfit part i (c ∷ cs) = by-test (chip_fits (part_of part) c) (length cs) (first_yes (misfits part) cs) (misfit_in (part_of part) (suc i) cs) (misfit part (suc i) cs)
   where
     by-test : (t : Bool) (n m : ℕ) (r : Check) → r ≡ unless (leb n m) (ChipField (suc i + m)) → cond t r (Err (ChipField i)) ≡ unless (leb (suc n) (cond (not t) 0 (suc m))) (ChipField (i + cond (not t) 0 (suc m)))
     by-test true n m r e = let on : suc i + m ≡ i + suc m = omega arith in e ∙ (λ j. unless (sym (leb-suc-suc n m) j) (ChipField (on j)))
@@ -62,30 +61,15 @@ passed_is (Err r) e = absurd (subst T (sym e) tt)
 
 module _ (part : ℕ) (cs : List Chip) (t : Sent) where
   -- what the list is found to hold
-  abbrev pub misfit-at : ℕ
-  misfit-at = first_yes (yes (Misfit part)) cs
-
-  abbrev pub hearer_at : ℕ
-  hearer_at = first_yes (yes (Hears (address_byte t))) cs
-
-  abbrev pub high-at : ℕ
-  high-at = first_yes (yes (HighUnknown (address_byte t))) cs
-
-  abbrev pub low-at : ℕ
-  low-at = first_yes (yes (LowUnknown (address_byte t))) cs
-
-  abbrev pub device-at : ℕ
-  device-at = first_yes (yes (DeviceUnknown (address_byte t))) cs
-
   abbrev pub found : Found
-  found = record { count = length cs; misfit = misfit-at; hearer = hearer_at; high = high-at; low = low-at; device = device-at }
+  found = found_in part (address_byte t) cs
 
   -- the marks of those that hear
   marks-found : marks_found found ≡ marks_in (address_byte t) cs
   marks-found = λ j. record {
-    high = cond (sym (any-first (yes (HighUnknown (address_byte t))) cs) j) 1 0;
-    low = cond (sym (any-first (yes (LowUnknown (address_byte t))) cs) j) 1 0;
-    device = cond (sym (any-first (yes (DeviceUnknown (address_byte t))) cs) j) 1 0;
+    high = cond (sym (any-first (high_unknown (address_byte t)) cs) j) 1 0;
+    low = cond (sym (any-first (low_unknown (address_byte t)) cs) j) 1 0;
+    device = cond (sym (any-first (device_unknown (address_byte t)) cs) j) 1 0;
   }
 
   abbrev pub begun : Start
@@ -105,8 +89,8 @@ module _ (part : ℕ) (cs : List Chip) (t : Sent) where
       sym (or-else (check_part part) (unless (leb (length cs) (2 * (part_of part).limit)) ManyChips) _)
       ∙ (λ j. or_else (check_part part) (or_else (unless (leb (length cs) (2 * (part_of part).limit)) ManyChips) (or_else (fields j) (or_else (check_sent t) (cond (sym (any-first (hears (address_byte t)) cs) j) (fault_of_sent (part_of part) (marks-found j) t) (Ok tt))))))
     where
-      fields : unless (leb (length cs) misfit-at) (ChipField misfit-at) ≡ misfit_in (part_of part) 0 cs
-      fields = let at : misfit-at ≡ 0 + misfit-at = omega arith in ap (λ (m : ℕ). unless (leb (length cs) misfit-at) (ChipField m)) at ∙ sym (misfit part 0 cs)
+      fields : unless (leb (length cs) (first_yes (misfits part) cs)) (ChipField (first_yes (misfits part) cs)) ≡ misfit_in (part_of part) 0 cs
+      fields = let at : first_yes (misfits part) cs ≡ 0 + first_yes (misfits part) cs = omega arith in ap (λ (m : ℕ). unless (leb (length cs) (first_yes (misfits part) cs)) (ChipField m)) at ∙ sym (misfit part 0 cs)
 
   -- so the turn from which the chips follow is the one of a transfer that the sheet takes
   turned : begun.turn ≡ first_turn part t checks heard

@@ -51,11 +51,9 @@ fn put_numbers(out: &mut [u8], at: usize, numbers: &[usize]) -> usize
     ensures { Puts at (spaced numbers.now) out.old out.new result }
 {
     let mut place = at;
-    let mut i = 0;
-    while i < numbers.len() {
+    for number in numbers {
         let after = put_byte(out, place, b' ');
-        place = put_decimal(out, after, numbers[i]);
-        i += 1;
+        place = put_decimal(out, after, *number);
     }
     place
 }

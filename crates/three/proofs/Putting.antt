@@ -71,6 +71,11 @@ module _ {K : Part} {step size v : ℕ} {wanted before : List ℕ} where
         most = l;
       })
 
+  -- the same by the size of their bytes
+  pub turn_by : {out new : List ℕ} {at c after next n : ℕ} (k : ℕ) → n ≡ step * k → after ≡ at + n → next ≡ c + 2 * k → length before ≡ step * (size / 2) → c + 2 * k ≤ size → length new ≡ n → new ≡ pairs_from K k (v + c) wanted
+      → Putting K step size v wanted before out at c → Putting K step size v wanted before (take at out ++ (new ++ drop n (drop at out))) after next
+  turn_by {at = at} k is there on e l len pairs s = rw is (turn k (there ∙ ap (λ (m : ℕ). at + m) is) on e l (len ∙ is) pairs s)
+
   -- all columns
   pub done : {out : List ℕ} {at c : ℕ} → length before ≡ step * (size / 2) → size ≤ c → Putting K step size v wanted before out at c → out ≡ pairs_from K (size / 2) v wanted
   done {out} {at} {c} e l s =

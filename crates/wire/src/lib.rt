@@ -84,7 +84,7 @@ pub fn chip_of(bytes: &[u8]) -> Chip
     ensures { result ≡ chip_in bytes.now }
 {
     let mut columns = [0; 160];
-    copies::copy(&bytes[..160], &mut columns);
+    columns.copy_from_slice(&bytes[..160]);
     Chip {
         columns,
         sa0: bytes[160],
@@ -100,7 +100,7 @@ pub fn put_chip(chip: Chip, out: &mut [u8])
 {
     let columns = chip.columns;
     let registers = chip.registers;
-    copies::copy(&columns, &mut out[..160]);
+    out[..160].copy_from_slice(&columns);
     put_registers(registers, &mut out[162..]);
     out[160] = chip.sa0;
     out[161] = chip.subaddress;
@@ -112,11 +112,9 @@ pub fn bench_of(bytes: &[u8], count: usize) -> Bench
     ensures { Holds count (list_in count bytes.now) result }
 {
     let mut chips = [chip_of(&[0; 174]); 16];
-    let mut i = 0;
-    while i < count {
+    for i in 0..count {
         let at = 174 * i;
         chips[i] = chip_of(&bytes[at..at + 174]);
-        i += 1;
     }
     Bench { chips, count }
 }
@@ -128,11 +126,9 @@ pub fn put_bench(bench: Bench, out: &mut [u8])
 {
     let chips = bench.chips;
     let count = bench.count;
-    let mut i = 0;
-    while i < count {
+    for i in 0..count {
         let at = 174 * i;
         put_chip(chips[i], &mut out[at..at + 174]);
-        i += 1;
     }
 }
 
@@ -144,11 +140,6 @@ pub fn put_numbers(numbers: [usize; 6], out: &mut [usize]) -> u8
     ensures value { result ≡ get_or numbers 0 0 }
     ensures out_after { out.new ≡ numbers }
 {
-    out[0] = numbers[0];
-    out[1] = numbers[1];
-    out[2] = numbers[2];
-    out[3] = numbers[3];
-    out[4] = numbers[4];
-    out[5] = numbers[5];
+    out.copy_from_slice(&numbers);
     numbers[0] as u8
 }

@@ -34,18 +34,18 @@ positive mode k order h l e =
     subst (λ (o : List ℕ). 0 < get_or o k 0) (sym e)
     (ltb→lt 0 (get_or (order_of mode) k 0) (all-at 8 (there mode) (all-at 4 (λ m. all 8 (there m)) tt mode h) k l))
 
-pub loop-left-init : goal.loop-left-init
-loop-left-init c = let order = c.order_of-order.result in let eight : length order ≡ 8 = search rules in (omega arith, none order first_lit eight, none order second_lit eight)
+pub loop-i-init : goal.loop-i-init
+loop-i-init c = let order = c.order_of-order.result in let eight : length order ≡ 8 = search rules in (omega arith, none order first_lit eight, none order second_lit eight)
 
-lit-at : (c : goal.In-loop-left) → let p = c in 0 < get_or p.order_of-order.result (p.loop-left.left - 1) 0
-lit-at c = let p = c in positive p.args.mode _ _ p.requires (omega (arith, p.loop-left.invariant.0, c.loop-left-test.true)) p.order_of-order.ensures
+lit-at : (c : goal.In-loop-i) → let p = c in 0 < get_or p.order_of-order.result (p.loop-i.i - 1) 0
+lit-at c = let p = c in positive p.args.mode _ _ p.requires (omega (arith, p.loop-i.invariant.0, c.loop-i-test.true)) p.order_of-order.ensures
 
-pub loop-left-preserved : goal.loop-left-preserved
-loop-left-preserved c = let order = c.order_of-order.result in let eight : length order ≡ 8 = search rules in
-    let fits : c.loop-left.left ≤ length order = omega (arith, c.loop-left.invariant.0) in (
-      omega (arith, c.loop-left.invariant.0),
-      c.pushed-first.ensures ∙ turn order first_lit c.loop-left.left c.loop-left.first c.loop-left-test.true fits c.loop-left.invariant.1,
-      c.pushed-second.ensures ∙ turn order second_lit c.loop-left.left c.loop-left.second c.loop-left-test.true fits c.loop-left.invariant.2,
+pub loop-i-preserved : goal.loop-i-preserved
+loop-i-preserved c = let order = c.order_of-order.result in let eight : length order ≡ 8 = search rules in
+    let fits : c.loop-i.i ≤ length order = omega (arith, c.loop-i.invariant.0) in (
+      omega (arith, c.loop-i.invariant.0),
+      c.pushed-first.ensures ∙ turn order first_lit c.loop-i.i c.loop-i.first c.loop-i-test.true fits c.loop-i.invariant.1,
+      c.pushed-second.ensures ∙ turn order second_lit c.loop-i.i c.loop-i.second c.loop-i-test.true fits c.loop-i.invariant.2,
     )
 
 -- all segments
@@ -53,10 +53,10 @@ whole : (mode left bytes lit : ℕ) (order : List ℕ) → left ≡ 0 → order 
 whole mode left bytes lit order z o e = e ∙ ap (λ (k : ℕ). arranged (drop k order) lit) z ∙ ap (λ (l : List ℕ). arranged l lit) o
 
 pub returns : goal.returns
-returns c = let z : c.loop-left.left ≡ 0 = omega (arith, c.loop-left-test.false) in
+returns c = let z : c.loop-i.i ≡ 0 = omega (arith, c.loop-i-test.false) in
     let mode = c.args.mode in
     let o = c.order_of-order.ensures in
-    ap₂ (λ (a b : ℕ). record { first = a; second = b }) (whole mode c.loop-left.left c.loop-left.first first_lit _ z o c.loop-left.invariant.1) (whole mode c.loop-left.left c.loop-left.second second_lit _ z o c.loop-left.invariant.2)
+    ap₂ (λ (a b : ℕ). record { first = a; second = b }) (whole mode c.loop-i.i c.loop-i.first first_lit _ z o c.loop-i.invariant.1) (whole mode c.loop-i.i c.loop-i.second second_lit _ z o c.loop-i.invariant.2)
 
 pub pushed-first-requires : goal.pushed-first-requires
 pushed-first-requires c = lit-at c

@@ -24,16 +24,16 @@ turn text bytes i x h e r = record {
 done : (text bytes : List ℕ) (i : ℕ) → length bytes ≤ i → Reading text bytes i → bytes ≡ bytes_of text
 done text bytes i h r = sym (append-nil bytes) ∙ sym (ap₂ (λ (x y : List ℕ). x ++ y) (take_all i bytes h) (no_pair text i (omega (arith, r.size)))) ∙ r.so_far
 
-pub overflow_cast-bytes : goal.overflow_cast-bytes
-overflow_cast-bytes c = let h = c.loop-i-test.true in
-    let size = c.loop-i.invariant.0.size in
-    omega (arith, c.pair_of.ensures.0, digit_at c.args.text.now (2 * c.loop-i.i) c.requires.1 (omega (arith, size, h)), digit_at c.args.text.now (2 * c.loop-i.i + 1) c.requires.1 (omega (arith, size, h)))
+pub overflow_cast-byte : goal.overflow_cast-byte
+overflow_cast-byte c =
+    let size = c.loop-i.invariant.size in
+    omega (arith, c.pair_of.ensures.0, digit_at c.args.text.now (2 * c.loop-i.i) c.requires.1 (omega (arith, size)), digit_at c.args.text.now (2 * c.loop-i.i + 1) c.requires.1 (omega (arith, size)))
 
 pub loop-i-preserved : goal.loop-i-preserved
-loop-i-preserved c = (turn c.args.text.now c.loop-i.bytes c.loop-i.i c.pair_of.result c.loop-i-test.true c.pair_of.ensures.0 c.loop-i.invariant.0, length-set c.loop-i.bytes c.loop-i.i c.pair_of.result ∙ c.loop-i.invariant.1)
+loop-i-preserved c = turn c.args.text.now c.loop-i.bytes c.loop-i.i c.pair_of.result (omega arith) c.pair_of.ensures.0 c.loop-i.invariant
 
 pub returns : goal.returns
-returns c = done _ _ _ c.loop-i-test.false c.loop-i.invariant.0
+returns c = done _ _ _ (omega arith) c.loop-i.invariant
 
 pub loop-i-init : goal.loop-i-init
-loop-i-init c = (record { size = c.requires.0; so_far = refl }, refl)
+loop-i-init c = record { size = c.requires.0; so_far = refl }

@@ -1,35 +1,16 @@
--- `hexadecimal::sum` meets its contract: what is summed and what is left make the whole sum.
+-- `hexadecimal::sum` meets its contract: what a fold of sums modulo 256 gives.
 -- Assumes nothing.
-use mathlib.Core.Path.{◌≡◌}
-use mathlib.Core.List.{List}
-use Prim.Native.Nat.{ℕ, ◌+◌, ◌<◌, ◌≤◌}
-use native.Mathlib.Omega.{arith}
-use lib.ListN.{length, get_or, drop, drop_of_length-le}
-use Rattle.lemmas.proofs.Lists.{next}
+use Rattle.std.proofs.Common.{◌≡◌, ◌∙◌, List, [], ◌∷◌, ℕ, ◌+◌, ◌%◌, ◌<◌, rules, arith, zero-add}
+use Rattle.std.specs.Prelude.{fold}
+use Rattle.std.proofs.iter.runs.Made.{chains}
 use Rattle.image_sheet.specs.Hex.{sum_of}
 use Rattle.hexadecimal.proofs.sum.Goals as goal
 
-turn : (l : List ℕ) (i : ℕ) → i < length l → sum_of (drop i l) ≡ get_or l i 0 + sum_of (drop (i + 1) l)
+-- a sum so far, and what is left
+summed : (l : List ℕ) (s : ℕ) → s < 256 → fold (λ (t x : ℕ). (t + x) % 256) s l ≡ (s + sum_of l) % 256
 unfolding sum_of
-turn l i h = rw (next l i h)
-
-done : (l : List ℕ) (i : ℕ) → length l ≤ i → sum_of (drop i l) ≡ 0
-unfolding sum_of
-done l i h = rw (drop_of_length-le l h)
-
-pub overflow_cast-sum : goal.overflow_cast-sum
-overflow_cast-sum c = omega (arith, c.type_inv.bytes c.loop-i.i)
-
-pub overflow_add-sum : goal.overflow_add-sum
-overflow_add-sum c = omega (arith, c.type_inv.bytes c.loop-i.i, c.loop-i.invariant.0)
-
-pub loop-i-preserved : goal.loop-i-preserved
-loop-i-preserved c = let l = c.args.bytes.now in
-    (omega arith, omega (arith, turn l c.loop-i.i c.loop-i-test.true, c.loop-i.invariant.1))
+summed [] s h = omega arith
+summed (x ∷ xs) s h = summed xs ((s + x) % 256) (omega arith) ∙ omega arith
 
 pub returns : goal.returns
-returns c = let l = c.args.bytes.now in
-    omega (arith, done l c.loop-i.i c.loop-i-test.false, c.loop-i.invariant.0, c.loop-i.invariant.1)
-
-pub loop-i-init : goal.loop-i-init
-loop-i-init c = (omega arith, omega arith)
+returns c = (let told : c.fold.result ≡ fold (λ (t x : ℕ). (t + x) % 256) 0 c.args.bytes.now = search (rules, chains) in rw (← zero-add (sum_of c.args.bytes.now)) (told ∙ summed c.args.bytes.now 0 (omega arith)))

@@ -1,10 +1,11 @@
 -- `hexrecord::read_record` meets its contract: no line, or the record of the line's digits.
 -- Assumes nothing.
-use mathlib.Core.Path.{◌≡◌, sym, ap, subst, ◌∙◌}
+use mathlib.Core.Path.{◌≡◌, refl, sym, ap, subst, ◌∙◌}
 use mathlib.Core.Bool.{true}
 use mathlib.Core.List.{List, ◌++◌}
 use Prim.Native.Nat.{ℕ, ◌+◌, ◌*◌, ◌-◌, ◌≤◌, ◌<◌}
 use native.Mathlib.Omega.{arith}
+use Rattle.std.specs.Prelude.{replicate}
 use lib.ListN.{length, take, drop, length-drop, length-append}
 use lib.Seq.{length-take-le, take_at}
 use Rattle.sheet.specs.Results.{Check}
@@ -78,27 +79,27 @@ slice_bounds-read-end c = let l = found_there c.args.file.now c.args.at c.line_a
 
 pub slice_bounds-bytes-end : goal.slice_bounds-bytes-end
 slice_bounds-bytes-end c = let l = found_there c.args.file.now c.args.at c.line_at.result (Some c.in-Some.line) c.line_at.ensures c.in-Some.is in
-    omega (arith, short c.args.file.now c.args.at c.in-Some.line.count c.in-Some.line.next l, c.longest-bytes.ensures)
+    omega (arith, short c.args.file.now c.args.at c.in-Some.line.count c.in-Some.line.next l)
 
 pub slice_bounds-read-end-in-Some : goal.slice_bounds-read-end-in-Some
 slice_bounds-read-end-in-Some c = let l = found_there c.args.file.now c.args.at c.line_at.result (Some c.in-Some.line) c.line_at.ensures c.in-Some.is in
-    sym (room c.args.file.now c.args.at c.in-Some.line.count c.in-Some.line.next l c.longest-bytes.result c.longest-bytes.ensures)
+    sym (room c.args.file.now c.args.at c.in-Some.line.count c.in-Some.line.next l (replicate 260 0) refl)
 
 pub read-requires : goal.read-requires
 read-requires c = let l = found_there c.args.file.now c.args.at c.line_at.result (Some c.in-Some.line) c.line_at.ensures c.in-Some.is in
-    (fills c.args.file.now c.args.at c.in-Some.line.count c.in-Some.line.next l c.longest-bytes.result c.longest-bytes.ensures, all-digits c.args.file.now c.args.at c.in-Some.line.count c.in-Some.line.next l c.longest-bytes.result c.longest-bytes.ensures)
+    (fills c.args.file.now c.args.at c.in-Some.line.count c.in-Some.line.next l (replicate 260 0) refl, all-digits c.args.file.now c.args.at c.in-Some.line.count c.in-Some.line.next l (replicate 260 0) refl)
 
 pub slice_bounds-bytes-end-in-Some : goal.slice_bounds-bytes-end-in-Some
 slice_bounds-bytes-end-in-Some c = let l = found_there c.args.file.now c.args.at c.line_at.result (Some c.in-Some.line) c.line_at.ensures c.in-Some.is in
-    there c.args.file.now c.args.at c.in-Some.line.count c.in-Some.line.next l c.longest-bytes.result c.longest-bytes.ensures c.read.new.bytes c.read.auto.bytes c.read.ensures
+    there c.args.file.now c.args.at c.in-Some.line.count c.in-Some.line.next l (replicate 260 0) refl c.read.new.bytes c.read.auto.bytes c.read.ensures
 
 pub slice_bounds-take-end : goal.slice_bounds-take-end
 slice_bounds-take-end c = let l = found_there c.args.file.now c.args.at c.line_at.result (Some c.in-Some.line) c.line_at.ensures c.in-Some.is in
-    sym (length-take-le _ _ (there c.args.file.now c.args.at c.in-Some.line.count c.in-Some.line.next l c.longest-bytes.result c.longest-bytes.ensures c.read.new.bytes c.read.auto.bytes c.read.ensures))
+    sym (length-take-le _ _ (there c.args.file.now c.args.at c.in-Some.line.count c.in-Some.line.next l (replicate 260 0) refl c.read.new.bytes c.read.auto.bytes c.read.ensures))
 
 pub take-requires : goal.take-requires
 take-requires c = let l = found_there c.args.file.now c.args.at c.line_at.result (Some c.in-Some.line) c.line_at.ensures c.in-Some.is in
-    whole c.args.file.now c.args.at c.in-Some.line.count c.in-Some.line.next l c.longest-bytes.result c.longest-bytes.ensures c.read.new.bytes c.read.auto.bytes c.read.ensures
+    whole c.args.file.now c.args.at c.in-Some.line.count c.in-Some.line.next l (replicate 260 0) refl c.read.new.bytes c.read.auto.bytes c.read.ensures
 
 pub returns-in-None : goal.returns-in-None
 returns-in-None c = let text = drop c.args.at c.args.file.now in
@@ -114,7 +115,7 @@ returns-in-Some c = let l = found_there c.args.file.now c.args.at c.line_at.resu
     let given = c.args.given.now in
     let at = c.args.at in
     let e = fault-line given at text l.is in
-    let are = bytes-are c.args.file.now c.args.at c.in-Some.line.count c.in-Some.line.next l c.longest-bytes.result c.longest-bytes.ensures c.read.new.bytes c.read.auto.bytes c.read.ensures in
+    let are = bytes-are c.args.file.now c.args.at c.in-Some.line.count c.in-Some.line.next l (replicate 260 0) refl c.read.new.bytes c.read.auto.bytes c.read.ensures in
     record {
       value = c.take.ensures.value
           ∙ (λ i. step_of (fault_of given at (are i)) (kind_of (are i)) (l.goes i))

@@ -1,6 +1,5 @@
-use mathlib.Core.Path.{◌≡◌}
 use mathlib.Core.List.{List}
-use Prim.Native.Nat.{ℕ, ◌+◌, ◌-◌, ◌/◌, ◌%◌}
+use Prim.Native.Nat.{ℕ, ◌+◌, ◌*◌, ◌/◌}
 use lib.ListN.{length}
 use Rattle.image_sheet.specs.Hex.{data_lines}
 use Rattle.text.proofs.Writing.{Writing}
@@ -10,8 +9,5 @@ use Rattle.image.proofs.put_data.Given as goal
 abbrev pub all : List ℕ → List ℕ
 all ram = data_lines ((length ram + 15) / 16) 0 ram
 
-abbrev pub invariant-loop-address : goal.invariant-loop-address
-invariant-loop-address l = Writing 0 (all l.ram) l.initial.out l.place (lines_from l.ram l.address) l.out × (l.address % 16 ≡ 0)
-
-abbrev pub decreases-loop-address : goal.decreases-loop-address
-decreases-loop-address l = length l.ram - l.address
+abbrev pub invariant-loop-i : goal.invariant-loop-i
+invariant-loop-i l = Writing 0 (all l.ram) l.initial.out l.place (lines_from l.ram (16 * l.i)) l.out

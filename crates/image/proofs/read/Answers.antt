@@ -61,12 +61,12 @@ pub slice_bounds-given-end-2 : goal.slice_bounds-given-end-2
 slice_bounds-given-end-2 c =
     there c.args.part c.args.chips c.args.file.now c.args.ram.now c.check_file.result c.check_file.ensures c.in_ok-check_file.was c.none_given-given.result c.none_given-given.ensures c.read_records.new.given c.read_records.auto.given
 
-pub slice_bounds-copy-end : goal.slice_bounds-copy-end
-slice_bounds-copy-end c = sym (length-take-le _ _
+pub slice_bounds-copy_from_slice-end : goal.slice_bounds-copy_from_slice-end
+slice_bounds-copy_from_slice-end c = sym (length-take-le _ _
     (there c.args.part c.args.chips c.args.file.now c.args.ram.now c.check_file.result c.check_file.ensures c.in_ok-check_file.was c.none_given-given.result c.none_given-given.ensures c.read_records.new.given c.read_records.auto.given))
 
-pub copy-requires : goal.copy-requires
-copy-requires c = sym (length-take-le _ _
+pub copy_from_slice-requires : goal.copy_from_slice-requires
+copy_from_slice-requires c = sym (length-take-le _ _
     (there c.args.part c.args.chips c.args.file.now c.args.ram.now c.check_file.result c.check_file.ensures c.in_ok-check_file.was c.none_given-given.result c.none_given-given.ensures c.read_records.new.given c.read_records.auto.given))
 
 pub returns-in_err-check_file : goal.returns-in_err-check_file
@@ -89,6 +89,6 @@ returns c = let a = c.args in
     let same = copied a.part a.chips a.file.now a.ram.now c.check_file.result c.check_file.ensures c.in_ok-check_file.was c.none_given-given.result c.none_given-given.ensures given c.read_records.auto.given in
     let size = long a.part a.chips a.file.now a.ram.now c.check_file.result c.check_file.ensures c.in_ok-check_file.was c.none_given-given.result c.none_given-given.ensures given c.read_records.auto.given in
     let n = numbered
-    (ap (λ (l : List ℕ). record { result = Ok (length a.ram.now); out = l }) (c.copy.ensures ∙ same)
+    (ap (λ (l : List ℕ). record { result = Ok (length a.ram.now); out = l }) (c.copy_from_slice.ensures.after ∙ same)
     ∙ all_read a.part a.chips a.file.now a.ram.now (sym c.check_file.ensures ∙ c.in_ok-check_file.was) given is size) in
     record { ram_after = n.0; result_value = n.1 }

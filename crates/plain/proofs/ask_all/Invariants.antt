@@ -5,6 +5,3 @@ use Rattle.plain.proofs.ask_all.Given as goal
 
 abbrev pub invariant-loop-i : goal.invariant-loop-i
 invariant-loop-i l = Lowered l.heard l.most l.chips l.i l.said
-
-abbrev pub decreases-loop-i : goal.decreases-loop-i
-decreases-loop-i l = l.i

@@ -1,6 +1,6 @@
 -- take_all: in the turn at i the first i chips have taken the bytes.
 -- Assumes nothing.
-use Rattle.std.proofs.Common.{◌-◌, ◌≡◌, ◌≤◌, ℕ, List}
+use Rattle.std.proofs.Common.{◌≡◌, ◌≤◌, ℕ, List}
 use Rattle.walks.proofs.Firsts.{first_of}
 use Rattle.sheet.specs.declared.Chip.{Chip}
 use Rattle.turns.specs.declared.Turn.{Turn}
@@ -13,6 +13,3 @@ pub record Taken (bytes : List ℕ) (turn : Turn) (count limit : ℕ) (chips₀ 
 
 abbrev pub invariant-loop-i : goal.invariant-loop-i
 invariant-loop-i l = Taken l.bytes l.turn l.count l.limit l.initial.chips l.chips l.i
-
-abbrev pub decreases-loop-i : goal.decreases-loop-i
-decreases-loop-i l = l.limit - l.i

@@ -19,15 +19,15 @@ use Rattle.price.proofs.read.Goals as goal
 passed : (segments : List ℕ) (mode : ℕ) (out : List ℕ) (k : Check) → k ≡ check_price (length segments) mode 160 (length out) → k ≡ Ok tt → Sizes (length segments) mode 160 (length out)
 passed segments mode out k told e = fits (length segments) mode 160 out k told e
 
-pub text_before-before-requires : goal.text_before-before-requires
-text_before-before-requires c = (passed c.args.segments.now c.args.mode c.args.out.now c.check_sizes.result c.check_sizes.ensures c.in_ok-check_sizes.was).enough
+pub before-before-requires : goal.before-before-requires
+before-before-requires c = (omega arith, (passed c.args.segments.now c.args.mode c.args.out.now c.check_sizes.result c.check_sizes.ensures c.in_ok-check_sizes.was).enough)
 
 pub put_texts-requires : goal.put_texts-requires
-put_texts-requires c = (passed c.args.segments.now c.args.mode c.args.out.now c.check_sizes.result c.check_sizes.ensures c.in_ok-check_sizes.was, c.text_before-before.ensures)
+put_texts-requires c = (passed c.args.segments.now c.args.mode c.args.out.now c.check_sizes.result c.check_sizes.ensures c.in_ok-check_sizes.was, c.before-before.ensures)
 
 pub settled-requires : goal.settled-requires
 settled-requires c = let s = passed c.args.segments.now c.args.mode c.args.out.now c.check_sizes.result c.check_sizes.ensures c.in_ok-check_sizes.was in
-    omega (arith, ap length c.text_before-before.ensures, length-take-le 160 c.args.out.now s.enough, c.put_texts.auto.out, s.enough)
+    omega (arith, ap length c.before-before.ensures, length-take-le 160 c.args.out.now s.enough, c.put_texts.auto.out, s.enough)
 
 pub returns-in_err-check_sizes : goal.returns-in_err-check_sizes
 unfolding price_read
@@ -37,6 +37,6 @@ returns-in_err-check_sizes c = let n = numbered (refused (length c.args.segments
 pub returns : goal.returns
 unfolding price_read
 returns c = let n = numbered
-    (c.settled.ensures ∙ ap (λ (front : List ℕ). settled c.put_texts.result front c.put_texts.new.out) c.text_before-before.ensures
+    (c.settled.ensures ∙ ap (λ (front : List ℕ). settled c.put_texts.result front c.put_texts.new.out) c.before-before.ensures
     ∙ taken (length c.args.segments.now) c.args.mode 160 c.args.out.now c.check_sizes.result c.check_sizes.ensures c.in_ok-check_sizes.was c.put_texts.ensures) in
     record { out_after = n.0; result_value = n.1 }

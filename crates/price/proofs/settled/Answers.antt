@@ -15,4 +15,4 @@ returns-in-Ok c = rw c.in-Ok.is refl
 
 pub returns-in-Err : goal.returns-in-Err
 unfolding settled
-returns-in-Err c = rw c.in-Err.is (ap (λ (l : List ℕ). record { result = Err c.in-Err.refusal; out = l ++ drop (length c.args.before.now) c.args.out.now }) c.copy.ensures)
+returns-in-Err c = rw c.in-Err.is (ap (λ (l : List ℕ). record { result = Err c.in-Err.refusal; out = l ++ drop (length c.args.before.now) c.args.out.now }) c.copy_from_slice.ensures.after)

@@ -19,15 +19,15 @@ use Rattle.price.proofs.write.Goals as goal
 passed : (text : List ℕ) (mode : ℕ) (out : List ℕ) (k : Check) → k ≡ check_price (length text) mode 80 (length out) → k ≡ Ok tt → Sizes (length text) mode 80 (length out)
 passed text mode out k told e = fits (length text) mode 80 out k told e
 
-pub bytes_before-before-requires : goal.bytes_before-before-requires
-bytes_before-before-requires c = (passed c.args.text.now c.args.mode c.args.out.now c.check_sizes.result c.check_sizes.ensures c.in_ok-check_sizes.was).enough
+pub before-before-requires : goal.before-before-requires
+before-before-requires c = (omega arith, (passed c.args.text.now c.args.mode c.args.out.now c.check_sizes.result c.check_sizes.ensures c.in_ok-check_sizes.was).enough)
 
 pub put_bytes-requires : goal.put_bytes-requires
 put_bytes-requires c = passed c.args.text.now c.args.mode c.args.out.now c.check_sizes.result c.check_sizes.ensures c.in_ok-check_sizes.was
 
 pub settled-requires : goal.settled-requires
 settled-requires c = let s = passed c.args.text.now c.args.mode c.args.out.now c.check_sizes.result c.check_sizes.ensures c.in_ok-check_sizes.was in
-    omega (arith, ap length c.bytes_before-before.ensures, length-take-le 80 c.args.out.now s.enough, c.put_bytes.auto.out, s.enough)
+    omega (arith, ap length c.before-before.ensures, length-take-le 80 c.args.out.now s.enough, c.put_bytes.auto.out, s.enough)
 
 pub returns-in_err-check_sizes : goal.returns-in_err-check_sizes
 unfolding price_write
@@ -37,6 +37,6 @@ returns-in_err-check_sizes c = let n = numbered (refused (length c.args.text.now
 pub returns : goal.returns
 unfolding price_write
 returns c = let n = numbered
-    (c.settled.ensures ∙ ap (λ (front : List ℕ). settled c.put_bytes.result front c.put_bytes.new.out) c.bytes_before-before.ensures
+    (c.settled.ensures ∙ ap (λ (front : List ℕ). settled c.put_bytes.result front c.put_bytes.new.out) c.before-before.ensures
     ∙ taken (length c.args.text.now) c.args.mode 80 c.args.out.now c.check_sizes.result c.check_sizes.ensures c.in_ok-check_sizes.was c.put_bytes.ensures) in
     record { out_after = n.0; result_value = n.1 }

@@ -14,12 +14,12 @@ regroup : (a b c : Bool) → ((a && b) && c) ≡ (a && (b && c))
 regroup true b c = refl
 regroup false b c = refl
 
-pub loop-i-preserved : goal.loop-i-preserved
-loop-i-preserved c = let a = c.args in
+pub loop-command-preserved : goal.loop-command-preserved
+loop-command-preserved c = let a = c.args in
     let K = part_of a.part in
-    let i = c.loop-i.i in
-    ap (λ (t : Bool). (c.loop-i.found && t) && all_defined K (drop (i + 1) a.commands.now)) c.is_defined-found.ensures
-    ∙ regroup c.loop-i.found _ _ ∙ ap (λ (t : Bool). c.loop-i.found && t) (sym (all-next K a.commands.now i c.loop-i-test.true)) ∙ c.loop-i.invariant
+    let i = c.loop-command.command-index in
+    ap (λ (t : Bool). (c.loop-command.found && t) && all_defined K (drop (i + 1) a.commands.now)) c.is_defined-found.ensures
+    ∙ regroup c.loop-command.found _ _ ∙ ap (λ (t : Bool). c.loop-command.found && t) (sym (all-next K a.commands.now i c.loop-command-test.true)) ∙ c.loop-command.invariant
 
 -- nothing is left
 all_found : (t : Bool) → t ≡ (t && true)
@@ -28,7 +28,7 @@ all_found false = refl
 
 pub returns : goal.returns
 returns c = let a = c.args in
-    all_found c.loop-i.found ∙ ap (λ (t : Bool). c.loop-i.found && t) (sym (all-of-none (part_of a.part) a.commands.now c.loop-i.i c.loop-i-test.false)) ∙ c.loop-i.invariant
+    all_found c.loop-command.found ∙ ap (λ (t : Bool). c.loop-command.found && t) (sym (all-of-none (part_of a.part) a.commands.now c.loop-command.command-index c.loop-command-test.false)) ∙ c.loop-command.invariant
 
-pub loop-i-init : goal.loop-i-init
-loop-i-init c = refl
+pub loop-command-init : goal.loop-command-init
+loop-command-init c = refl

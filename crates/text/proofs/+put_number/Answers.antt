@@ -1,10 +1,10 @@
 -- `text::put_number` meets its contract, by the number: one digit, or the digits of its tenth and one more.
 -- Assumes nothing.
-use Rattle.std.proofs.Common.{List, [], ◌∷◌, ◌++◌, ℕ, ◌+◌, ◌/◌, ◌%◌, ◌≤◌, length, ap, arith}
+use Rattle.std.proofs.Common.{List, [], ◌∷◌, ◌++◌, ℕ, ◌+◌, ◌/◌, ◌%◌, ◌≤◌, length, arith}
 use native.Mathlib.Nat.{mod-lt}
 use Rattle.log_sheet.specs.Logs.{decimal}
 use Rattle.text.proofs.Writing.{Writing, begin, rest-is, turn, last, room_for}
-use Rattle.text.proofs.Decimals.{one-digit, more-digits}
+use Rattle.text.proofs.Decimals.{more-digits}
 use Rattle.text.proofs.+put_number.Goals as goal
 
 -- the digits of the tenth are to be written, and the last one

@@ -16,21 +16,21 @@ unfolding spaced
 one_more numbers i h = rw (next numbers i h)
 
 pub put_byte-after-requires : goal.put_byte-after-requires
-put_byte-after-requires c = room_for (32 ∷ []) _ (rest-is c.loop-i.invariant (one_more c.args.numbers.now c.loop-i.i c.loop-i-test.true))
+put_byte-after-requires c = room_for (32 ∷ []) _ (rest-is c.loop-number.invariant (one_more c.args.numbers.now c.loop-number.number-index c.loop-number-test.true))
 
 -- a space is written, and the number is the next part
 after-space : (numbers : List ℕ) (i : ℕ) {at₀ place place₂ : ℕ} {whole out₀ out out₂ : List ℕ} → Writing at₀ whole out₀ place (spaced (drop i numbers)) out → i < length numbers → Puts place (32 ∷ []) out out₂ place₂ → Writing at₀ whole out₀ place₂ (decimal (get_or numbers i 0) ++ spaced (drop (i + 1) numbers)) out₂
 after-space numbers i w h p = turn (rest-is w (one_more numbers i h)) p
 
 pub put_decimal-place-requires : goal.put_decimal-place-requires
-put_decimal-place-requires c = room_for (decimal _) _ (after-space c.args.numbers.now c.loop-i.i c.loop-i.invariant c.loop-i-test.true c.put_byte-after.ensures)
+put_decimal-place-requires c = room_for (decimal _) _ (after-space c.args.numbers.now c.loop-number.number-index c.loop-number.invariant c.loop-number-test.true c.put_byte-after.ensures)
 
-pub loop-i-preserved : goal.loop-i-preserved
-loop-i-preserved c = turn (after-space c.args.numbers.now c.loop-i.i c.loop-i.invariant c.loop-i-test.true c.put_byte-after.ensures) c.put_decimal-place.ensures
+pub loop-number-preserved : goal.loop-number-preserved
+loop-number-preserved c = turn (after-space c.args.numbers.now c.loop-number.number-index c.loop-number.invariant c.loop-number-test.true c.put_byte-after.ensures) c.put_decimal-place.ensures
 
 pub returns : goal.returns
 unfolding spaced
-returns c = done (rest-is c.loop-i.invariant (rw (drop_of_length-le c.args.numbers.now c.loop-i-test.false)))
+returns c = done (rest-is c.loop-number.invariant (rw (drop_of_length-le c.args.numbers.now c.loop-number-test.false)))
 
-pub loop-i-init : goal.loop-i-init
-loop-i-init c = begin _ _ _ c.requires
+pub loop-number-init : goal.loop-number-init
+loop-number-init c = begin _ _ _ c.requires

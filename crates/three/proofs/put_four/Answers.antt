@@ -1,9 +1,9 @@
 -- `three::put_four` meets its contract: four turns.
 -- Assumes nothing.
-use mathlib.Core.Path.{◌≡◌, refl, sym, ap₂, ◌∙◌}
+use mathlib.Core.Path.{◌≡◌, sym, ap₂, ◌∙◌}
 use mathlib.Core.List.{List}
 use Prim.Native.Nat.{ℕ, ◌+◌, ◌-◌, ◌*◌, ◌≤◌, ◌<◌}
-use native.Mathlib.Nat.{add-sub_cancel_left, add_assoc}
+use native.Mathlib.Nat.{add-sub_cancel_left, add_assoc, mul-zero}
 use native.Mathlib.Omega.{arith}
 use lib.ListN.{length, take, drop, length-take, length-drop}
 use Rattle.sheet.specs.Parts.{part_of}
@@ -11,7 +11,7 @@ use Rattle.writer_sheet.specs.Three.{byte_at}
 use Rattle.laws.proofs.Named.{has_columns}
 use Rattle.words.specs.Fields.{column_of}
 use Rattle.three.proofs.Placed.{pair-at}
-use Rattle.three.proofs.Putting.{step_of, step_small, Putting, begun, room, turn, done, one_pair}
+use Rattle.three.proofs.Putting.{step_of, step_small, Putting, begun, room, turn_by, done, one_pair}
 use Rattle.three.proofs.put_four.Goals as goal
 
 -- the next byte has its place
@@ -30,7 +30,7 @@ put_byte-requires c = (
     first = c.requires.first;
     inside = omega (arith, c.requires.inside, c.loop-i-test.true);
     few = omega (arith, c.requires.there, c.requires.few, has_columns c.args.part);
-    room = part-long c.loop-i.out c.loop-i.at c.byte_size-size.result (fits c.args.part (c.args.c + c.args.p) c.loop-i.i c.byte_size-size.ensures c.requires.room c.loop-i-test.true c.loop-i.invariant).0 ∙ c.byte_size-size.ensures;
+    room = part-long c.loop-i.out (c.byte_size-size.result * c.loop-i.i) c.byte_size-size.result (fits c.args.part (c.args.c + c.args.p) c.loop-i.i c.byte_size-size.ensures c.requires.room c.loop-i-test.true c.loop-i.invariant).0 ∙ c.byte_size-size.ensures;
   },
   omega arith,
 )
@@ -40,10 +40,11 @@ unfolding column_of
 loop-i-preserved c = let a = c.args in
     let K = part_of a.part in
     let i = c.loop-i.i in
+    let size = c.byte_size-size.result in
     let wanted = a.wanted.now in
-    let size : c.byte_size-size.result ≡ step_of K * 1 = omega (arith, c.byte_size-size.ensures) in
-    rw (add-sub_cancel_left c.loop-i.at c.byte_size-size.result, size)
-    (turn 1 refl (omega arith) c.requires.room (omega (arith, c.loop-i-test.true)) (c.put_byte.auto.out ∙ part-long c.loop-i.out c.loop-i.at c.byte_size-size.result (fits c.args.part (c.args.c + c.args.p) c.loop-i.i c.byte_size-size.ensures c.requires.room c.loop-i-test.true c.loop-i.invariant).0 ∙ size)
+    let is : size ≡ step_of K * 1 = omega (arith, c.byte_size-size.ensures) in
+    rw (add-sub_cancel_left (size * i) size)
+    (turn_by 1 is (omega arith) (omega arith) c.requires.room (omega (arith, c.loop-i-test.true)) (c.put_byte.auto.out ∙ part-long c.loop-i.out (size * i) size (fits c.args.part (c.args.c + c.args.p) i c.byte_size-size.ensures c.requires.room c.loop-i-test.true c.loop-i.invariant).0)
     (c.put_byte.ensures
     ∙ ap₂ (λ (k x : ℕ). byte_at K k x) (sym (add_assoc a.c a.p (2 * i))) (pair-at wanted (a.c + a.p) _ i c.pair_bytes-word.ensures c.loop-i-test.true)
     ∙ one_pair K (a.c + a.p + 2 * i) wanted)
@@ -56,7 +57,7 @@ pub pair_bytes-word-requires : goal.pair_bytes-word-requires
 pair_bytes-word-requires c = omega (arith, c.requires.there, c.requires.inside)
 
 pub loop-i-init : goal.loop-i-init
-loop-i-init c = begun
+loop-i-init c = rw mul-zero begun
 
 pub overflow_mul-x : goal.overflow_mul-x
 overflow_mul-x c = omega (arith, c.loop-i-test.true)
@@ -84,18 +85,6 @@ slice_bounds-put_byte-start c = omega arith
 
 pub slice_bounds-put_byte-end : goal.slice_bounds-put_byte-end
 slice_bounds-put_byte-end c = omega (arith, (fits c.args.part (c.args.c + c.args.p) c.loop-i.i c.byte_size-size.ensures c.requires.room c.loop-i-test.true c.loop-i.invariant).0)
-
-pub overflow_add-at-in-loop-i : goal.overflow_add-at-in-loop-i
-overflow_add-at-in-loop-i c = omega (arith, (fits c.args.part (c.args.c + c.args.p) c.loop-i.i c.byte_size-size.ensures c.requires.room c.loop-i-test.true c.loop-i.invariant).0, (fits c.args.part (c.args.c + c.args.p) c.loop-i.i c.byte_size-size.ensures c.requires.room c.loop-i-test.true c.loop-i.invariant).1)
-
-pub overflow_add-i : goal.overflow_add-i
-overflow_add-i c = omega (arith, c.loop-i-test.true)
-
-pub loop-i-smaller : goal.loop-i-smaller
-loop-i-smaller c = omega (arith, c.loop-i-test.true)
-
-pub shape_of-out : goal.shape_of-out
-shape_of-out c = c.loop-i.invariant.long
 
 pub returns : goal.returns
 returns c = done c.requires.room (omega (arith, c.loop-i-test.false)) c.loop-i.invariant

@@ -1,6 +1,6 @@
 use mathlib.Core.Path.{◌≡◌}
 use mathlib.Core.List.{List}
-use Prim.Native.Nat.{ℕ, ◌-◌, ◌≤◌}
+use Prim.Native.Nat.{ℕ, ◌≤◌}
 use lib.ListN.{length, take}
 use Rattle.sheet.specs.declared.Chip.{Chip}
 use Rattle.wire.specs.Bytes.{list_in}
@@ -14,6 +14,3 @@ pub record Filled (bytes : List ℕ) (count : ℕ) (chips : List Chip) (i : ℕ)
 
 abbrev pub invariant-loop-i : goal.invariant-loop-i
 invariant-loop-i l = Filled l.bytes l.count l.chips l.i
-
-abbrev pub decreases-loop-i : goal.decreases-loop-i
-decreases-loop-i l = l.count - l.i

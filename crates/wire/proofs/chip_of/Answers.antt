@@ -10,10 +10,10 @@ use Rattle.wire.proofs.chip_of.Goals as goal
 pub returns : goal.returns
 returns c = let bytes = c.args.bytes.now in
     let registers = c.registers_of.ensures ∙ ap registers_in (part-rest bytes 162) in
-    λ j. record { columns = c.copy.ensures j; sa0 = get_or bytes 160 0; subaddress = get_or bytes 161 0; registers = registers j }
+    λ j. record { columns = c.copy_from_slice.ensures.after j; sa0 = get_or bytes 160 0; subaddress = get_or bytes 161 0; registers = registers j }
 
-pub slice_bounds-copy-end : goal.slice_bounds-copy-end
-slice_bounds-copy-end c = simp length-take (omega arith)
+pub copy_from_slice-requires : goal.copy_from_slice-requires
+copy_from_slice-requires c = simp length-take (omega arith)
 
-pub copy-requires : goal.copy-requires
-copy-requires c = simp length-take (omega arith)
+pub slice_bounds-copy_from_slice-end-2 : goal.slice_bounds-copy_from_slice-end-2
+slice_bounds-copy_from_slice-end-2 c = simp length-take (omega arith)

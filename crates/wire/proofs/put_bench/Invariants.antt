@@ -1,6 +1,6 @@
 use mathlib.Core.Path.{◌≡◌}
 use mathlib.Core.List.{List}
-use Prim.Native.Nat.{ℕ, ◌-◌, ◌*◌, ◌≤◌}
+use Prim.Native.Nat.{ℕ, ◌*◌, ◌≤◌}
 use lib.ListN.{length, take}
 use Rattle.sheet.specs.declared.Chip.{Chip}
 use Rattle.wire.specs.Bytes.{list_bytes}
@@ -14,6 +14,3 @@ pub record Put (chips : List Chip) (count : ℕ) (out : List ℕ) (i : ℕ) : Ty
 
 abbrev pub invariant-loop-i : goal.invariant-loop-i
 invariant-loop-i l = Put l.chips l.count l.out l.i
-
-abbrev pub decreases-loop-i : goal.decreases-loop-i
-decreases-loop-i l = l.count - l.i
