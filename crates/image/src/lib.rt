@@ -100,6 +100,7 @@ fn read_records(file: &[u8], given: &mut [u8]) -> Check
     ensures { image result given.new ≡ image_from 0 given.old file.now }
 {
     let mut at = 0;
+    // a record says where the next one begins, which no `for` goes by
     while at < file.len() {
         match hexrecord::read_record(file, given, at) {
             Step::Next(next) => at = next,
