@@ -65,8 +65,8 @@ fn take_all(chips: &mut [Chip], bytes: &[u8], turn: Turn, count: usize)
     ensures { chips.new ≡ map (taken_by bytes.now turn count) chips.old }
 {
     let limit = turns::reach(turn, count, chips.len());
-    for i in 0..limit {
-        chips[i] = turns::take(bytes, chips[i], turn, count);
+    for chip in &mut chips[..limit] {
+        *chip = turns::take(bytes, *chip, turn, count);
     }
 }
 
