@@ -96,6 +96,7 @@ fn read_records(file: &[u8], given: &mut [u8]) -> Result<(), Refusal>
     ensures { image result given.new ≡ image_from 0 given.old file.now }
 {
     let mut at = 0;
+    // a record says where the next one begins, which no `for` goes by
     while at < file.len() {
         let step = hexrecord::read_record(file, given, at)?;
         match step {

@@ -52,11 +52,10 @@ fn found(chips: &[Chip], part: u8, called: u8) -> Found
 fn ask_all(chips: &[Chip], heard: BusByte, most: usize) -> Said
     ensures { result ≡ said_by heard most chips.now }
 {
-    let mut said = turns::nothing_said(most);
-    for i in (0..chips.len()).rev() {
-        said = turns::say_with(chips[i], heard, said);
-    }
-    said
+    chips.iter().rev().fold(
+        turns::nothing_said(most),
+        |said, chip| turns::say_with(*chip, heard, said),
+    )
 }
 
 // Every chip takes them, if they change any.
@@ -65,8 +64,8 @@ fn take_all(chips: &mut [Chip], bytes: &[u8], turn: Turn, count: usize)
     ensures { chips.new ≡ map (taken_by bytes.now turn count) chips.old }
 {
     let limit = turns::reach(turn, count, chips.len());
-    for i in 0..limit {
-        chips[i] = turns::take(bytes, chips[i], turn, count);
+    for chip in &mut chips[..limit] {
+        *chip = turns::take(bytes, *chip, turn, count);
     }
 }
 

@@ -1,6 +1,7 @@
--- take_all: in the turn at i the first i chips have taken the bytes.
+-- take_all: in the turn at i the first i of the chips that the turn reaches have taken the bytes.
 -- Assumes nothing.
 use Rattle.std.proofs.Common.{◌≡◌, ◌≤◌, ℕ, List}
+use lib.ListN.{take}
 use Rattle.walks.proofs.Firsts.{first_of}
 use Rattle.sheet.specs.declared.Chip.{Chip}
 use Rattle.turns.specs.declared.Turn.{Turn}
@@ -11,5 +12,5 @@ pub record Taken (bytes : List ℕ) (turn : Turn) (count limit : ℕ) (chips₀ 
   pub so_far : chips ≡ first_of (taken_by bytes turn count) i chips₀
   pub most : i ≤ limit
 
-abbrev pub invariant-loop-i : goal.invariant-loop-i
-invariant-loop-i l = Taken l.bytes l.turn l.count l.limit l.initial.chips l.chips l.i
+abbrev pub invariant-loop-chip : goal.invariant-loop-chip
+invariant-loop-chip l = Taken l.bytes l.turn l.count l.limit (take l.limit l.fn.chips) l.chip-items l.chip-index
