@@ -5,14 +5,14 @@ use Prim.Native.Nat.{ℕ, ◌≤◌, ◌<◌}
 use native.Mathlib.Omega.{arith}
 use lib.Count.{ones}
 use lib.ListN.{get_or}
-use Rattle.sheet.specs.declared.Shown.TheVariants.{Rows}
+use Rattle.std.specs.Prelude.{Some}
 use Rattle.sheet.specs.Pictures.{lit}
 use Rattle.laws.proofs.Lit.{rows-lit}
 use Rattle.picture.proofs.Drawing.{begun, few, one-turn}
 use Rattle.picture.proofs.draw_some.Goals as goal
 
 -- a column has no more ones than rows, and there are few columns
-ones-few : (height first q value : ℕ) → value ≡ lit height (Rows first) q → height < 5 → ones value ≤ 4
+ones-few : (height first q value : ℕ) → value ≡ lit height (Some first) q → height < 5 → ones value ≤ 4
 ones-few height first q value e rows = rw e (omega (arith, rows-lit height first q, rows))
 
 pub overflow_add-ones : goal.overflow_add-ones
