@@ -9,7 +9,8 @@ ghost use Rattle.sheet.specs.Data.{bit_of, with_row, width_of};
 
 use sheet::Registers;
 
-// ---- a part by its number. Only here are its numbers told apart: a division is by a literal on either side
+// ---- a part by its number, any: no narrower type, since each function and call promises its answer of every number (`part_of`) and 16 refuses the others.
+// Only here are its numbers told apart: a division is by a literal on either side
 
 // The columns of a chip.
 pub fn columns(part: u8) -> usize

@@ -49,6 +49,7 @@ fn put_transfers(
     let mut index = 0;
     let mut at = 0;
     let mut cursor = Cursor { at: 3, seen };
+    // a record says where the next one begins, which no `for` goes by
     while let Record::Body { start, size, count } = cursor.read(log) {
         let end = start + size;
         let from = start + seen;

@@ -18,6 +18,7 @@ pub fn read_input<R: Read>(input: &mut R, buffer: &mut [u8]) -> io::Result<usize
     ensures { IfOk result (λ n. n ≤ length buffer.new) }
 {
     let mut done = 0;
+    // a read says how much it brought, which no `for` goes by
     while done < buffer.len() {
         let more = input.read(&mut buffer[done..])?;
         if more == 0 {

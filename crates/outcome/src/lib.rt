@@ -16,12 +16,8 @@ fn carry_out(log: &[u8], chips: Chips, initial: Both, ram: &mut [u8])
     let seen = records::seen_bytes(log);
     let mut registers = initial;
     let mut cursor = Cursor { at: 3, seen };
-    while let Record::Body {
-        start,
-        size,
-        count: _,
-    } = cursor.read(log)
-    {
+    // a record says where the next one begins, which no `for` goes by
+    while let Record::Body { start, size, .. } = cursor.read(log) {
         let end = start + size;
         let from = start + seen;
         let done = long::transfer(

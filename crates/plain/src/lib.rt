@@ -76,6 +76,7 @@ fn follow(chips: &mut [Chip], bytes: &[u8], start: Turn) -> Tally
     ensures chips_after { chips.new ≡ (followed chips.old bytes.now start).chips }
 {
     let mut turn = start;
+    // a turn says how many bytes it took, which no `for` goes by
     while turn.at < bytes.len() {
         let most = turns::most_in(bytes, turn);
         let said = ask_all(chips, turn.heard, most);

@@ -11,7 +11,7 @@ ghost use Rattle.words.specs.Fields.{three_columns};
 ghost use Rattle.ram.specs.Writes.{Whole, Cut};
 ghost use Rattle.ram.specs.Tables.{static_columns, first_bits, last_bits};
 
-// One row of a column. A column past the end is nobody's.
+// One row of a column. A column past the end is nobody's. By `get_mut` its two goals at the return do not close.
 fn put_row(ram: &mut [u8], at: usize, row: usize, bit: u8)
     requires { (row < 4) × (bit < 2) }
     ensures { ram.new ≡ changed (with_row row bit) at ram.old }

@@ -114,14 +114,11 @@ pub fn check_records(log: &[u8]) -> Result<(), Refusal>
 {
     let seen = seen_bytes(log);
     let mut at = 3;
+    // a record says where the next one begins, which no `for` goes by
     loop {
         let cursor = Cursor { at, seen };
         match cursor.read(log) {
-            Record::Body {
-                start,
-                size,
-                count: _,
-            } => at = start + size,
+            Record::Body { start, size, .. } => at = start + size,
             Record::End => return Ok(()),
             Record::Cut => return Err(Refusal::CutRecord(at)),
             Record::Short => return Err(Refusal::ShortBody(at)),

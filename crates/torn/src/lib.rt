@@ -22,12 +22,8 @@ fn whole_of(log: &[u8]) -> Whole
     let seen = records::seen_bytes(log);
     let mut count = 0;
     let mut cursor = Cursor { at: 3, seen };
-    while let Record::Body {
-        start,
-        size,
-        count: _,
-    } = cursor.read(log)
-    {
+    // a record says where the next one begins, which no `for` goes by
+    while let Record::Body { start, size, .. } = cursor.read(log) {
         let end = start + size;
         count += 1;
         cursor = Cursor { at: end, seen };
