@@ -4,7 +4,6 @@ use mathlib.Core.Path.{sym, ap, subst, ◌∙◌}
 use native.Mathlib.Omega.{arith}
 use Rattle.sheet.specs.declared.Registers.{Registers}
 use Rattle.std.specs.Prelude.{Ok}
-use Rattle.sheet.specs.Results.{Answer}
 use Rattle.sheet.specs.Parts.{part_of}
 use Rattle.sheet.specs.Protocol.{sent, cut_data}
 use Rattle.sheet.specs.Long.{replaced}

@@ -7,7 +7,7 @@ use Prim.Native.Nat.{ℕ}
 use lib.ListN.{length}
 use Rattle.sheet.specs.declared.Registers.{Registers}
 use Rattle.std.specs.Prelude.{Ok}
-use Rattle.sheet.specs.Results.{Check, Pictured}
+use Rattle.sheet.specs.Results.{Check}
 use Rattle.sheet.specs.declared.Both.{Both}
 use Rattle.sheet.specs.declared.Chips.{Chips}
 use Rattle.refused.specs.Fitting.{fitting, picture_by}
