@@ -7,6 +7,7 @@ ghost use Rattle.sheet.specs.Long.{transfer_part};
 ghost use Rattle.plain.specs.Benches.{bench_transferred};
 ghost use Rattle.accounts.specs.Alike.{Alike, Agreed};
 
+use groups::Bus;
 use plain::{Bench, BenchTransferred};
 use sheet::{Both, Chips, Transferred};
 
@@ -32,6 +33,11 @@ pub fn side_by_side(
     ensures agreed { Agreed part chips ram.new result }
 {
     let plain = plain::transfer_bench(part, bench, bytes, bits);
-    let long = long::transfer(part, chips, false, registers, ram, bytes, bits);
+    let bus = Bus {
+        part,
+        chips,
+        packed: false,
+    };
+    let long = long::transfer(bus, registers, ram, bytes, bits);
     Sides { long, plain }
 }

@@ -14,7 +14,7 @@ ghost use Rattle.records.specs.Found.{AllCounted};
 ghost use Rattle.buslog.specs.Asked.{Listable, Playable};
 ghost use Rattle.buslog.specs.Replays.{replay_call, Inside};
 
-use lent_group::Bus;
+use groups::Bus;
 use records::{Cursor, Record};
 use sheet::{Both, Chips, Refusal};
 
@@ -97,16 +97,12 @@ fn put_group(
 {
     let mut picture = blank_picture();
     let shown = groups::registers_of(group, registers);
-    let lit = long::show_in(
-        sheet::PCF8532,
+    let bus = Bus {
+        part: sheet::PCF8532,
         chips,
-        group,
-        shown,
-        ram,
-        false,
-        0,
-        &mut picture[..size],
-    );
+        packed: false,
+    };
+    let lit = long::show_in(bus, group, shown, ram, 0, &mut picture[..size]);
     let after = lines::put_columns(out, at, group as usize, &picture[..size]);
     Listed { at: after, lit }
 }
@@ -130,7 +126,12 @@ fn play(log: &[u8], chips: Chips, ram: &mut [u8], out: &mut [u8]) -> usize
     requires { Playable log.now chips ram.old out.old }
     ensures { Puts 0 (log_lines (seen_bytes log.now) chips (log_records log.now).bodies) out.old out.new result }
 {
-    let on = long::power_on(sheet::PCF8532, chips, ram, false);
+    let bus = Bus {
+        part: sheet::PCF8532,
+        chips,
+        packed: false,
+    };
+    let on = long::power_on(bus, ram);
     let mut registers = [0; 24];
     wire::put_both(on.registers, &mut registers);
     let at = put_transfers(log, chips, &mut registers, ram, out);

@@ -8,7 +8,7 @@ ghost use Rattle.buslog.specs.Replays.{replay_call};
 ghost use Rattle.lent_long.specs.LongCalls.{power_on_c, transfer_c, picture_c};
 ghost use Rattle.cabi.specs.Calls.{chips_of, packed_power_on_c, packed_transfer_c, packed_picture_c, chip_power_on_c, chip_picture_c, plain_c, write_rows_c, write_three_c, hex_write_c, hex_read_c, price_write_c, price_read_c, rescue_c, replay_number};
 
-use lent_group::Bus;
+use groups::Bus;
 use sheet::Chips;
 
 fn bus_of(part: u8, zero: u8, one: u8, packed: bool) -> Bus

@@ -1,13 +1,21 @@
 // The two groups on the bus: who hears a transfer, and a group's chips, registers and part of the RAM.
 #![tactic(auto)]
 
-ghost use Rattle.std.specs.Prelude.{◌≡◌, cond, ◌/◌};
+ghost use Rattle.std.specs.Prelude.{◌≡◌, cond, ◌*◌, ◌/◌};
 ghost use Rattle.sheet.specs.Parts.{part_of};
 ghost use Rattle.sheet.specs.Registers.{registers_of};
 ghost use Rattle.sheet.specs.Protocol.{heard_by, chips_in};
 ghost use Rattle.sheet.specs.Long.{replaced, start_of, end_of};
 
 use sheet::{Both, Chips, Registers};
+
+// A bus as a call is told of it: the part, the chips of each group, and whether their columns are packed.
+#[derive(Clone, Copy)]
+pub struct Bus {
+    pub part: u8,
+    pub chips: Chips,
+    pub packed: bool,
+}
 
 // The group that hears an address byte. An empty transfer has none, and the 0 that stands for it is nobody's.
 pub fn heard_by(chips: Chips, address: u8) -> Option<u8>
@@ -52,34 +60,43 @@ pub fn replaced(group: u8, after: Registers, mut registers: Both) -> Both
     registers
 }
 
-// Where a group's columns begin in the RAM.
-fn start_of(part: u8, chips: Chips, group: u8) -> usize
-    ensures { result ≡ start_of (part_of part) chips group }
-{
-    if group == 0 {
-        0
-    } else {
-        arithmetic::columns_in(part, chips.zero as u16)
+impl Bus {
+    // How many columns a group has.
+    pub fn columns_of(self, group: u8) -> usize
+        ensures { result ≡ (part_of self.part).columns * chips_in group self.chips }
+    {
+        arithmetic::columns_in(self.part, chips_in(group, self.chips) as u16)
     }
-}
 
-// And where they end.
-fn end_of(part: u8, chips: Chips, group: u8) -> usize
-    ensures { result ≡ end_of (part_of part) chips group }
-{
-    start_of(part, chips, group) + arithmetic::columns_in(part, chips_in(group, chips) as u16)
-}
+    // Where they begin in the RAM.
+    fn start_of(self, group: u8) -> usize
+        ensures { result ≡ start_of (part_of self.part) self.chips group }
+    {
+        if group == 0 {
+            0
+        } else {
+            arithmetic::columns_in(self.part, self.chips.zero as u16)
+        }
+    }
 
-// The bytes of the RAM that hold them, a byte a column or packed: the first.
-pub fn start_in(part: u8, chips: Chips, group: u8, packed: bool) -> usize
-    ensures { result ≡ cond packed (start_of (part_of part) chips group / 2) (start_of (part_of part) chips group) }
-{
-    arithmetic::byte_of(start_of(part, chips, group), packed)
-}
+    // And where they end.
+    fn end_of(self, group: u8) -> usize
+        ensures { result ≡ end_of (part_of self.part) self.chips group }
+    {
+        self.start_of(group) + self.columns_of(group)
+    }
 
-// And the end of them.
-pub fn end_in(part: u8, chips: Chips, group: u8, packed: bool) -> usize
-    ensures { result ≡ cond packed (end_of (part_of part) chips group / 2) (end_of (part_of part) chips group) }
-{
-    arithmetic::byte_of(end_of(part, chips, group), packed)
+    // The bytes of the RAM that hold them, a byte a column or packed: the first.
+    pub fn start_in(self, group: u8) -> usize
+        ensures { result ≡ cond self.packed (start_of (part_of self.part) self.chips group / 2) (start_of (part_of self.part) self.chips group) }
+    {
+        arithmetic::byte_of(self.start_of(group), self.packed)
+    }
+
+    // And the end of them.
+    pub fn end_in(self, group: u8) -> usize
+        ensures { result ≡ cond self.packed (end_of (part_of self.part) self.chips group / 2) (end_of (part_of self.part) self.chips group) }
+    {
+        arithmetic::byte_of(self.end_of(group), self.packed)
+    }
 }

@@ -8,6 +8,7 @@ ghost use Rattle.image_sheet.specs.Images.{image, missing_in, ended, image_from,
 ghost use Rattle.text.specs.Texts.{Puts};
 ghost use Rattle.image.specs.Room.{Room};
 
+use groups::Bus;
 use hexrecord::Step;
 use sheet::{Chips, Refusal};
 
@@ -60,7 +61,12 @@ pub fn write(part: u8, chips: u8, ram: &[u8], out: &mut [u8]) -> Result<usize, R
     ensures out_after { record { result = result; out = out.new } ≡ hex_write_part part chips ram.now out.old }
     ensures result_value { written_numbers result ≡ written_numbers (hex_write_part part chips ram.now out.old).result }
 {
-    refused::check_power_on(part, one_group(chips), ram, false)?;
+    let bus = Bus {
+        part,
+        chips: one_group(chips),
+        packed: false,
+    };
+    refused::check_power_on(bus, ram)?;
     let size = file_size(ram.len());
     if out.len() < size {
         return Err(Refusal::OutputLength);

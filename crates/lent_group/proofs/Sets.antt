@@ -6,7 +6,7 @@ use mathlib.Core.List.{List}
 use Prim.Native.Nat.{ℕ, ◌≤◌}
 use lib.ListN.{length, get_or, drop, drop_of_length-le}
 use Rattle.std.specs.Prelude.{Err, None, Ok}
-use Rattle.sheet.specs.Results.{Acknowledger, Answer, Check}
+use Rattle.sheet.specs.Results.{Answer, Check}
 use Rattle.sheet.specs.declared.Expect.TheVariants.{Control}
 use Rattle.sheet.specs.declared.Chips.{Chips}
 use Rattle.sheet.specs.declared.Refusal.{Refusal}

@@ -13,16 +13,9 @@ ghost use Rattle.lent_opening.specs.Held.{held_in};
 ghost use Rattle.wire.specs.Bytes.{registers_in, bytes_of};
 ghost use Rattle.lent_group.specs.Sets.{Asked, Left, Rest, Fitting, is_fitting, heard_set, set_to, numbered_set};
 
+use groups::Bus;
 use lent_opening::Kept;
-use sheet::{Chips, Counts, Refusal, Registers, Taken};
-
-// A bus as a call is told of it: the part, the chips of each group, and whether their columns are packed.
-#[derive(Clone, Copy)]
-pub struct Bus {
-    pub part: u8,
-    pub chips: Chips,
-    pub packed: bool,
-}
+use sheet::{Counts, Refusal, Registers, Taken};
 
 // What is said of a transfer, in the numbers of the lent answer; the first is returned too.
 pub fn say(part: u8, said: Result<Taken, Refusal>, answer: &mut [usize]) -> u8
@@ -59,9 +52,8 @@ fn hear_run(
     ensures { record { number = result; set = set.new; buffer = columns_in bus.packed ram.new; answer = answer.new } ≡ numbered_set (part_of bus.part) (heard_set (heard_in_ram (part_of bus.part) bus.chips group (registers_in set.old) (columns_in bus.packed ram.old) (sent bytes.now 8) from)) }
 {
     let part = bus.part;
-    let packed = bus.packed;
-    let start = groups::start_in(part, bus.chips, group, packed);
-    let end = groups::end_in(part, bus.chips, group, packed);
+    let start = bus.start_in(group);
+    let end = bus.end_in(group);
     let registers = wire::registers_of(set);
     let v = arithmetic::position(part, registers);
     let m = arithmetic::backplanes(registers);
@@ -69,7 +61,7 @@ fn hear_run(
     let after = v + arithmetic::width(m) * n;
     runs::whole_bytes(
         &mut ram[start..end],
-        packed,
+        bus.packed,
         v,
         m,
         registers.i,
@@ -120,20 +112,17 @@ fn hear_rest(
     requires { Rest (part_of bus.part) bus.chips set.old (columns_in bus.packed ram.old) (sent bytes.now bits) from answer.old }
     ensures { record { number = result; set = set.new; buffer = columns_in bus.packed ram.new; answer = answer.new } ≡ numbered_set (part_of bus.part) (heard_set (heard_in_ram (part_of bus.part) bus.chips group (registers_in set.old) (columns_in bus.packed ram.old) (sent bytes.now bits) from)) }
 {
-    let part = bus.part;
-    let chips = bus.chips;
-    let packed = bus.packed;
     let opened = wire::registers_of(set);
-    let size = arithmetic::columns_in(part, groups::chips_in(group, chips) as u16);
-    if is_fitting(part, size, opened, bytes, bits, from) {
+    let size = bus.columns_of(group);
+    if is_fitting(bus.part, size, opened, bytes, bits, from) {
         hear_run(bus, group, set, ram, bytes, from, answer)
     } else {
-        let heard = long::hear_in(part, chips, group, opened, ram, packed, bytes, bits, from);
+        let heard = long::hear_in(bus, group, opened, ram, bytes, bits, from);
         let after = heard.registers;
         let counts = heard.counts;
         let last = heard.last;
         wire::put_registers(after, set);
-        say(part, Ok(Taken { counts, last }), answer)
+        say(bus.part, Ok(Taken { counts, last }), answer)
     }
 }
 

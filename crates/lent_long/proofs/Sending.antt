@@ -12,7 +12,7 @@ use Rattle.lemmas.proofs.Tests.{both_true}
 use Rattle.sheet.specs.declared.Both.{Both}
 use Rattle.sheet.specs.declared.Registers.{Registers}
 use Rattle.std.specs.Prelude.{Err, None, Ok, Some}
-use Rattle.sheet.specs.Results.{Answer, Addressed, Check}
+use Rattle.sheet.specs.Results.{Addressed, Check}
 use Rattle.sheet.specs.declared.Chips.{Chips}
 use Rattle.sheet.specs.declared.Refusal.{Refusal}
 use Rattle.sheet.specs.declared.Refusal.TheVariants.{GroupOrPhase}

@@ -11,7 +11,7 @@ ghost use Rattle.refused.specs.Fitting.{fitting};
 ghost use Rattle.wire.specs.Bytes.{registers_in, both_of};
 ghost use Rattle.lent_long.specs.LongCalls.{Sendable, Hearable, lent_after, numbered, sent_to, sent_c, power_on_c, transfer_c, picture_c};
 
-use lent_group::Bus;
+use groups::Bus;
 use sheet::Refusal;
 
 // Power-on, taken or refused by 16, 3, 4, 5.
@@ -19,7 +19,7 @@ pub fn power_on(bus: Bus, ram: &[u8], registers: &mut [u8], answer: &mut [usize]
     ensures { power_on_c bus.part bus.chips (columns_in bus.packed ram.now) registers.old answer.old ≡ record { number = result; registers = registers.new; buffer = columns_in bus.packed ram.now; answer = answer.new } }
 {
     if (registers.len() == 24) & (answer.len() == 6) {
-        let done = long::power_on(bus.part, bus.chips, ram, bus.packed);
+        let done = long::power_on(bus, ram);
         let after = done.registers;
         let check = done.check;
         wire::put_both(after, registers);
@@ -106,7 +106,7 @@ fn answered(
     ensures { record { number = result; registers = registers.new; buffer = columns_in bus.packed ram.new; answer = answer.new } ≡ numbered (part_of bus.part) (lent_after (transfer_part bus.part bus.chips (both_of registers.old) (columns_in bus.packed ram.old) (sent bytes.now bits))) }
 {
     let fit = fits(bus.part, registers);
-    match refused::check_state(bus.part, bus.chips, fit, ram, bus.packed) {
+    match refused::check_state(bus, fit, ram) {
         Err(refusal) => lent_group::say(bus.part, Err(refusal), answer),
         Ok(()) => send(bus, registers, ram, bytes, bits, answer),
     }
@@ -124,15 +124,13 @@ fn pictured(
     requires { length registers.now ≡ 24 }
     ensures { record { result = result; out = out.new } ≡ picture_part bus.part bus.chips (both_of registers.now) (columns_in bus.packed ram.now) group phase out.old }
 {
-    let part = bus.part;
-    let packed = bus.packed;
-    let fit = fits(part, registers);
-    refused::check_picture(part, bus.chips, fit, group, phase, ram, packed, out.len())?;
+    let fit = fits(bus.part, registers);
+    refused::check_picture(bus, fit, group, phase, ram, out.len())?;
     let at = 12 * (group as usize);
     let shown = wire::registers_of(&registers[at..at + 12]);
-    let start = groups::start_in(part, bus.chips, group, packed);
-    let end = groups::end_in(part, bus.chips, group, packed);
-    Ok(picture::show(&ram[start..end], packed, shown, phase, out))
+    let start = bus.start_in(group);
+    let end = bus.end_in(group);
+    Ok(picture::show(&ram[start..end], bus.packed, shown, phase, out))
 }
 
 // A transfer, of whose last byte so many bits came, taken or refused by 16, 3, 6, 4, 5, 1, 2, 19, then 7, 17 and 18. What is looked at first stands first, and comes in the processor's registers.

@@ -6,6 +6,7 @@ ghost use Rattle.sheet.specs.Parts.{pcf8532};
 ghost use Rattle.sheet.specs.Long.{both_on, state_of, state_after_all};
 ghost use Rattle.log_sheet.specs.Logs.{log_chips, log_transfers};
 
+use groups::Bus;
 use records::{Cursor, Record};
 use sheet::{Both, Chips};
 
@@ -20,15 +21,12 @@ fn carry_out(log: &[u8], chips: Chips, initial: Both, ram: &mut [u8])
     while let Record::Body { start, size, .. } = cursor.read(log) {
         let end = start + size;
         let from = start + seen;
-        let done = long::transfer(
-            sheet::PCF8532,
+        let bus = Bus {
+            part: sheet::PCF8532,
             chips,
-            false,
-            registers,
-            ram,
-            &log[from..end],
-            8,
-        );
+            packed: false,
+        };
+        let done = long::transfer(bus, registers, ram, &log[from..end], 8);
         registers = done.registers;
         cursor = Cursor { at: end, seen };
     }
@@ -39,6 +37,11 @@ pub fn leave(log: &[u8], ram: &mut [u8])
     ensures { ram.new ≡ (state_after_all pcf8532 (log_chips log.now) (state_of both_on ram.old) (log_transfers log.now)).ram }
 {
     let chips = records::chips_of(log);
-    let start = long::power_on(sheet::PCF8532, chips, ram, false);
+    let bus = Bus {
+        part: sheet::PCF8532,
+        chips,
+        packed: false,
+    };
+    let start = long::power_on(bus, ram);
     carry_out(log, chips, start.registers, ram);
 }

@@ -10,7 +10,8 @@ ghost use Rattle.packed_sheet.specs.Packed.{unpacked, columns_in};
 ghost use Rattle.writer_sheet.specs.Writer.{check_wanted};
 ghost use Rattle.refused.specs.Fitting.{fitting, state_by, picture_by};
 
-use sheet::{Both, Chips, Refusal};
+use groups::Bus;
+use sheet::{Both, Refusal};
 
 // Whether every register of both groups is in range.
 pub fn registers_fit(part: u8, registers: Both) -> bool
@@ -37,11 +38,12 @@ fn check_packed(size: usize, ram: &[u8]) -> Result<(), Refusal>
 }
 
 // The RAM, of columns that are a byte each or packed: 4, 5.
-fn check_ram(part: u8, chips: Chips, ram: &[u8], packed: bool) -> Result<(), Refusal>
-    ensures { result ≡ check_ram (part_of part) chips (columns_in packed ram.now) }
+fn check_ram(bus: Bus, ram: &[u8]) -> Result<(), Refusal>
+    ensures { result ≡ check_ram (part_of bus.part) bus.chips (columns_in bus.packed ram.now) }
 {
-    let size = arithmetic::columns_in(part, chips.zero as u16 + chips.one as u16);
-    if packed {
+    let chips = bus.chips.zero as u16 + bus.chips.one as u16;
+    let size = arithmetic::columns_in(bus.part, chips);
+    if bus.packed {
         check_packed(size, ram)
     } else {
         check_columns(size, ram)
@@ -49,58 +51,46 @@ fn check_ram(part: u8, chips: Chips, ram: &[u8], packed: bool) -> Result<(), Ref
 }
 
 // What every call begins with: 16, 3.
-fn check_bus(part: u8, chips: Chips) -> Result<(), Refusal>
-    ensures { result ≡ or_else (check_part part) (check_chips (part_of part) chips) }
+fn check_bus(bus: Bus) -> Result<(), Refusal>
+    ensures { result ≡ or_else (check_part bus.part) (check_chips (part_of bus.part) bus.chips) }
 {
-    checks::check_part(part)?;
-    checks::check_chips(part, chips)
+    checks::check_part(bus.part)?;
+    checks::check_chips(bus.part, bus.chips)
 }
 
 // A power-on: 16, 3, 4, 5.
 #[tactic(auto, unfolding(sheet::specs::Checks::check_power_on))]
-pub fn check_power_on(part: u8, chips: Chips, ram: &[u8], packed: bool) -> Result<(), Refusal>
-    ensures { result ≡ or_else (check_part part) (check_power_on (part_of part) chips (columns_in packed ram.now)) }
+pub fn check_power_on(bus: Bus, ram: &[u8]) -> Result<(), Refusal>
+    ensures { result ≡ or_else (check_part bus.part) (check_power_on (part_of bus.part) bus.chips (columns_in bus.packed ram.now)) }
 {
-    check_bus(part, chips)?;
-    check_ram(part, chips, ram, packed)
+    check_bus(bus)?;
+    check_ram(bus, ram)
 }
 
 // And every call but a power-on: 16, 3, 6. Whether the registers fit is asked before, so that they are not handed on.
-fn check_registers(part: u8, chips: Chips, fit: bool) -> Result<(), Refusal>
-    ensures { result ≡ or_else (check_part part) (or_else (check_chips (part_of part) chips) (unless fit Register)) }
+fn check_registers(bus: Bus, fit: bool) -> Result<(), Refusal>
+    ensures { result ≡ or_else (check_part bus.part) (or_else (check_chips (part_of bus.part) bus.chips) (unless fit Register)) }
 {
-    check_bus(part, chips)?;
+    check_bus(bus)?;
     checks::unless(fit, Refusal::Register)
 }
 
 // And every call with a RAM: 16, 3, 6, 4, 5.
-pub fn check_state(
-    part: u8,
-    chips: Chips,
-    fit: bool,
-    ram: &[u8],
-    packed: bool,
-) -> Result<(), Refusal>
-    ensures { result ≡ or_else (check_part part) (state_by (part_of part) chips fit (columns_in packed ram.now)) }
+pub fn check_state(bus: Bus, fit: bool, ram: &[u8]) -> Result<(), Refusal>
+    ensures { result ≡ or_else (check_part bus.part) (state_by (part_of bus.part) bus.chips fit (columns_in bus.packed ram.now)) }
 {
-    check_registers(part, chips, fit)?;
-    check_ram(part, chips, ram, packed)
+    check_registers(bus, fit)?;
+    check_ram(bus, ram)
 }
 
 // The bytes of a transfer that a chip hears: 7, 17 and 18.
-fn check_bytes(
-    part: u8,
-    chips: Chips,
-    registers: Both,
-    bytes: &[u8],
-    bits: u8,
-) -> Result<(), Refusal>
-    ensures { result ≡ check_bytes (part_of part) registers (heard_by chips (address_byte (sent bytes.now bits))) (sent bytes.now bits) }
+fn check_bytes(bus: Bus, registers: Both, bytes: &[u8], bits: u8) -> Result<(), Refusal>
+    ensures { result ≡ check_bytes (part_of bus.part) registers (heard_by bus.chips (address_byte (sent bytes.now bits))) (sent bytes.now bits) }
 {
-    match groups::heard_by(chips, checks::address_byte(bytes, bits)) {
+    match groups::heard_by(bus.chips, checks::address_byte(bytes, bits)) {
         Some(group) => {
             let called = groups::registers_of(group, registers);
-            protocol::first_fault(part, called.unknown, bytes, bits)
+            protocol::first_fault(bus.part, called.unknown, bytes, bits)
         }
         None => Ok(()),
     }
@@ -109,78 +99,65 @@ fn check_bytes(
 // A transfer: 16, 3, 6, 4, 5, 1, 2, 19, then 7, 17 and 18.
 #[tactic(auto, unfolding(sheet::specs::Checks::check_transfer, sheet::specs::Checks::check_state, sheet::specs::Checks::check_registers, sheet::specs::Checks::check_sent))]
 pub fn check_transfer(
-    part: u8,
-    chips: Chips,
+    bus: Bus,
     registers: Both,
     ram: &[u8],
-    packed: bool,
     bytes: &[u8],
     bits: u8,
 ) -> Result<(), Refusal>
-    ensures { result ≡ or_else (check_part part) (check_transfer (part_of part) chips registers (columns_in packed ram.now) (sent bytes.now bits)) }
+    ensures { result ≡ or_else (check_part bus.part) (check_transfer (part_of bus.part) bus.chips registers (columns_in bus.packed ram.now) (sent bytes.now bits)) }
 {
-    check_state(part, chips, registers_fit(part, registers), ram, packed)?;
+    check_state(bus, registers_fit(bus.part, registers), ram)?;
     checks::check_sent(bytes.len(), bits)?;
-    check_bytes(part, chips, registers, bytes, bits)
+    check_bytes(bus, registers, bytes, bits)
 }
 
 // A picture into a buffer of the given size: 16, 3, 6, 4, 5, 8, 9.
 pub fn check_picture(
-    part: u8,
-    chips: Chips,
+    bus: Bus,
     fit: bool,
     group: u8,
     phase: u8,
     ram: &[u8],
-    packed: bool,
     size: usize,
 ) -> Result<(), Refusal>
-    ensures { result ≡ or_else (check_part part) (picture_by (part_of part) chips fit (columns_in packed ram.now) group phase size) }
+    ensures { result ≡ or_else (check_part bus.part) (picture_by (part_of bus.part) bus.chips fit (columns_in bus.packed ram.now) group phase size) }
 {
-    check_state(part, chips, fit, ram, packed)?;
+    check_state(bus, fit, ram)?;
     checks::unless((group < 2) & (phase < 2), Refusal::GroupOrPhase)?;
-    let wanted = arithmetic::columns_in(part, groups::chips_in(group, chips) as u16);
-    checks::unless(size == wanted, Refusal::OutputLength)
+    checks::unless(size == bus.columns_of(group), Refusal::OutputLength)
 }
 
 // A group's rows: 8, 4, 5.
-fn check_rows(part: u8, chips: Chips, group: u8, rows: &[u8]) -> Result<(), Refusal>
-    ensures { result ≡ or_else (unless (ltb group 2) GroupOrPhase) (check_columns ((part_of part).columns * chips_in group chips) rows.now) }
+fn check_rows(bus: Bus, group: u8, rows: &[u8]) -> Result<(), Refusal>
+    ensures { result ≡ or_else (unless (ltb group 2) GroupOrPhase) (check_columns ((part_of bus.part).columns * chips_in group bus.chips) rows.now) }
 {
     checks::unless(group < 2, Refusal::GroupOrPhase)?;
-    let size = arithmetic::columns_in(part, groups::chips_in(group, chips) as u16);
-    check_columns(size, rows)
+    check_columns(bus.columns_of(group), rows)
 }
 
 // A writer's wanted rows: 16, 3, 6 (also a wanted mode or bank out of range), 8, 4, 5.
 #[tactic(auto, unfolding(writer_sheet::specs::Writer::check_wanted, sheet::specs::Checks::check_registers))]
 pub fn check_wanted(
-    part: u8,
-    chips: Chips,
+    bus: Bus,
     registers: Both,
     group: u8,
     mode: u8,
     bank: u8,
     wanted: &[u8],
 ) -> Result<(), Refusal>
-    ensures { result ≡ or_else (check_part part) (check_wanted (part_of part) chips registers group mode bank wanted.now) }
+    ensures { result ≡ or_else (check_part bus.part) (check_wanted (part_of bus.part) bus.chips registers group mode bank wanted.now) }
 {
-    check_registers(part, chips, registers_fit(part, registers))?;
+    check_registers(bus, registers_fit(bus.part, registers))?;
     checks::unless((mode < 4) & (bank < 2), Refusal::Register)?;
-    check_rows(part, chips, group, wanted)
+    check_rows(bus, group, wanted)
 }
 
 // Those of a transfer for every element in 1:3: 16, 3, 6, 8, 4, 5. No call shares it, so that its registers are not handed on through memory.
 #[tactic(auto, unfolding(writer_sheet::specs::Writer::check_wanted, sheet::specs::Checks::check_registers))]
-pub fn check_every(
-    part: u8,
-    chips: Chips,
-    registers: Both,
-    group: u8,
-    wanted: &[u8],
-) -> Result<(), Refusal>
-    ensures { result ≡ or_else (check_part part) (check_wanted (part_of part) chips registers group 3 0 wanted.now) }
+pub fn check_every(bus: Bus, registers: Both, group: u8, wanted: &[u8]) -> Result<(), Refusal>
+    ensures { result ≡ or_else (check_part bus.part) (check_wanted (part_of bus.part) bus.chips registers group 3 0 wanted.now) }
 {
-    check_registers(part, chips, registers_fit(part, registers))?;
-    check_rows(part, chips, group, wanted)
+    check_registers(bus, registers_fit(bus.part, registers))?;
+    check_rows(bus, group, wanted)
 }

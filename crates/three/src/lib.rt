@@ -9,6 +9,7 @@ ghost use Rattle.writer_sheet.specs.Writer.{each_after80, mode_set_of};
 ghost use Rattle.writer_sheet.specs.Three.{byte_at, pairs_from, write_three_part};
 ghost use Rattle.three.specs.Room.{Byte, Four, Chip, Pairs, Three};
 
+use groups::Bus;
 use sheet::{Both, Chips, Refusal, Registers};
 
 // How long one data byte is with the commands before it.
@@ -138,7 +139,12 @@ pub fn write_three(
     ensures out_after { record { result = result; out = out.new } ≡ write_three_part part chips registers group wanted.now out.old }
     ensures result_value { written_numbers result ≡ written_numbers (write_three_part part chips registers group wanted.now out.old).result }
 {
-    refused::check_every(part, chips, registers, group, wanted)?;
+    let bus = Bus {
+        part,
+        chips,
+        packed: false,
+    };
+    refused::check_every(bus, registers, group, wanted)?;
     if groups::chips_in(group, chips) == 0 {
         return Ok(0);
     }

@@ -9,6 +9,7 @@ ghost use Rattle.sheet.specs.Protocol.{address_of};
 ghost use Rattle.writer_sheet.specs.Writer.{each_after80, mode_set_of, bank_select_of, settings, set_to, bytes_for, data_of, write_rows_part};
 ghost use Rattle.writer.specs.Room.{Settled, Room};
 
+use groups::Bus;
 use sheet::{Both, Chips, Refusal, Registers};
 
 // ---- the head: the address, the commands each after 80, and the 40 before the data
@@ -127,7 +128,12 @@ pub fn write_rows(
     ensures out_after { record { result = result; out = out.new } ≡ write_rows_part part chips registers group mode bank wanted.now out.old }
     ensures result_value { written_numbers result ≡ written_numbers (write_rows_part part chips registers group mode bank wanted.now out.old).result }
 {
-    refused::check_wanted(part, chips, registers, group, mode, bank, wanted)?;
+    let bus = Bus {
+        part,
+        chips,
+        packed: false,
+    };
+    refused::check_wanted(bus, registers, group, mode, bank, wanted)?;
     if groups::chips_in(group, chips) == 0 {
         return Ok(0);
     }

@@ -8,7 +8,6 @@ use native.Mathlib.Omega.{arith}
 use lib.ListN.{length, length-take}
 use Rattle.sheet.specs.declared.Registers.{Registers}
 use Rattle.std.specs.Prelude.{Ok}
-use Rattle.sheet.specs.Results.{Answer}
 use Rattle.sheet.specs.declared.Chips.{Chips}
 use Rattle.sheet.specs.Parts.{Part, part_of}
 use Rattle.sheet.specs.Registers.{in_range}
@@ -23,9 +22,9 @@ use Rattle.lent_group.proofs.Sets.{said-numbers}
 use Rattle.lent_group.proofs.hear_rest.Goals as goal
 
 -- what the test tells of the run
-tells : (K : Part) (n : Chips) (g size chips : ℕ) (r own : Registers) (bytes : List ℕ) (bits from : ℕ) (fits : Bool) → r ≡ own → chips ≡ chips_in g n → size ≡ K.columns * chips
+tells : (K : Part) (n : Chips) (g size : ℕ) (r own : Registers) (bytes : List ℕ) (bits from : ℕ) (fits : Bool) → r ≡ own → size ≡ K.columns * chips_in g n
     → fits ≡ is_fitting K size r bytes bits from → fits ≡ true → Told K (K.columns * chips_in g n) own bytes bits from
-tells K n g size chips r own bytes bits from fits e few all is h = rw (← (all ∙ ap (λ (k : ℕ). K.columns * k) few), ← e) (told K size r bytes bits from (sym is ∙ h))
+tells K n g size r own bytes bits from fits e all is h = rw (← all, ← e) (told K size r bytes bits from (sym is ∙ h))
 
 pub is_fitting-requires : goal.is_fitting-requires
 is_fitting-requires c = let a = c.args in
@@ -34,7 +33,7 @@ is_fitting-requires c = let a = c.args in
 
 pub hear_run-requires : goal.hear_run-requires
 hear_run-requires c = let a = c.args in
-    let h = tells (part_of a.bus.part) a.bus.chips a.group _ _ _ (registers_in a.set.now) a.bytes.now a.bits a.from _ c.registers_of-opened.ensures c.chips_in.ensures c.columns_in-size.ensures c.is_fitting.ensures c.if-is_fitting.true in
+    let h = tells (part_of a.bus.part) a.bus.chips a.group _ _ (registers_in a.set.now) a.bytes.now a.bits a.from _ c.registers_of-opened.ensures c.columns_of-size.ensures c.is_fitting.ensures c.if-is_fitting.true in
     record {
       rest = subst (λ (bits : ℕ). Rest (part_of a.bus.part) a.bus.chips a.set.now (columns_in a.bus.packed a.ram.now) (sent a.bytes.now bits) a.from a.answer.now) h.eight c.requires;
       more = h.more;
@@ -50,7 +49,7 @@ pub returns-then-is_fitting : goal.returns-then-is_fitting
 returns-then-is_fitting c = let a = c.args in
     let K = part_of a.bus.part in
     c.hear_run.ensures
-    ∙ ap (λ (bits : ℕ). numbered_set K (heard_set (heard_in_ram K a.bus.chips a.group (registers_in a.set.now) (columns_in a.bus.packed a.ram.now) (sent a.bytes.now bits) a.from))) (sym (tells (part_of a.bus.part) a.bus.chips a.group _ _ _ (registers_in a.set.now) a.bytes.now a.bits a.from _ c.registers_of-opened.ensures c.chips_in.ensures c.columns_in-size.ensures c.is_fitting.ensures c.if-is_fitting.true).eight)
+    ∙ ap (λ (bits : ℕ). numbered_set K (heard_set (heard_in_ram K a.bus.chips a.group (registers_in a.set.now) (columns_in a.bus.packed a.ram.now) (sent a.bytes.now bits) a.from))) (sym (tells (part_of a.bus.part) a.bus.chips a.group _ _ (registers_in a.set.now) a.bytes.now a.bits a.from _ c.registers_of-opened.ensures c.columns_of-size.ensures c.is_fitting.ensures c.if-is_fitting.true).eight)
 
 pub returns-else-is_fitting : goal.returns-else-is_fitting
 returns-else-is_fitting c = let a = c.args in

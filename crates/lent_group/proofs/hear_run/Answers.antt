@@ -11,7 +11,6 @@ use Rattle.lemmas.proofs.Lists.{part-rest}
 use Rattle.sheet.specs.declared.Registers.{Registers}
 use Rattle.sheet.specs.declared.Counts.{Counts}
 use Rattle.std.specs.Prelude.{Ok, Some}
-use Rattle.sheet.specs.Results.{Acknowledger, Answer}
 use Rattle.sheet.specs.Parts.{Part, part_of}
 use Rattle.sheet.specs.Registers.{in_range, backplanes, bank_row}
 use Rattle.sheet.specs.Places.{position, at_position}

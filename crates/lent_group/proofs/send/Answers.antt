@@ -6,7 +6,6 @@ use Prim.Native.Nat.{ℕ, ◌≤◌, ◌<◌}
 use lib.ListN.{length, take, drop}
 use lib.Seq.{length-take-le}
 use Rattle.std.specs.Prelude.{Err, None, Ok}
-use Rattle.sheet.specs.Results.{Acknowledger, Answer}
 use Rattle.sheet.specs.Parts.{part_of}
 use Rattle.sheet.specs.Protocol.{sent, whole_of}
 use Rattle.packed_sheet.specs.Packed.{columns_in}

@@ -9,7 +9,6 @@ use lib.Dec.{ltb}
 use lib.ListN.{length, take, drop}
 use lib.Seq.{length-take-le}
 use Rattle.std.specs.Prelude.{Err, Ok}
-use Rattle.sheet.specs.Results.{Answer, Check}
 use Rattle.sheet.specs.declared.Expect.TheVariants.{Control}
 use Rattle.sheet.specs.Parts.{part_of}
 use Rattle.sheet.specs.Registers.{in_range}

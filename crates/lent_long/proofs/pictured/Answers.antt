@@ -11,7 +11,7 @@ use Rattle.sheet.specs.declared.Registers.{Registers}
 use Rattle.sheet.specs.declared.Both.{Both}
 use Rattle.sheet.specs.declared.Chips.{Chips}
 use Rattle.std.specs.Prelude.{Ok}
-use Rattle.sheet.specs.Results.{Check, Pictured}
+use Rattle.sheet.specs.Results.{Check}
 use Rattle.refused.specs.Fitting.{fitting, picture_by}
 use mathlib.Core.Bool.{Bool}
 use Rattle.sheet.specs.Parts.{part_of}

@@ -2,7 +2,7 @@
 -- Assumes nothing.
 use mathlib.Core.Path.{◌≡◌, sym, ap, ap₂, ◌∙◌}
 use Rattle.std.specs.Prelude.{None, Ok}
-use Rattle.sheet.specs.Results.{Acknowledger, Answer, Addressed, Check}
+use Rattle.sheet.specs.Results.{Addressed, Check}
 use Rattle.sheet.specs.declared.Chips.{Chips}
 use mathlib.Core.List.{List}
 use Prim.Native.Nat.{ℕ}

@@ -20,33 +20,33 @@ use Rattle.long.proofs.hear_in.Goals as goal
 
 pub hear-requires : goal.hear-requires
 hear-requires c = let a = c.args in
-    let columns = columns_in a.packed a.ram.now in
-    let part = cut a.part a.chips c.requires.both a.group a.packed a.ram.now _ _ c.requires.state c.start_in-start.ensures c.end_in-end.ensures in
+    let columns = columns_in a.bus.packed a.ram.now in
+    let part = cut a.bus.part a.bus.chips c.requires.both a.group a.bus.packed a.ram.now _ _ c.requires.state c.start_in-start.ensures c.end_in-end.ensures in
     let f = part.fits in
-    let kept = group-kept (part_of a.part) a.chips c.requires.both columns f a.group in
+    let kept = group-kept (part_of a.bus.part) a.bus.chips c.requires.both columns f a.group in
     record {
       range = c.requires.range;
-      few = omega (arith, ap length part.part, kept.columns, ram-small a.part (chips_in a.group a.chips) (few-chips-in (part_of a.part) a.chips c.requires.both columns f a.group));
-      nibbles = ap (over_in 0) part.part ∙ check-nibbles 0 (columns_of (part_of a.part) a.chips a.group columns) kept.nibbles;
+      few = omega (arith, ap length part.part, kept.columns, ram-small a.bus.part (chips_in a.group a.bus.chips) (few-chips-in (part_of a.bus.part) a.bus.chips c.requires.both columns f a.group));
+      nibbles = ap (over_in 0) part.part ∙ check-nibbles 0 (columns_of (part_of a.bus.part) a.bus.chips a.group columns) kept.nibbles;
       short = subst (λ (l : List ℕ). length l < 4097) (whole-taken a.bytes.now a.bits) (simp length-take (omega (arith, c.requires.short)));
       place = c.requires.place;
     }
 
 pub returns : goal.returns
 returns c = let a = c.args in
-    let part = cut a.part a.chips c.requires.both a.group a.packed a.ram.now _ _ c.requires.state c.start_in-start.ensures c.end_in-end.ensures in
-    let told = c.hear.ensures ∙ ap (heard_from (part_of a.part) (sent a.bytes.now a.bits) a.from a.opened) part.part in
-    let back = put_back (part_of a.part) _ (columns-even a.part) a.chips a.ram.now a.group c.start_in-start.result c.end_in-end.result a.packed c.start_in-start.ensures c.end_in-end.ensures c.hear.new.ram _ (λ j. (told j).ram) in
+    let part = cut a.bus.part a.bus.chips c.requires.both a.group a.bus.packed a.ram.now _ _ c.requires.state c.start_in-start.ensures c.end_in-end.ensures in
+    let told = c.hear.ensures ∙ ap (heard_from (part_of a.bus.part) (sent a.bytes.now a.bits) a.from a.opened) part.part in
+    let back = put_back (part_of a.bus.part) _ (columns-even a.bus.part) a.bus.chips a.ram.now a.group c.start_in-start.result c.end_in-end.result a.bus.packed c.start_in-start.ensures c.end_in-end.ensures c.hear.new.ram _ (λ j. (told j).ram) in
     λ j. record { registers = (told j).registers; ram = back j; counts = (told j).counts; last = (told j).last }
 
 pub slice_bounds-hear-count : goal.slice_bounds-hear-count
 slice_bounds-hear-count c = let a = c.args in
-    (cut a.part a.chips c.requires.both a.group a.packed a.ram.now _ _ c.requires.state c.start_in-start.ensures c.end_in-end.ensures).begins
+    (cut a.bus.part a.bus.chips c.requires.both a.group a.bus.packed a.ram.now _ _ c.requires.state c.start_in-start.ensures c.end_in-end.ensures).begins
 
 pub slice_bounds-hear-start : goal.slice_bounds-hear-start
 slice_bounds-hear-start c = let a = c.args in
-    (cut a.part a.chips c.requires.both a.group a.packed a.ram.now _ _ c.requires.state c.start_in-start.ensures c.end_in-end.ensures).begins
+    (cut a.bus.part a.bus.chips c.requires.both a.group a.bus.packed a.ram.now _ _ c.requires.state c.start_in-start.ensures c.end_in-end.ensures).begins
 
 pub slice_bounds-hear-end : goal.slice_bounds-hear-end
 slice_bounds-hear-end c = let a = c.args in
-    (cut a.part a.chips c.requires.both a.group a.packed a.ram.now _ _ c.requires.state c.start_in-start.ensures c.end_in-end.ensures).ends
+    (cut a.bus.part a.bus.chips c.requires.both a.group a.bus.packed a.ram.now _ _ c.requires.state c.start_in-start.ensures c.end_in-end.ensures).ends

@@ -7,7 +7,7 @@ use Prim.Native.Nat.{ℕ}
 use lib.ListN.{length}
 use Rattle.sheet.specs.declared.Registers.{Registers}
 use Rattle.std.specs.Prelude.{Ok}
-use Rattle.sheet.specs.Results.{Check, Pictured}
+use Rattle.sheet.specs.Results.{Check}
 use Rattle.sheet.specs.declared.Both.{Both}
 use Rattle.sheet.specs.declared.Chips.{Chips}
 use Rattle.refused.specs.Fitting.{fitting, picture_by}
@@ -30,23 +30,23 @@ asked part n r fit columns g phase size check e told = told ∙ ap (or_else (che
 
 pub show_in-requires : goal.show_in-requires
 show_in-requires c = let a = c.args in
-    let columns = columns_in a.packed a.ram.now in
-    let p = picture-passed (part_of a.part) a.chips a.registers columns a.group a.phase (length a.out.now) (both_pass (check_part a.part) _ (sym (asked a.part a.chips a.registers _ columns a.group a.phase _ _ c.registers_fit-fit.ensures c.check_picture.ensures) ∙ c.in_ok-check_picture.was)).1 in
+    let columns = columns_in a.bus.packed a.ram.now in
+    let p = picture-passed (part_of a.bus.part) a.bus.chips a.registers columns a.group a.phase (length a.out.now) (both_pass (check_part a.bus.part) _ (sym (asked a.bus.part a.bus.chips a.registers _ columns a.group a.phase _ _ c.registers_fit-fit.ensures c.check_picture.ensures) ∙ c.in_ok-check_picture.was)).1 in
     (record { both = a.registers; same = sym c.registers_of-shown.ensures; state = p.0 }, p.1)
 
 pub returns-in_err-check_picture : goal.returns-in_err-check_picture
 returns-in_err-check_picture c = let a = c.args in
-    let columns = columns_in a.packed a.ram.now in
-    let p = numbered-picture (sym (shown-by-check a.part a.chips a.registers columns a.group a.phase a.out.now _ (sym (asked a.part a.chips a.registers _ columns a.group a.phase _ _ c.registers_fit-fit.ensures c.check_picture.ensures) ∙ c.in_err-check_picture.was))) in
+    let columns = columns_in a.bus.packed a.ram.now in
+    let p = numbered-picture (sym (shown-by-check a.bus.part a.bus.chips a.registers columns a.group a.phase a.out.now _ (sym (asked a.bus.part a.bus.chips a.registers _ columns a.group a.phase _ _ c.registers_fit-fit.ensures c.check_picture.ensures) ∙ c.in_err-check_picture.was))) in
     let e = err_from_is_err_and c.from_residual.result c.from_residual.ensures.1 in rw (e.1, e.2) (record { out_after = p.0; result_value = p.1 })
 
 pub returns : goal.returns
 returns c =
     let a = c.args in
-    let columns = columns_in a.packed a.ram.now in
-    let same = ap (λ (r : Registers). picture_of r a.phase (columns_of (part_of a.part) a.chips a.group columns)) c.registers_of-shown.ensures in
+    let columns = columns_in a.bus.packed a.ram.now in
+    let same = ap (λ (r : Registers). picture_of r a.phase (columns_of (part_of a.bus.part) a.bus.chips a.group columns)) c.registers_of-shown.ensures in
     let lit = c.show_in.ensures.value ∙ ap lit_in same in
     let p = numbered-picture
     ((λ j. record { result = Ok (lit j); out = (c.show_in.ensures.out_after ∙ same) j })
-    ∙ sym (shown-by-check a.part a.chips a.registers columns a.group a.phase a.out.now _ (sym (asked a.part a.chips a.registers _ columns a.group a.phase _ _ c.registers_fit-fit.ensures c.check_picture.ensures) ∙ c.in_ok-check_picture.was))) in
+    ∙ sym (shown-by-check a.bus.part a.bus.chips a.registers columns a.group a.phase a.out.now _ (sym (asked a.bus.part a.bus.chips a.registers _ columns a.group a.phase _ _ c.registers_fit-fit.ensures c.check_picture.ensures) ∙ c.in_ok-check_picture.was))) in
     record { out_after = p.0; result_value = p.1 }

@@ -26,21 +26,21 @@ takes part n r ram t check heard to address asked passed at hears told = by-chec
 
 pub deliver-requires : goal.deliver-requires
 deliver-requires c = let a = c.args in
-    let e = (both_pass (check_part a.part) _ (sym c.check_transfer.ensures ∙ c.in-Ok.is)).1 in
-    let p = transfer-passed (part_of a.part) a.chips a.registers (columns_in a.packed a.ram.now) (sent a.bytes.now a.bits) e in
-    (p.0, p.1.1, hearer_some a.chips (sent a.bytes.now a.bits) _ (sym (c.heard_by.ensures ∙ ap (heard_by a.chips) c.address_byte.ensures) ∙ c.in-Some.is))
+    let e = (both_pass (check_part a.bus.part) _ (sym c.check_transfer.ensures ∙ c.in-Ok.is)).1 in
+    let p = transfer-passed (part_of a.bus.part) a.bus.chips a.registers (columns_in a.bus.packed a.ram.now) (sent a.bytes.now a.bits) e in
+    (p.0, p.1.1, hearer_some a.bus.chips (sent a.bytes.now a.bits) _ (sym (c.heard_by.ensures ∙ ap (heard_by a.bus.chips) c.address_byte.ensures) ∙ c.in-Some.is))
 
 pub returns-in-Err : goal.returns-in-Err
 returns-in-Err c = let a = c.args in
-    let p = numbered (part_of a.part) (sym (by-check a.part a.chips a.registers (columns_in a.packed a.ram.now) (sent a.bytes.now a.bits) _ (sym c.check_transfer.ensures ∙ c.in-Err.is))) in
+    let p = numbered (part_of a.bus.part) (sym (by-check a.bus.part a.bus.chips a.registers (columns_in a.bus.packed a.ram.now) (sent a.bytes.now a.bits) _ (sym c.check_transfer.ensures ∙ c.in-Err.is))) in
     record { ram_after = p.0; answer_value = p.1 }
 
 pub returns-in-Some : goal.returns-in-Some
 returns-in-Some c = let a = c.args in
-    let p = numbered (part_of a.part) (c.deliver.ensures ∙ sym (takes a.part a.chips a.registers (columns_in a.packed a.ram.now) (sent a.bytes.now a.bits) _ _ _ _ c.check_transfer.ensures c.in-Ok.is c.address_byte.ensures c.heard_by.ensures c.in-Some.is)) in
+    let p = numbered (part_of a.bus.part) (c.deliver.ensures ∙ sym (takes a.bus.part a.bus.chips a.registers (columns_in a.bus.packed a.ram.now) (sent a.bytes.now a.bits) _ _ _ _ c.check_transfer.ensures c.in-Ok.is c.address_byte.ensures c.heard_by.ensures c.in-Some.is)) in
     record { ram_after = p.0; answer_value = p.1 }
 
 pub returns-in-None : goal.returns-in-None
 returns-in-None c = let a = c.args in
-    let p = numbered (part_of a.part) ((λ j. record { result = record { answer = c.without_data.ensures j; registers = a.registers }; ram = columns_in a.packed a.ram.now }) ∙ sym (takes a.part a.chips a.registers (columns_in a.packed a.ram.now) (sent a.bytes.now a.bits) _ _ _ _ c.check_transfer.ensures c.in-Ok.is c.address_byte.ensures c.heard_by.ensures c.in-None.is)) in
+    let p = numbered (part_of a.bus.part) ((λ j. record { result = record { answer = c.without_data.ensures j; registers = a.registers }; ram = columns_in a.bus.packed a.ram.now }) ∙ sym (takes a.bus.part a.bus.chips a.registers (columns_in a.bus.packed a.ram.now) (sent a.bytes.now a.bits) _ _ _ _ c.check_transfer.ensures c.in-Ok.is c.address_byte.ensures c.heard_by.ensures c.in-None.is)) in
     record { ram_after = p.0; answer_value = p.1 }
