@@ -5,7 +5,6 @@ use native.Mathlib.Omega.{arith}
 use native.Mathlib.Nat.{div-le_self}
 use borrow.Author.Tests.{lt-ltb, le-ltb}
 use Rattle.std.specs.Prelude.{Some}
-use Rattle.sheet.specs.Results.{Acknowledger}
 use Rattle.sheet.specs.Data.{acknowledger}
 use Rattle.listener.proofs.acknowledger.Goals as goal
 
