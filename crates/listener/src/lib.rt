@@ -58,6 +58,7 @@ fn acknowledged(mut counts: Counts) -> Counts
 }
 
 // The registers after a byte that is no data: a command is obeyed.
+#[tactic(auto, using(command::proofs::Cases::pointer_nibble))]
 fn obeyed_by(part: u8, expect: Expect, byte: u8, registers: Registers) -> Registers
     ensures { result ≡ obeyed_by (part_of part) expect byte registers }
 {
