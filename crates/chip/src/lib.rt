@@ -9,34 +9,18 @@ ghost use Rattle.sheet.specs.Commands.{obeyed};
 ghost use Rattle.sheet.specs.Checks.{or_else, check_part, over_in, passed};
 ghost use Rattle.sheet.specs.Pictures.{picture_of, lit_in};
 ghost use Rattle.columns.specs.Stored.{chip_ran};
-ghost use Rattle.sheet.specs.Plain.{with_registers, chip_byte_of, chip_byte, acknowledges_of, acknowledges_byte, chip_stepped, chip_answers, chip_lost, hears, chip_fits, chip_power_on, check_chip_picture, chip_power_on_part, chip_picture_part};
+ghost use Rattle.sheet.specs.Plain.{with_registers, chip_byte, acknowledges_byte, chip_stepped, chip_answers, chip_lost, hears, chip_fits, chip_power_on, check_chip_picture, chip_power_on_part, chip_picture_part};
 
 use sheet::{Chip, ChipPowerOn, Expect, Kind, Marks, Refusal, Registers};
 
-// The chip's registers after a command byte: it obeys every command, selected or not.
-fn obey(part: u8, chip: Chip, byte: u8) -> Registers
-    ensures { result ≡ obeyed chip.registers ((part_of part).command byte) }
-{
-    command::obey(chip.registers, decode::decode(part, byte))
-}
-
-// The chip after a command byte.
-fn take_command(part: u8, mut chip: Chip, byte: u8) -> Chip
+// The chip after a command byte: it obeys every command, selected or not.
+#[tactic(auto, using(command::proofs::Cases::pointer_nibble))]
+fn obey(part: u8, chip: Chip, byte: u8) -> Chip
     ensures { result ≡ with_registers (obeyed chip.registers ((part_of part).command byte)) chip }
 {
-    let registers = obey(part, chip, byte);
-    chip.registers = registers;
-    chip
-}
-
-// The chip, its registers in range, after a byte of a kind.
-fn take_byte(part: u8, chip: Chip, kind: Kind, byte: u8) -> Chip
-    requires { in_range (part_of part) chip.registers ≡ true }
-    ensures { result ≡ chip_byte_of (part_of part) kind byte chip }
-{
-    match kind {
-        Kind::Command => take_command(part, chip, byte),
-        Kind::Data => columns::take_data(part, chip, byte),
+    Chip {
+        registers: command::obey(chip.registers, decode::decode(part, byte)),
+        ..chip
     }
 }
 
@@ -45,10 +29,10 @@ fn follow(part: u8, chip: Chip, expect: Expect, byte: u8) -> Chip
     requires { in_range (part_of part) chip.registers ≡ true }
     ensures { result ≡ chip_byte (part_of part) expect byte chip }
 {
-    match expect {
-        Expect::Control => chip,
-        Expect::One(kind) => take_byte(part, chip, kind, byte),
-        Expect::All(kind) => take_byte(part, chip, kind, byte),
+    match protocol::kind(expect) {
+        None => chip,
+        Some(Kind::Command) => obey(part, chip, byte),
+        Some(Kind::Data) => columns::take_data(part, chip, byte),
     }
 }
 
@@ -74,26 +58,14 @@ pub fn run(part: u8, chip: Chip, bytes: &[u8]) -> Chip
     }
 }
 
-// Whether the chip, its registers in range, acknowledges a byte of a kind.
-fn answers_byte(part: u8, chip: Chip, kind: Kind, byte: u8) -> bool
-    requires { in_range (part_of part) chip.registers ≡ true }
-    ensures { result ≡ acknowledges_of (part_of part) kind byte chip }
-{
-    match kind {
-        Kind::Command => true,
-        Kind::Data => columns::acknowledges_data(part, chip, byte),
-    }
-}
-
 // Whether the chip, its registers in range, acknowledges a byte.
 fn answers(part: u8, chip: Chip, expect: Expect, byte: u8) -> bool
     requires { in_range (part_of part) chip.registers ≡ true }
     ensures { result ≡ acknowledges_byte (part_of part) expect byte chip }
 {
-    match expect {
-        Expect::Control => true,
-        Expect::One(kind) => answers_byte(part, chip, kind, byte),
-        Expect::All(kind) => answers_byte(part, chip, kind, byte),
+    match protocol::kind(expect) {
+        None | Some(Kind::Command) => true,
+        Some(Kind::Data) => columns::acknowledges_data(part, chip, byte),
     }
 }
 
@@ -101,28 +73,24 @@ fn answers(part: u8, chip: Chip, expect: Expect, byte: u8) -> bool
 pub fn acknowledges(part: u8, chip: Chip, expect: Expect, byte: u8) -> bool
     ensures { result ≡ chip_answers (part_of part) expect byte chip }
 {
-    if registers::in_range(part, chip.registers) {
-        answers(part, chip, expect, byte)
-    } else {
-        false
-    }
+    registers::in_range(part, chip.registers) && answers(part, chip, expect, byte)
 }
 
 // The chip after a byte that is cut: data makes its pointer and counter unknown.
-pub fn lose(mut chip: Chip, is_data: bool) -> Chip
+pub fn lose(chip: Chip, is_data: bool) -> Chip
     ensures { result ≡ chip_lost is_data chip }
 {
-    let registers = registers::lose(is_data, chip.registers);
-    chip.registers = registers;
-    chip
+    Chip {
+        registers: registers::lose(is_data, chip.registers),
+        ..chip
+    }
 }
 
 // Its marks.
 pub fn marks(chip: Chip) -> Marks
     ensures { result ≡ chip.registers.unknown }
 {
-    let registers = chip.registers;
-    registers.unknown
+    chip.registers.unknown
 }
 
 // Whether an address byte is the chip's.
@@ -141,13 +109,13 @@ fn columns_fit(part: u8, columns: [u8; 160]) -> bool
 }
 
 // Whether every field and column of the chip is in range.
+#[tactic(auto, unfolding(sheet::specs::Plain::chip_fits))]
 pub fn fits(part: u8, chip: Chip) -> bool
     ensures { result ≡ chip_fits (part_of part) chip }
 {
-    let columns = chip.columns;
     let below = (chip.subaddress as usize) < arithmetic::limit(part);
     (chip.sa0 < 2)
-        & (below & (registers::in_range(part, chip.registers) & columns_fit(part, columns)))
+        & (below & (registers::in_range(part, chip.registers) & columns_fit(part, chip.columns)))
 }
 
 // Whether a power-on is refused: 16, 11.
@@ -156,20 +124,24 @@ fn check_power_on(part: u8, chip: Chip) -> Result<(), Refusal>
     ensures { result ≡ or_else (check_part part) (chip_power_on (part_of part) chip).check }
 {
     checks::check_part(part)?;
-    let columns = chip.columns;
     let below = (chip.subaddress as usize) < arithmetic::limit(part);
-    let fits = (chip.sa0 < 2) & (below & columns_fit(part, columns));
+    let fits = (chip.sa0 < 2) & (below & columns_fit(part, chip.columns));
     checks::unless(fits, Refusal::ChipField(0))
 }
 
 // Power-on, taken or refused: the registers become the power-on ones and the rest stays.
-pub fn power_on(part: u8, mut chip: Chip) -> ChipPowerOn
+#[tactic(auto, unfolding(sheet::specs::Plain::chip_power_on_part))]
+pub fn power_on(part: u8, chip: Chip) -> ChipPowerOn
     ensures value { result ≡ chip_power_on_part part chip }
     ensures check_value { check_numbers result.check ≡ check_numbers (chip_power_on_part part chip).check }
 {
-    let check = check_power_on(part, chip);
-    chip.registers = registers::power_on();
-    ChipPowerOn { check, chip }
+    ChipPowerOn {
+        check: check_power_on(part, chip),
+        chip: Chip {
+            registers: registers::power_on(),
+            ..chip
+        },
+    }
 }
 
 // Whether a picture of the chip into a buffer of this size is refused, the part being known.
@@ -206,6 +178,5 @@ pub fn picture(part: u8, chip: Chip, phase: u8, out: &mut [u8]) -> Result<usize,
     ensures result_value { picture_numbers result ≡ picture_numbers (chip_picture_part part chip phase out.old).result }
 {
     check_picture(part, chip, phase, out.len())?;
-    let columns = chip.columns;
-    Ok(show_own(part, columns, chip.registers, phase, out))
+    Ok(show_own(part, chip.columns, chip.registers, phase, out))
 }

@@ -7,7 +7,7 @@ ghost use Rattle.sheet.specs.Data.{acknowledger};
 ghost use Rattle.sheet.specs.Long.{one_acknowledged};
 ghost use Rattle.sheet.specs.Runs.{counted_run, last_run};
 ghost use Rattle.opening.specs.Opened.{opened_at};
-ghost use Rattle.listener.specs.Listeners.{listener_of, is_control, obeyed_by, data_end, stepped, ran, ended_by, Countable, Placed, Runs};
+ghost use Rattle.listener.specs.Listeners.{listener_of, obeyed_by, data_end, stepped, ran, ended_by, Countable, Placed, Runs};
 
 use sheet::{Counts, Expect, Kind, Registers};
 
@@ -42,15 +42,9 @@ pub fn data_end(expect: Expect, i: usize, n: usize) -> usize
     ensures { result ≡ data_end expect i n }
 {
     match expect {
-        Expect::Control => i,
-        Expect::One(kind) => match kind {
-            Kind::Command => i,
-            Kind::Data => i + 1,
-        },
-        Expect::All(kind) => match kind {
-            Kind::Command => i,
-            Kind::Data => n,
-        },
+        Expect::One(Kind::Data) => i + 1,
+        Expect::All(Kind::Data) => n,
+        Expect::Control | Expect::One(Kind::Command) | Expect::All(Kind::Command) => i,
     }
 }
 
@@ -63,21 +57,14 @@ fn acknowledged(mut counts: Counts) -> Counts
     counts
 }
 
-// Whether the next byte is a control byte.
-fn is_control(expect: Expect) -> bool
-    ensures { result ≡ is_control expect }
-{
-    matches!(expect, Expect::Control)
-}
-
 // The registers after a byte that is no data: a command is obeyed.
+#[tactic(auto, using(command::proofs::Cases::pointer_nibble))]
 fn obeyed_by(part: u8, expect: Expect, byte: u8, registers: Registers) -> Registers
     ensures { result ≡ obeyed_by (part_of part) expect byte registers }
 {
-    if is_control(expect) {
-        registers
-    } else {
-        command::obey(registers, decode::decode(part, byte))
+    match expect {
+        Expect::Control => registers,
+        Expect::One(_) | Expect::All(_) => command::obey(registers, decode::decode(part, byte)),
     }
 }
 

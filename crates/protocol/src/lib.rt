@@ -3,10 +3,11 @@
 
 ghost use Rattle.std.specs.Prelude.{◌≡◌, cond, ◌≤◌, ◌<◌, length, drop, Ok};
 ghost use Rattle.sheet.specs.Parts.{part_of};
-ghost use Rattle.sheet.specs.Protocol.{kind_of, control_of, next, sent, is_data_of, is_data};
+ghost use Rattle.sheet.specs.Protocol.{kind_of, control_of, next, sent, is_data};
 ghost use Rattle.sheet.specs.declared.Refusal.TheVariants.{UnknownPlace};
 ghost use Rattle.sheet.specs.Registers.{known};
-ghost use Rattle.sheet.specs.Checks.{unless, fault_of, fault, marks_of, marks_after, last_fault, fault_in, fault_of_sent};
+ghost use Rattle.sheet.specs.Checks.{unless, fault, marks_after, last_fault, fault_in, fault_of_sent};
+ghost use Rattle.protocol.specs.Kinds.{kind};
 ghost use Rattle.protocol.specs.Left.{only_left, undefined_in, all_defined};
 
 use sheet::{Expect, Kind, Marks, Refusal};
@@ -47,65 +48,46 @@ pub fn follow(expect: Expect, byte: u8) -> Expect
     }
 }
 
-// Whether what follows a control byte is data.
-fn is_data_of(kind: Kind) -> bool
-    ensures { result ≡ is_data_of kind }
+// The kind of the next byte: none of a control byte.
+pub fn kind(expect: Expect) -> Option<Kind>
+    ensures { result ≡ kind expect }
 {
-    matches!(kind, Kind::Data)
+    match expect {
+        Expect::Control => None,
+        Expect::One(kind) | Expect::All(kind) => Some(kind),
+    }
 }
 
 // Whether the next byte is data.
 pub fn is_data(expect: Expect) -> bool
     ensures { result ≡ is_data expect }
 {
-    match expect {
-        Expect::Control => false,
-        Expect::One(kind) | Expect::All(kind) => is_data_of(kind),
-    }
+    matches!(kind(expect), Some(Kind::Data))
 }
 
 // ---- the first fault
 
-// The fault of a byte of a kind, at place i.
-fn fault_of(part: u8, marks: Marks, kind: Kind, i: usize, byte: u8) -> Result<(), Refusal>
-    ensures { result ≡ fault_of (part_of part) marks kind i byte }
-{
-    match kind {
-        Kind::Command => checks::unless(
-            decode::is_defined(part, byte),
-            Refusal::UndefinedCommand(i),
-        ),
-        Kind::Data => checks::unless(registers::all_known(marks), Refusal::UnknownPlace(i)),
-    }
-}
-
+// The fault of a byte at place i.
 fn fault(part: u8, marks: Marks, expect: Expect, i: usize, byte: u8) -> Result<(), Refusal>
     ensures { result ≡ fault (part_of part) marks expect i byte }
 {
-    match expect {
-        Expect::Control => checks::unless(byte % 64 == 0, Refusal::StrayBits(i)),
-        Expect::One(kind) => fault_of(part, marks, kind, i, byte),
-        Expect::All(kind) => fault_of(part, marks, kind, i, byte),
+    match kind(expect) {
+        None => checks::unless(byte % 64 == 0, Refusal::StrayBits(i)),
+        Some(Kind::Command) => checks::unless(
+            decode::is_defined(part, byte),
+            Refusal::UndefinedCommand(i),
+        ),
+        Some(Kind::Data) => checks::unless(registers::all_known(marks), Refusal::UnknownPlace(i)),
     }
 }
 
-// The marks after a byte of a kind.
-fn marks_of(part: u8, marks: Marks, kind: Kind, byte: u8) -> Marks
-    ensures { result ≡ marks_of (part_of part) marks kind byte }
-{
-    match kind {
-        Kind::Command => command::restore(part, marks, byte),
-        Kind::Data => marks,
-    }
-}
-
+// The marks after a byte: only a command changes them.
 fn marks_after(part: u8, marks: Marks, expect: Expect, byte: u8) -> Marks
     ensures { result ≡ marks_after (part_of part) marks expect byte }
 {
-    match expect {
-        Expect::Control => marks,
-        Expect::One(kind) => marks_of(part, marks, kind, byte),
-        Expect::All(kind) => marks_of(part, marks, kind, byte),
+    match kind(expect) {
+        Some(Kind::Command) => command::restore(part, marks, byte),
+        None | Some(Kind::Data) => marks,
     }
 }
 
@@ -126,7 +108,7 @@ fn only(of_data: bool, expect: Expect) -> bool
 {
     match expect {
         Expect::Control | Expect::One(_) => false,
-        Expect::All(kind) => is_data_of(kind) == of_data,
+        Expect::All(_) => is_data(expect) == of_data,
     }
 }
 

@@ -1,11 +1,9 @@
 -- columns_fit: whether the check of the part's columns passes.
 -- Assumes nothing.
-use mathlib.Core.Path.{◌≡◌, sym, ap, ◌∙◌}
-use Prim.Native.Nat.{ℕ}
+use mathlib.Core.Path.{◌≡◌, sym}
 use native.Mathlib.Omega.{arith}
-use lib.ListN.{length, take}
+use lib.ListN.{length}
 use lib.Seq.{length-take-le}
-use Rattle.sheet.specs.Checks.{over_in, passed}
 use Rattle.laws.proofs.Named.{columns-small}
 use borrow.Author.Rules.{rules}
 use Rattle.chip.proofs.columns_fit.Goals as goal
@@ -16,8 +14,3 @@ slice_bounds-columns-end c = let all : 160 ≡ length c.args.columns = search ru
 
 pub slice_bounds-first_over-end : goal.slice_bounds-first_over-end
 slice_bounds-first_over-end c = sym (length-take-le _ _ (let all : 160 ≡ length c.args.columns = search rules in omega (arith, all, c.columns-own.ensures, columns-small c.args.part)))
-
-pub returns : goal.returns
-returns c =
-    c.passes.ensures
-    ∙ ap passed (c.first_over.ensures ∙ ap (λ (n : ℕ). over_in 0 (take n c.args.columns)) c.columns-own.ensures)

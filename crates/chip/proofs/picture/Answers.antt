@@ -8,7 +8,7 @@ use Prim.Native.Nat.{ℕ}
 use lib.ListN.{length}
 use Rattle.sheet.specs.declared.Chip.{Chip}
 use Rattle.std.specs.Prelude.{Ok}
-use Rattle.sheet.specs.Results.{Check, Pictured}
+use Rattle.sheet.specs.Results.{Check}
 use Rattle.sheet.specs.Parts.{part_of}
 use Rattle.sheet.specs.Registers.{in_range}
 use Rattle.sheet.specs.Checks.{or_else, check_part}

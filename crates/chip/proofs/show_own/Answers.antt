@@ -1,13 +1,12 @@
 -- `chip::show_own` meets its contract: the columns of the part are a part of the array.
 -- Assumes nothing.
-use mathlib.Core.Path.{◌≡◌, sym, ap, ◌∙◌}
+use mathlib.Core.Path.{◌≡◌, sym, ◌∙◌}
 use mathlib.Core.List.{List}
 use Prim.Native.Nat.{ℕ, ◌≤◌}
 use Rattle.sheet.specs.Parts.{part_of}
 use native.Mathlib.Omega.{arith}
-use lib.ListN.{length, take}
+use lib.ListN.{length}
 use lib.Seq.{length-take-le}
-use Rattle.sheet.specs.Pictures.{picture_of, lit_in}
 use Rattle.laws.proofs.Named.{columns-small, by_eighty}
 use borrow.Author.Rules.{rules}
 use Rattle.chip.proofs.show_own.Goals as goal
@@ -26,9 +25,3 @@ pub show-requires : goal.show-requires
 show-requires c =
     let all : 160 ≡ length c.args.columns = search rules in
     (c.requires.0 ∙ sym c.columns-own.ensures ∙ sym (length-take-le _ _ (fits c.args.part _ c.args.columns c.columns-own.ensures all)), omega (arith, c.requires.0, columns-small c.args.part), omega (arith, c.requires.0, by_eighty c.args.part 1), c.requires.1, c.requires.2)
-
-pub returns : goal.returns
-returns c = let a = c.args in
-    let own = ap (λ (n : ℕ). picture_of a.registers a.phase (take n a.columns)) c.columns-own.ensures in
-    let e = c.show.ensures in
-    record { out_after = e.out_after ∙ own; value = e.value ∙ ap lit_in own }

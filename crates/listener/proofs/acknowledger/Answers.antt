@@ -1,16 +1,10 @@
 -- `listener::acknowledger` meets its contract.
 -- Assumes nothing.
 use mathlib.Core.Path.{ap}
-use native.Mathlib.Omega.{arith}
-use native.Mathlib.Nat.{div-le_self}
 use borrow.Author.Tests.{lt-ltb, le-ltb}
 use Rattle.std.specs.Prelude.{Some}
-use Rattle.sheet.specs.Results.{Acknowledger}
 use Rattle.sheet.specs.Data.{acknowledger}
 use Rattle.listener.proofs.acknowledger.Goals as goal
-
-pub overflow_add-column : goal.overflow_add-column
-overflow_add-column c = omega (arith, c.requires.1, div-le_self 7 c.args.m)
 
 pub returns-then-column-size : goal.returns-then-column-size
 unfolding acknowledger

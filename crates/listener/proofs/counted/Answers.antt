@@ -38,18 +38,6 @@ cut-run t m n left p h =
 as-defined : (t : Counts) (v size m n left : ℕ) → 0 < m → left ≡ size - v → tallied n m left t ≡ counted_run n m v size t
 as-defined t v size m n left p e = rw e (sym (counted-at-once n m v size t p))
 
-pub overflow_mul-stored-else-n-whole : goal.overflow_mul-stored-else-n-whole
-overflow_mul-stored-else-n-whole c = omega (arith, rest_lt c.args.m c.columns_from-left.result c.width-w.result c.requires.some c.width-w.ensures)
-
-pub overflow_add-stored : goal.overflow_add-stored
-overflow_add-stored c = omega (arith, rest_lt c.args.m c.columns_from-left.result c.width-w.result c.requires.some c.width-w.ensures)
-
-pub overflow_add-result-else-n-whole-2 : goal.overflow_add-result-else-n-whole-2
-overflow_add-result-else-n-whole-2 c = omega (arith, rest_lt c.args.m c.columns_from-left.result c.width-w.result c.requires.some c.width-w.ensures)
-
-pub overflow_sub-result : goal.overflow_sub-result
-overflow_sub-result c = omega (arith, rest_lt c.args.m c.columns_from-left.result c.width-w.result c.requires.some c.width-w.ensures)
-
 pub returns-then-n-whole : goal.returns-then-n-whole
 returns-then-n-whole c = let a = c.args in
     whole_run a.counts a.m a.n c.columns_from-left.result (rw (← c.width-w.ensures) c.if-n-whole.true) ∙ as-defined a.counts a.v a.size a.m a.n c.columns_from-left.result c.requires.some c.columns_from-left.ensures

@@ -1,9 +1,9 @@
 -- `listener::last_of` meets its contract: of some bytes it is the last one's.
 -- Assumes nothing.
 use mathlib.Core.Path.{◌≡◌, sym, ap, ◌∙◌}
-use Prim.Native.Nat.{ℕ, zero, suc, ◌+◌, ◌-◌, ◌*◌, ◌≤◌, ◌<◌}
+use Prim.Native.Nat.{ℕ, zero, suc, ◌+◌, ◌-◌, ◌*◌, ◌<◌}
 use native.Mathlib.Omega.{arith}
-use native.Mathlib.Nat.{not-suc-le-zero, div-le_self, mul-le-mul_right}
+use native.Mathlib.Nat.{not-suc-le-zero}
 use Rattle.sheet.specs.Results.{Acknowledger}
 use Rattle.sheet.specs.Parts.{Part, part_of}
 use Rattle.sheet.specs.Data.{width_of, acknowledger}
@@ -18,19 +18,6 @@ of_none K n m v size before e = rw e
 of_some : (K : Part) (n m v size : ℕ) (before : Acknowledger) → 0 < n → acknowledger K m (v + width_of m * (n - 1)) size ≡ last_run K n m v size before
 of_some K zero m v size before p = absurd (not-suc-le-zero p)
 of_some K (suc n) m v size before p = let less : suc n - 1 ≡ n = omega arith in rw less (sym (last-at-once K n m v size before))
-
--- a byte has at most eight columns
-steps-le : (c : goal.After-width) → let a = c.args in c.width.result * (a.n - 1) ≤ 8 * (a.n - 1)
-steps-le c = let a = c.args in rw c.width.ensures (mul-le-mul_right (a.n - 1) (omega (arith, div-le_self 7 a.m)))
-
-pub overflow_mul-begins : goal.overflow_mul-begins
-overflow_mul-begins c = omega (arith, steps-le c, c.requires.short)
-
-pub overflow_add-begins : goal.overflow_add-begins
-overflow_add-begins c = omega (arith, steps-le c, c.requires.short, c.requires.position)
-
-pub acknowledger-requires : goal.acknowledger-requires
-acknowledger-requires c = (c.requires.some, omega (arith, steps-le c, c.requires.short, c.requires.position))
 
 pub returns-then-n-eq0 : goal.returns-then-n-eq0
 returns-then-n-eq0 c = let a = c.args in of_none (part_of a.part) a.n a.m a.v a.size a.earlier c.if-n-eq0.true

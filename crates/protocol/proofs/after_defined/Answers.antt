@@ -1,6 +1,6 @@
 -- `protocol::after_defined` meets its contract: a block that is all commands is passed over.
 -- Assumes nothing.
-use mathlib.Core.Path.{◌≡◌, refl, sym, ap, ◌∙◌}
+use mathlib.Core.Path.{◌≡◌, sym, ap, ◌∙◌}
 use mathlib.Core.Bool.{true}
 use Prim.Native.Nat.{ℕ}
 use native.Mathlib.Nat.{add-sub_cancel_left}
@@ -19,12 +19,3 @@ loop-i-preserved c = let a = c.args in
     let passed : all_defined K (take 64 (drop i bytes)) ≡ true =
     ap (λ (n : ℕ). all_defined K (take n (drop i bytes))) (sym (add-sub_cancel_left i 64)) ∙ sym c.all_defined.ensures ∙ c.if-all_defined.true in
     (block_passed K bytes i 64 (omega arith) passed ∙ c.loop-i.invariant.0, omega arith)
-
-pub loop-i-init : goal.loop-i-init
-loop-i-init c = (refl, c.requires)
-
-pub returns-else-all_defined : goal.returns-else-all_defined
-returns-else-all_defined c = c.loop-i.invariant
-
-pub returns : goal.returns
-returns c = c.loop-i.invariant

@@ -29,6 +29,3 @@ all_found false = refl
 pub returns : goal.returns
 returns c = let a = c.args in
     all_found c.loop-command.found ∙ ap (λ (t : Bool). c.loop-command.found && t) (sym (all-of-none (part_of a.part) a.commands.now c.loop-command.command-index c.loop-command-test.false)) ∙ c.loop-command.invariant
-
-pub loop-command-init : goal.loop-command-init
-loop-command-init c = refl

@@ -1,6 +1,6 @@
 -- `protocol::fault_in` meets its contract: the search from here on gives the whole search's answer.
 -- Assumes nothing.
-use mathlib.Core.Path.{◌≡◌, refl, sym, ap, ap₂, ◌∙◌}
+use mathlib.Core.Path.{◌≡◌, sym, ap, ap₂, ◌∙◌}
 use Prim.Native.Nat.{ℕ, ◌+◌, ◌<◌}
 use native.Mathlib.Omega.{arith}
 use lib.ListN.{length, get_or, drop}
@@ -17,9 +17,6 @@ use Rattle.sheet.specs.Checks.{fault, marks_after, last_fault, fault_in}
 use Rattle.protocol.proofs.Faults.{found, go_on, in_run, all-looked}
 use Rattle.protocol.proofs.Commands.{in_commands}
 use Rattle.protocol.proofs.fault_in.Goals as goal
-
-pub loop-i-init : goal.loop-i-init
-loop-i-init c = (omega arith, refl)
 
 pub returns-in-Err : goal.returns-in-Err
 returns-in-Err c = let a = c.args in

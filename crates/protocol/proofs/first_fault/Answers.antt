@@ -1,19 +1,15 @@
 -- `protocol::first_fault` meets its contract: the whole bytes are the first so many.
 -- Assumes nothing.
-use mathlib.Core.Path.{sym, ap, subst, ◌∙◌}
+use mathlib.Core.Path.{ap, ◌∙◌}
 use mathlib.Core.List.{List}
-use Prim.Native.Nat.{ℕ, ◌≤◌}
+use Prim.Native.Nat.{ℕ}
 use lib.Dec.{ltb}
-use lib.ListN.{length, take, drop}
-use lib.Seq.{length-take-le}
+use lib.ListN.{take, drop}
 use Rattle.sheet.specs.declared.Expect.{Expect}
 use Rattle.sheet.specs.Parts.{part_of}
 use Rattle.sheet.specs.Checks.{fault_in}
-use Rattle.laws.proofs.Wholes.{whole-most, whole-taken}
+use Rattle.laws.proofs.Wholes.{whole-taken}
 use Rattle.protocol.proofs.first_fault.Goals as goal
-
-pub slice_bounds-fault_in-end : goal.slice_bounds-fault_in-end
-slice_bounds-fault_in-end c = sym (length-take-le _ _ (subst (λ (k : ℕ). k ≤ length c.args.bytes.now) (sym c.whole_count-whole.ensures) (whole-most (length c.args.bytes.now) c.args.bits)))
 
 pub returns : goal.returns
 returns c = let a = c.args in

@@ -16,6 +16,3 @@ returns-then-not-is_defined c = let a = c.args in
 pub returns : goal.returns
 returns c = let a = c.args in
     sym (none-undefined (part_of a.part) a.bytes.now c.loop-i.i c.loop-i-test.false) ∙ c.loop-i.invariant
-
-pub loop-i-init : goal.loop-i-init
-loop-i-init c = c.after_defined-i.ensures.0

@@ -1,13 +1,9 @@
 -- `listener::Listener::run` meets its contract.
 -- Assumes nothing.
-use mathlib.Core.Path.{ap, ap₂, ◌∙◌}
-use Prim.Native.Nat.{ℕ, ◌+◌, ◌*◌, ◌≤◌}
+use Prim.Native.Nat.{◌*◌, ◌≤◌}
 use native.Mathlib.Omega.{arith}
 use native.Mathlib.Nat.{div-le_self, mul-le-mul_right}
 use Rattle.sheet.specs.Parts.{part_of}
-use Rattle.sheet.specs.Places.{at_position}
-use Rattle.sheet.specs.Data.{width_of}
-use Rattle.sheet.specs.Runs.{counted_run, last_run}
 use Rattle.laws.proofs.Ranges.{range-of, rows_fit, planes_pos}
 use Rattle.laws.proofs.Named.{position-small}
 use Rattle.listener.proofs.Listener.run.Goals as goal
@@ -18,9 +14,6 @@ steps-le c = rw c.width.ensures (mul-le-mul_right c.args.n (omega (arith, div-le
 
 pub width-requires : goal.width-requires
 width-requires c = rw c.backplanes-m.ensures (planes_pos c.args.self.registers)
-
-pub overflow_mul-after : goal.overflow_mul-after
-overflow_mul-after c = omega (arith, steps-le c, c.requires.short)
 
 pub overflow_add-after : goal.overflow_add-after
 overflow_add-after c = let r = c.args.self.registers in
@@ -37,13 +30,3 @@ pub last_of-requires : goal.last_of-requires
 last_of-requires c = let r = c.args.self.registers in
     let h = range-of (part_of c.args.part) r c.requires.range in
     record { some = rw c.backplanes-m.ensures (planes_pos r); position = omega (arith, c.position-v.ensures, position-small c.args.part r h); short = c.requires.short }
-
-pub returns : goal.returns
-returns c = let v = c.position-v.ensures in
-    let m = c.backplanes-m.ensures in
-    let a = c.args in
-    let r = a.self.registers in
-    let er = c.at_position.ensures ∙ ap₂ (λ (u k : ℕ). at_position (part_of a.part) r (u + k * a.n)) v (c.width.ensures ∙ ap width_of m) in
-    let ec = c.counted.ensures ∙ ap₂ (λ (u k : ℕ). counted_run a.n k u a.size a.self.counts) v m in
-    let el = c.last_of.ensures ∙ ap₂ (λ (u k : ℕ). last_run (part_of a.part) a.n k u a.size a.self.last) v m in
-    λ j. record { expect = c.follow.ensures j; registers = er j; counts = ec j; last = el j }
