@@ -133,10 +133,8 @@ pub extern "C" fn humtrellis_chip_power_on(part: u8, chip: &mut [u8], answer: &m
     if (chip.len() == 174) & (answer.len() == 6) {
         let before = wire::chip_of(chip);
         let done = chip::power_on(part, before);
-        let after = done.chip;
-        let check = done.check;
-        wire::put_chip(after, chip);
-        wire::put_numbers(answers::check_numbers(check), answer)
+        wire::put_chip(done.chip, chip);
+        wire::put_numbers(answers::check_numbers(done.check), answer)
     } else {
         255
     }

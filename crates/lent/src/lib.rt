@@ -14,9 +14,8 @@ fn transfer_few(part: u8, chips: &mut [u8], bytes: &[u8], bits: u8) -> Result<Ac
 {
     let before = wire::bench_of(chips, chips.len() / 174);
     let done = plain::transfer_bench(part, before, bytes, bits);
-    let after = done.bench;
     let said = done.answer?;
-    wire::put_bench(after, chips);
+    wire::put_bench(done.bench, chips);
     Ok(said)
 }
 

@@ -118,11 +118,12 @@ fn hear_rest(
         hear_run(bus, group, set, ram, bytes, from, answer)
     } else {
         let heard = long::hear_in(bus, group, opened, ram, bytes, bits, from);
-        let after = heard.registers;
-        let counts = heard.counts;
-        let last = heard.last;
-        wire::put_registers(after, set);
-        say(bus.part, Ok(Taken { counts, last }), answer)
+        wire::put_registers(heard.registers, set);
+        let taken = Taken {
+            counts: heard.counts,
+            last: heard.last,
+        };
+        say(bus.part, Ok(taken), answer)
     }
 }
 

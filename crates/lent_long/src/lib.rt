@@ -20,10 +20,8 @@ pub fn power_on(bus: Bus, ram: &[u8], registers: &mut [u8], answer: &mut [usize]
 {
     if (registers.len() == 24) & (answer.len() == 6) {
         let done = long::power_on(bus, ram);
-        let after = done.registers;
-        let check = done.check;
-        wire::put_both(after, registers);
-        wire::put_numbers(answers::check_numbers(check), answer)
+        wire::put_both(done.registers, registers);
+        wire::put_numbers(answers::check_numbers(done.check), answer)
     } else {
         255
     }

@@ -69,12 +69,12 @@ fn deliver(
 {
     let before = groups::registers_of(group, registers);
     let heard = hear_in(bus, group, before, ram, bytes, bits, 1);
-    let after = heard.registers;
-    let counts = heard.counts;
-    let last = heard.last;
     Transferred {
-        answer: Ok(Taken { counts, last }),
-        registers: groups::replaced(group, after, registers),
+        answer: Ok(Taken {
+            counts: heard.counts,
+            last: heard.last,
+        }),
+        registers: groups::replaced(group, heard.registers, registers),
     }
 }
 

@@ -70,10 +70,8 @@ pub fn put_both(registers: Both, out: &mut [u8])
     requires { length out.old ≡ 24 }
     ensures { out.new ≡ both_bytes registers }
 {
-    let zero = registers.zero;
-    let one = registers.one;
-    put_registers(zero, &mut out[..12]);
-    put_registers(one, &mut out[12..]);
+    put_registers(registers.zero, &mut out[..12]);
+    put_registers(registers.one, &mut out[12..]);
 }
 
 // ---- chips
