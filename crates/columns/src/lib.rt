@@ -36,17 +36,21 @@ fn put_rows(m: usize, b: usize, k: usize, byte: u8, column: u8) -> u8
 }
 
 // A column on: P rises by 1; at the part's columns it becomes 0 and A rises by 1, stopping at the limit.
-fn advance(part: u8, mut registers: Registers) -> Registers
+fn advance(part: u8, registers: Registers) -> Registers
     requires { (registers.p < (part_of part).columns) × (registers.a ≤ (part_of part).limit) }
     ensures { result ≡ advanced (part_of part) registers }
 {
     if registers.p + 1 == arithmetic::columns(part) {
-        registers.p = 0;
-        registers.a = arithmetic::limit(part).min(registers.a + 1);
-        registers
+        Registers {
+            p: 0,
+            a: arithmetic::limit(part).min(registers.a + 1),
+            ..registers
+        }
     } else {
-        registers.p = registers.p + 1;
-        registers
+        Registers {
+            p: registers.p + 1,
+            ..registers
+        }
     }
 }
 
@@ -72,8 +76,7 @@ fn put_columns(columns: &mut [u8], part: u8, start: Registers, subaddress: u8, b
     let width = arithmetic::width(arithmetic::backplanes(start));
     let mut registers = start;
     for j in 0..width {
-        let p = registers.p;
-        columns[p] = stored(registers, subaddress, byte, j, columns[p]);
+        columns[registers.p] = stored(registers, subaddress, byte, j, columns[registers.p]);
         registers = advance(part, registers);
     }
 }
@@ -142,23 +145,6 @@ fn pass(part: u8, registers: Registers, count: usize) -> Registers
     arithmetic::at_position(part, registers, v)
 }
 
-// The chip after a data byte: all its columns; P and A move, stored or not.
-pub fn take_data(part: u8, chip: Chip, byte: u8) -> Chip
-    requires { in_range (part_of part) chip.registers ≡ true }
-    ensures { result ≡ chip_data (part_of part) byte chip }
-{
-    let registers = chip.registers;
-    let own = chip.subaddress;
-    let mut columns = chip.columns;
-    put_byte(&mut columns[..160], part, registers, own, byte);
-    Chip {
-        columns,
-        sa0: chip.sa0,
-        subaddress: chip.subaddress,
-        registers: pass(part, registers, 1),
-    }
-}
-
 // The chip after data bytes, each of which goes on where the one before ended. The columns are copied once, and not at each byte.
 fn store_run(part: u8, chip: Chip, bytes: &[u8]) -> Chip
     requires { in_range (part_of part) chip.registers ≡ true }
@@ -172,22 +158,31 @@ fn store_run(part: u8, chip: Chip, bytes: &[u8]) -> Chip
     }
     Chip {
         columns,
-        sa0: chip.sa0,
-        subaddress: chip.subaddress,
         registers,
+        ..chip
     }
 }
 
-// The same. Bytes that all end in the columns of another chip only move P.
-pub fn take_run(part: u8, mut chip: Chip, bytes: &[u8]) -> Chip
+// After one: all its columns; P and A move, stored or not.
+#[tactic(auto, unfolding(crate::specs::Stored::ran_over))]
+pub fn take_data(part: u8, chip: Chip, byte: u8) -> Chip
+    requires { in_range (part_of part) chip.registers ≡ true }
+    ensures { result ≡ chip_data (part_of part) byte chip }
+{
+    store_run(part, chip, &[byte])
+}
+
+// After several. Bytes that all end in the columns of another chip only move P.
+pub fn take_run(part: u8, chip: Chip, bytes: &[u8]) -> Chip
     requires { in_range (part_of part) chip.registers ≡ true }
     ensures { result ≡ ran_over (part_of part) bytes.now chip }
 {
-    let registers = chip.registers;
-    let inside = bytes.len() <= room(part, registers);
-    if inside & (registers.a != chip.subaddress as usize) {
-        chip.registers = pass(part, registers, bytes.len());
-        chip
+    let inside = bytes.len() <= room(part, chip.registers);
+    if inside & (chip.registers.a != chip.subaddress as usize) {
+        Chip {
+            registers: pass(part, chip.registers, bytes.len()),
+            ..chip
+        }
     } else {
         store_run(part, chip, bytes)
     }
@@ -198,9 +193,8 @@ pub fn acknowledges_data(part: u8, chip: Chip, byte: u8) -> bool
     requires { in_range (part_of part) chip.registers ≡ true }
     ensures { result ≡ acknowledges_data (part_of part) byte chip }
 {
-    let registers = chip.registers;
-    let width = arithmetic::width(arithmetic::backplanes(registers));
-    let last = arithmetic::position(part, registers) + width - 1;
+    let width = arithmetic::width(arithmetic::backplanes(chip.registers));
+    let last = arithmetic::position(part, chip.registers) + width - 1;
     let a = arithmetic::limit(part).min(arithmetic::chip_of(part, last));
     a == chip.subaddress as usize
 }

@@ -14,7 +14,7 @@ use Rattle.sheet.specs.declared.Chip.{Chip}
 use Rattle.sheet.specs.declared.Expect.TheVariants.{Control}
 use Rattle.sheet.specs.declared.Refusal.TheVariants.{ManyChips, ChipField}
 use Rattle.std.specs.Prelude.{Err, Ok}
-use Rattle.sheet.specs.Results.{Check, PlainAnswer}
+use Rattle.sheet.specs.Results.{Check}
 use Rattle.sheet.specs.Parts.{part_of}
 use Rattle.sheet.specs.Checks.{unless, or_else, check_part, check_sent, passed, fault_of_sent}
 use Rattle.sheet.specs.Protocol.{Sent, cut, address_byte}

@@ -4,7 +4,7 @@ use Rattle.std.specs.Prelude.{ℕ, ◌+◌, ◌*◌, Bool, cond, ◌&&◌, ltb, 
 use Rattle.sheet.specs.declared.Marks.{Marks}
 use Rattle.sheet.specs.declared.Expect.TheVariants.{Control}
 use Rattle.sheet.specs.declared.Refusal.TheVariants.{ManyChips, ChipField}
-use Rattle.sheet.specs.Results.{Acknowledger, Check, PlainAnswer}
+use Rattle.sheet.specs.Results.{Check, PlainAnswer}
 use Rattle.sheet.specs.Parts.{part_of}
 use Rattle.sheet.specs.Protocol.{Sent, cut, address_byte}
 use Rattle.sheet.specs.Checks.{unless, or_else, check_part, check_sent, passed, fault_of_sent}

@@ -50,7 +50,7 @@ pub struct Found {
 fn mark_at(place: usize, count: usize) -> u8
     ensures { result ≡ mark_at place count }
 {
-    if place < count { 1 } else { 0 }
+    (place < count) as u8
 }
 
 // The marks of the chips that hear.
@@ -69,13 +69,18 @@ fn marks_found(found: Found) -> Marks
 fn check_chips(part: u8, bytes: &[u8], bits: u8, found: Found) -> Result<(), Refusal>
     ensures { result ≡ check_list part (sent bytes.now bits) found }
 {
-    let marks = marks_found(found);
     checks::unless(
         found.count <= found.misfit,
         Refusal::ChipField(found.misfit),
     )?;
     checks::check_sent(bytes.len(), bits)?;
-    check_bytes(part, bytes, bits, found.hearer < found.count, marks)
+    check_bytes(
+        part,
+        bytes,
+        bits,
+        found.hearer < found.count,
+        marks_found(found),
+    )
 }
 
 fn check_transfer(part: u8, bytes: &[u8], bits: u8, found: Found) -> Result<(), Refusal>
@@ -119,17 +124,12 @@ pub fn begin(bytes: &[u8], part: u8, bits: u8, found: Found) -> Start
     ensures { result ≡ start_of part (sent bytes.now bits) found }
 {
     let check = check_transfer(part, bytes, bits, found);
-    if checks::passes(check) & (found.hearer < found.count) {
-        Start {
-            check,
-            turn: turn_at(part, bytes, bits, 1, 1),
-        }
+    let turn = if checks::passes(check) & (found.hearer < found.count) {
+        turn_at(part, bytes, bits, 1, 1)
     } else {
-        Start {
-            check,
-            turn: turn_at(part, bytes, bits, bytes.len(), 0),
-        }
-    }
+        turn_at(part, bytes, bits, bytes.len(), 0)
+    };
+    Start { check, turn }
 }
 
 pub fn answer(check: Result<(), Refusal>, tally: Tally) -> Result<Acknowledged, Refusal>

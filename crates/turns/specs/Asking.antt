@@ -4,7 +4,6 @@ use Rattle.sheet.specs.declared.Chip.{Chip}
 use Rattle.sheet.specs.Parts.{part_of}
 use Rattle.sheet.specs.Protocol.{is_data}
 use Rattle.columns.specs.Stored.{room_in, chip_ran}
-use Rattle.sheet.specs.Results.{Acknowledger}
 use Rattle.turns.specs.declared.Said.{Said}
 use Rattle.sheet.specs.Plain.{hears, lower, chip_stepped, chip_answers, chip_lost}
 use Rattle.turns.specs.declared.BusByte.{BusByte}

@@ -2,9 +2,9 @@
 #![tactic(auto)]
 
 ghost use Rattle.std.specs.Prelude.{◌≡◌, cond, ◌+◌, ◌≤◌, ◌<◌, ◌^◌, length};
-ghost use Rattle.sheet.specs.Plain.{lower, last_of, last_after};
-ghost use Rattle.turns.specs.Asking.{answers, one_or, alike_of, nothing_said, said_with, taken, ran_by};
-ghost use Rattle.turns.specs.Turns.{once_each, last_heard, turn_past, most_of, most_after, most_in, taken_by, reach_of};
+ghost use Rattle.sheet.specs.Plain.{lower};
+ghost use Rattle.turns.specs.Asking.{answers, alike_of, nothing_said, said_with, taken, ran_by};
+ghost use Rattle.turns.specs.Turns.{once_each, last_heard, turn_past, most_after, most_in, taken_by, reach_of};
 
 use sheet::{Chip, Expect, Kind};
 
@@ -24,9 +24,8 @@ pub struct BusByte {
 fn acknowledges(chip: Chip, heard: BusByte) -> bool
     ensures { result ≡ answers heard chip }
 {
-    let expect = heard.expect;
-    let hears = chip::hears(chip, heard.address);
-    hears & (!heard.cut & chip::acknowledges(heard.part, chip, expect, heard.byte))
+    chip::hears(chip, heard.address)
+        & (!heard.cut & chip::acknowledges(heard.part, chip, heard.expect, heard.byte))
 }
 
 // A subaddress and the smallest of the others.
@@ -34,7 +33,7 @@ fn lower(subaddress: usize, others: Option<usize>) -> Option<usize>
     ensures { result ≡ lower subaddress others }
 {
     match others {
-        Some(other) => { Some(arithmetic::least(subaddress, other)) }
+        Some(other) => Some(subaddress.min(other)),
         None => Some(subaddress),
     }
 }
@@ -43,31 +42,19 @@ fn lower(subaddress: usize, others: Option<usize>) -> Option<usize>
 fn with_chip(chip: Chip, heard: BusByte, others: Option<usize>) -> Option<usize>
     ensures { result ≡ cond (answers heard chip) (lower chip.subaddress others) others }
 {
-    let subaddress = chip.subaddress as usize;
     if acknowledges(chip, heard) {
-        lower(subaddress, others)
+        lower(chip.subaddress as usize, others)
     } else {
         others
     }
-}
-
-// A count, or one instead of none.
-fn one_or(count: usize) -> usize
-    ensures { result ≡ one_or count }
-{
-    if count < 1 { 1 } else { count }
 }
 
 // How many bytes from this one on the chip answers alike, of so many: data that ends in the columns of the chip that A names, or this byte alone.
 fn alike(chip: Chip, heard: BusByte, most: usize) -> usize
     ensures { result ≡ alike_of heard chip most }
 {
-    if most < 2 {
-        return most;
-    }
-    if chip::hears(chip, heard.address) {
-        let room = columns::room(heard.part, chip.registers);
-        one_or(arithmetic::least(room, most))
+    if (2 <= most) & chip::hears(chip, heard.address) {
+        columns::room(heard.part, chip.registers).clamp(1, most)
     } else {
         most
     }
@@ -94,9 +81,8 @@ pub fn nothing_said(most: usize) -> Said
 pub fn say_with(chip: Chip, heard: BusByte, others: Said) -> Said
     ensures { result ≡ said_with heard chip others }
 {
-    let who = others.who;
     Said {
-        who: with_chip(chip, heard, who),
+        who: with_chip(chip, heard, others.who),
         count: alike(chip, heard, others.count),
     }
 }
@@ -105,12 +91,11 @@ pub fn say_with(chip: Chip, heard: BusByte, others: Said) -> Said
 fn take_byte(chip: Chip, heard: BusByte) -> Chip
     ensures { result ≡ taken heard chip }
 {
-    let expect = heard.expect;
     if chip::hears(chip, heard.address) {
         if heard.cut {
-            chip::lose(chip, protocol::is_data(expect))
+            chip::lose(chip, protocol::is_data(heard.expect))
         } else {
-            chip::step(heard.part, chip, expect, heard.byte)
+            chip::step(heard.part, chip, heard.expect, heard.byte)
         }
     } else {
         chip
@@ -157,35 +142,14 @@ fn counted(acknowledged: usize, who: Option<usize>, count: usize) -> usize
     }
 }
 
-// Who acknowledged the last data byte, after a byte of a kind.
-fn last_of(kind: Kind, who: Option<usize>, last: Option<usize>) -> Option<usize>
-    ensures { result ≡ last_of kind who last }
-{
-    match kind {
-        Kind::Command => last,
-        Kind::Data => who,
-    }
-}
-
-fn last_after(expect: Expect, who: Option<usize>, last: Option<usize>) -> Option<usize>
-    ensures { result ≡ last_after expect who last }
-{
-    match expect {
-        Expect::Control => last,
-        Expect::One(kind) => last_of(kind, who, last),
-        Expect::All(kind) => last_of(kind, who, last),
-    }
-}
-
-// And after any byte: one that is cut is not the last data byte.
+// Who acknowledged the last data byte, after a byte: one that is cut is not the last data byte.
 fn last_heard(heard: BusByte, who: Option<usize>, last: Option<usize>) -> Option<usize>
     ensures { result ≡ last_heard heard who last }
 {
-    let expect = heard.expect;
-    if heard.cut {
-        last
+    if protocol::is_data(heard.expect) & !heard.cut {
+        who
     } else {
-        last_after(expect, who, last)
+        last
     }
 }
 
@@ -194,47 +158,30 @@ pub fn next(bytes: &[u8], turn: Turn, said: Said) -> Turn
     requires { (turn.at + said.count ≤ length bytes.now) × (turn.tally.acknowledged ≤ turn.at) }
     ensures { result ≡ turn_past bytes.now turn said }
 {
-    let heard = turn.heard;
-    let expect = heard.expect;
-    let tally = turn.tally;
-    let last = tally.last;
-    let who = said.who;
     let at = turn.at + said.count;
-    let cut = turn.cut;
     Turn {
         at,
-        cut,
         tally: Tally {
-            acknowledged: counted(tally.acknowledged, who, said.count),
-            last: last_heard(heard, who, last),
+            acknowledged: counted(turn.tally.acknowledged, said.who, said.count),
+            last: last_heard(turn.heard, said.who, turn.tally.last),
         },
         heard: BusByte {
-            part: heard.part,
-            address: heard.address,
-            expect: protocol::follow(expect, heard.byte),
+            expect: protocol::follow(turn.heard.expect, turn.heard.byte),
             byte: checks::byte_at(bytes, at),
-            cut: cut & (bytes.len() <= at + 1),
+            cut: turn.cut & (bytes.len() <= at + 1),
+            ..turn.heard
         },
+        ..turn
     }
 }
 
 // How many bytes may be taken at once, of so many whole ones that are left: data to the end, or a byte alone.
-fn most_of(kind: Kind, left: usize) -> usize
-    ensures { result ≡ most_of kind left }
-{
-    match kind {
-        Kind::Command => 1,
-        Kind::Data => one_or(left),
-    }
-}
-
 fn most_after(expect: Expect, left: usize) -> usize
     ensures { result ≡ most_after expect left }
 {
     match expect {
-        Expect::Control => 1,
-        Expect::One(_) => 1,
-        Expect::All(kind) => most_of(kind, left),
+        Expect::Control | Expect::One(_) | Expect::All(Kind::Command) => 1,
+        Expect::All(Kind::Data) => left.max(1),
     }
 }
 
@@ -243,14 +190,8 @@ pub fn most_in(bytes: &[u8], turn: Turn) -> usize
     requires { turn.at < length bytes.now }
     ensures { result ≡ most_in bytes.now turn }
 {
-    let heard = turn.heard;
-    let expect = heard.expect;
     let left = bytes.len() - turn.at;
-    if turn.cut {
-        most_after(expect, left - 1)
-    } else {
-        most_after(expect, left)
-    }
+    most_after(turn.heard.expect, if turn.cut { left - 1 } else { left })
 }
 
 // The chip after the turn's byte, or after so many data bytes from it on.
@@ -258,30 +199,20 @@ pub fn take(bytes: &[u8], chip: Chip, turn: Turn, count: usize) -> Chip
     requires { turn.at + count ≤ length bytes.now }
     ensures { result ≡ taken_by bytes.now turn count chip }
 {
-    let heard = turn.heard;
-    let from = turn.at;
     if count < 2 {
-        take_byte(chip, heard)
+        take_byte(chip, turn.heard)
     } else {
-        take_run(&bytes[from..from + count], chip, heard)
+        take_run(&bytes[turn.at..turn.at + count], chip, turn.heard)
     }
 }
 
 // How many of the chips such a turn changes: a control byte changes none.
-fn reach_after(expect: Expect, count: usize, chips: usize) -> usize
-    ensures { result ≡ reach_of expect count chips }
-{
-    match expect {
-        Expect::Control => { if count < 2 { 0 } else { chips } }
-        Expect::One(_) => chips,
-        Expect::All(_) => chips,
-    }
-}
-
 pub fn reach(turn: Turn, count: usize, chips: usize) -> usize
     ensures { result ≡ reach_of turn.heard.expect count chips }
 {
-    let heard = turn.heard;
-    let expect = heard.expect;
-    reach_after(expect, count, chips)
+    if matches!(turn.heard.expect, Expect::Control) & (count < 2) {
+        0
+    } else {
+        chips
+    }
 }

@@ -22,9 +22,6 @@ few c = let s = c in
     let w : c.width-width.result ≤ 8 = omega (arith, c.width-width.ensures, div-le_self 7 c.backplanes.result) in
     omega (arith, s.requires.1, mul-le-mul_right s.args.count w)
 
-pub overflow_mul-v : goal.overflow_mul-v
-overflow_mul-v c = omega (arith, few c)
-
 pub overflow_add-v : goal.overflow_add-v
 overflow_add-v c = omega (arith, few c, c.position.ensures, position-small c.args.part c.args.registers (range-of (part_of c.args.part) c.args.registers c.requires.0))
 

@@ -44,8 +44,8 @@ pub loop-j-init : goal.loop-j-init
 unfolding columns_after advanced_by
 loop-j-init c = record { so_far = refl; moved = refl }
 
-pub bounds-columns-p : goal.bounds-columns-p
-bounds-columns-p c = there c.loop-j.invariant c.requires.1 c.requires.0
+pub bounds-columns-registers : goal.bounds-columns-registers
+bounds-columns-registers c = there c.loop-j.invariant c.requires.1 c.requires.0
 
 pub stored-requires : goal.stored-requires
 stored-requires c = let r = c.args.start in
@@ -53,8 +53,8 @@ stored-requires c = let r = c.args.start in
     let wide : c.width-width.result ≡ width_of (backplanes r) = c.width-width.ensures ∙ ap width_of c.backplanes.ensures in
     (h.m-in, h.i-in, rw (planes c.loop-j.invariant c.requires.1) (width-less (backplanes r) c.loop-j.j (planes_pos r) (omega arith)))
 
-pub bounds-columns-p-in-loop-j : goal.bounds-columns-p-in-loop-j
-bounds-columns-p-in-loop-j c = there c.loop-j.invariant c.requires.1 c.requires.0
+pub bounds-columns-registers-in-loop-j : goal.bounds-columns-registers-in-loop-j
+bounds-columns-registers-in-loop-j c = there c.loop-j.invariant c.requires.1 c.requires.0
 
 pub advance-registers-requires : goal.advance-registers-requires
 advance-registers-requires c = let h = range c.loop-j.invariant c.requires.1 in (h.p-in, h.a_in)

@@ -30,14 +30,14 @@ told : (K : Part) (r : Registers) (subaddress n room : ℕ) → room ≡ room_in
 told K r subaddress n room er e = let t = both_true _ _ e in
     (subst (λ (k : ℕ). n ≤ k) er (leb-true _ _ t.0), not-true _ t.1)
 
-pub pass-chip-requires : goal.pass-chip-requires
-pass-chip-requires c = let r = c.args.chip.registers in
-    let t = told (part_of c.args.part) r c.args.chip.subaddress _ _ c.room.ensures c.if-inside-registers.true in
+pub pass-requires : goal.pass-requires
+pass-requires c = let r = c.args.chip.registers in
+    let t = told (part_of c.args.part) r c.args.chip.subaddress _ _ c.room.ensures c.if-inside-chip.true in
     (c.requires, omega (arith, t.0, div-le_self ((part_of c.args.part).columns - r.p) (width_of (backplanes r)), columns-small c.args.part))
 
-pub returns-then-inside-registers : goal.returns-then-inside-registers
-returns-then-inside-registers c = let a = c.args in
+pub returns-then-inside-chip : goal.returns-then-inside-chip
+returns-then-inside-chip c = let a = c.args in
     let K = part_of a.part in
     let h = range-of K a.chip.registers c.requires in
-    let t = told K a.chip.registers a.chip.subaddress _ _ c.room.ensures c.if-inside-registers.true in
-    ap (with a.chip a.chip.columns) c.pass-chip.ensures ∙ sym (passed K a.bytes.now a.chip h t.1 (has_room K a.chip.registers (length a.bytes.now) h t.0))
+    let t = told K a.chip.registers a.chip.subaddress _ _ c.room.ensures c.if-inside-chip.true in
+    ap (with a.chip a.chip.columns) c.pass.ensures ∙ sym (passed K a.bytes.now a.chip h t.1 (has_room K a.chip.registers (length a.bytes.now) h t.0))

@@ -33,17 +33,8 @@ made b h f q l s t =
 made-here : (c : goal.Start) → Made c.args.b c.args.h c.args.f c.args.column (1 * 2 ^ c.args.b % 256) (1 * 2 ^ (c.args.b + c.args.h) % 256)
 made-here c = made _ _ _ _ c.requires.0 c.requires.1 c.ranges.column.fits
 
-pub nonzero_div-result : goal.nonzero_div-result
-nonzero_div-result c = omega (arith, (made-here c).high-some)
-
-pub overflow_mul-result : goal.overflow_mul-result
-overflow_mul-result c = omega (arith, (made-here c).small)
-
 pub overflow_mul-result-2 : goal.overflow_mul-result-2
 overflow_mul-result-2 c = omega (arith, (made-here c).small)
-
-pub nonzero_rem-result : goal.nonzero_rem-result
-nonzero_rem-result c = (made-here c).low-some
 
 pub overflow_add-result : goal.overflow_add-result
 overflow_add-result c = omega (arith, (made-here c).small)
