@@ -66,7 +66,7 @@ pub fn write(part: u8, chips: u8, ram: &[u8], out: &mut [u8]) -> Result<usize, R
         chips: one_group(chips),
         packed: false,
     };
-    refused::check_power_on(bus, ram)?;
+    refused::check_power_on(&bus, ram)?;
     let size = file_size(ram.len());
     if out.len() < size {
         return Err(Refusal::OutputLength);

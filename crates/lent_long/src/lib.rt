@@ -104,7 +104,7 @@ fn answered(
     ensures { record { number = result; registers = registers.new; buffer = columns_in bus.packed ram.new; answer = answer.new } ≡ numbered (part_of bus.part) (lent_after (transfer_part bus.part bus.chips (both_of registers.old) (columns_in bus.packed ram.old) (sent bytes.now bits))) }
 {
     let fit = fits(bus.part, registers);
-    match refused::check_state(bus, fit, ram) {
+    match refused::check_state(&bus, fit, ram) {
         Err(refusal) => lent_group::say(bus.part, Err(refusal), answer),
         Ok(()) => send(bus, registers, ram, bytes, bits, answer),
     }
@@ -123,7 +123,7 @@ fn pictured(
     ensures { record { result = result; out = out.new } ≡ picture_part bus.part bus.chips (both_of registers.now) (columns_in bus.packed ram.now) group phase out.old }
 {
     let fit = fits(bus.part, registers);
-    refused::check_picture(bus, fit, group, phase, ram, out.len())?;
+    refused::check_picture(&bus, fit, group, phase, ram, out.len())?;
     let at = 12 * (group as usize);
     let shown = wire::registers_of(&registers[at..at + 12]);
     let start = bus.start_in(group);

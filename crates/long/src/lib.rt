@@ -21,7 +21,7 @@ pub fn power_on(bus: Bus, ram: &[u8]) -> PowerOn
     ensures value { result ≡ power_on_part bus.part bus.chips (columns_in bus.packed ram.now) }
     ensures check_value { check_numbers result.check ≡ check_numbers (power_on_part bus.part bus.chips (columns_in bus.packed ram.now)).check }
 {
-    let check = refused::check_power_on(bus, ram);
+    let check = refused::check_power_on(&bus, ram);
     let registers = Both {
         zero: registers::power_on(),
         one: registers::power_on(),
@@ -97,7 +97,7 @@ pub fn transfer(bus: Bus, registers: Both, ram: &mut [u8], bytes: &[u8], bits: u
     ensures ram_after { record { result = result; ram = columns_in bus.packed ram.new } ≡ transfer_part bus.part bus.chips registers (columns_in bus.packed ram.old) (sent bytes.now bits) }
     ensures answer_value { numbers (part_of bus.part) result.answer ≡ numbers (part_of bus.part) (transfer_part bus.part bus.chips registers (columns_in bus.packed ram.old) (sent bytes.now bits)).result.answer }
 {
-    match refused::check_transfer(bus, registers, ram, bytes, bits) {
+    match refused::check_transfer(&bus, registers, ram, bytes, bits) {
         Err(refusal) => Transferred {
             answer: Err(refusal),
             registers,
@@ -143,7 +143,7 @@ pub fn picture(
     ensures result_value { picture_numbers result ≡ picture_numbers (picture_part bus.part bus.chips registers (columns_in bus.packed ram.now) group phase out.old).result }
 {
     let fit = refused::registers_fit(bus.part, registers);
-    refused::check_picture(bus, fit, group, phase, ram, out.len())?;
+    refused::check_picture(&bus, fit, group, phase, ram, out.len())?;
     let shown = groups::registers_of(group, registers);
     Ok(show_in(bus, group, shown, ram, phase, out))
 }

@@ -144,7 +144,7 @@ pub fn write_three(
         chips,
         packed: false,
     };
-    refused::check_every(bus, registers, group, wanted)?;
+    refused::check_every(&bus, registers, group, wanted)?;
     if groups::chips_in(group, chips) == 0 {
         return Ok(0);
     }

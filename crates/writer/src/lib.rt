@@ -133,7 +133,7 @@ pub fn write_rows(
         chips,
         packed: false,
     };
-    refused::check_wanted(bus, registers, group, mode, bank, wanted)?;
+    refused::check_wanted(&bus, registers, group, mode, bank, wanted)?;
     if groups::chips_in(group, chips) == 0 {
         return Ok(0);
     }

@@ -20,9 +20,9 @@ by_hearer part registers chips t h b told = ap (λ (k : Addressed). check_bytes 
 pub returns-in-Some : goal.returns-in-Some
 returns-in-Some c = let a = c.args in
     c.first_fault.ensures
-    ∙ ap (λ (r : Registers). fault_of_sent (part_of a.bus.part) r.unknown (sent a.bytes.now a.bits)) c.registers_of-called.ensures
-    ∙ by_hearer (part_of a.bus.part) a.registers a.bus.chips (sent a.bytes.now a.bits) c.heard_by.ensures c.address_byte.ensures c.in-Some.is
+    ∙ ap (λ (r : Registers). fault_of_sent (part_of a.bus.now.part) r.unknown (sent a.bytes.now a.bits)) c.registers_of-called.ensures
+    ∙ by_hearer (part_of a.bus.now.part) a.registers a.bus.now.chips (sent a.bytes.now a.bits) c.heard_by.ensures c.address_byte.ensures c.in-Some.is
 
 pub returns-in-None : goal.returns-in-None
 returns-in-None c = let a = c.args in
-    by_hearer (part_of a.bus.part) a.registers a.bus.chips (sent a.bytes.now a.bits) c.heard_by.ensures c.address_byte.ensures c.in-None.is
+    by_hearer (part_of a.bus.now.part) a.registers a.bus.now.chips (sent a.bytes.now a.bits) c.heard_by.ensures c.address_byte.ensures c.in-None.is

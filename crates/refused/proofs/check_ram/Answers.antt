@@ -10,7 +10,7 @@ use Rattle.laws.proofs.Packed.{even-columns}
 use Rattle.refused.proofs.check_ram.Goals as goal
 
 pub check_packed-requires : goal.check_packed-requires
-check_packed-requires c = let K = part_of c.args.bus.part in
+check_packed-requires c = let K = part_of c.args.bus.now.part in
     subst (λ (size : ℕ). size ≡ 2 * (size / 2)) (sym c.columns_in-size.ensures) (even-columns K (K.columns / 2) (columns-even _) _)
 
 pub returns-then-bus : goal.returns-then-bus

@@ -6,4 +6,4 @@ use Prim.Native.Nat.{ℕ, ◌/◌}
 use Rattle.groups.proofs.Bus.start_in.Goals as goal
 
 pub returns : goal.returns
-returns c = c.byte_of.ensures ∙ ap (λ (k : ℕ). cond c.args.self.packed (k / 2) k) c.start_of.ensures
+returns c = c.byte_of.ensures ∙ ap (λ (k : ℕ). cond c.args.self.now.packed (k / 2) k) c.start_of.ensures
