@@ -11,7 +11,7 @@ use lib.Seq.{take-suc-set, take-set-le, drop-set-lt, drop-drop, get_or-set_same,
 use borrow.Author.Tests.{ltb-true}
 use Rattle.lemmas.proofs.Lists.{next}
 use Rattle.std.specs.Prelude.{Err, None, Ok, Option, Some}
-use Rattle.sheet.specs.Results.{Written, Check}
+use Rattle.sheet.specs.Results.{Check}
 use Rattle.sheet.specs.declared.Refusal.TheVariants.{NoSymbol}
 use Rattle.sheet.specs.Written.{written_by}
 use Rattle.price_sheet.specs.declared.Symbol.{Symbol}

@@ -12,29 +12,19 @@ use sheet::Refusal;
 // ---- the symbols of a text
 
 // What begins at a place of a text: a digit with the point directly after it, a digit, a space, or a minus.
+#[tactic(auto, unfolding(price_sheet::specs::Price::begun, sheet::specs::Parts::within))]
 fn begun_at(text: &[u8], at: usize) -> Option<Symbol>
     requires { at < 80 }
     ensures { result ≡ begun_at at text.now }
 {
-    let x = checks::byte_at(text, at);
-    if (48 <= x) & (x <= 57) {
-        if checks::byte_at(text, at + 1) == 0x2E {
-            Some(Symbol::Pointed(x - 48))
-        } else {
-            Some(Symbol::Digit(x - 48))
-        }
-    } else if x == 0x20 {
-        Some(Symbol::Space)
-    } else if x == 0x2D {
-        Some(Symbol::Minus)
-    } else {
-        let y = checks::byte_at(text, at + 1);
-        let z = checks::byte_at(text, at + 2);
-        if (x == 0xE2) & ((y == 0x88) & (z == 0x92)) {
-            Some(Symbol::LongMinus)
-        } else {
-            None
-        }
+    let y = checks::byte_at(text, at + 1);
+    match checks::byte_at(text, at) {
+        x @ b'0'..=b'9' if y == b'.' => Some(Symbol::Pointed(x - b'0')),
+        x @ b'0'..=b'9' => Some(Symbol::Digit(x - b'0')),
+        b' ' => Some(Symbol::Space),
+        b'-' => Some(Symbol::Minus),
+        0xE2 if (y == 0x88) & (checks::byte_at(text, at + 2) == 0x92) => Some(Symbol::LongMinus),
+        _ => None,
     }
 }
 

@@ -5,7 +5,6 @@ use mathlib.Core.List.{List, ◌++◌}
 use Prim.Native.Nat.{ℕ}
 use lib.ListN.{length, drop}
 use Rattle.std.specs.Prelude.{Err}
-use Rattle.sheet.specs.Results.{Written}
 use Rattle.price.specs.Fronts.{settled}
 use Rattle.price.proofs.settled.Goals as goal
 
