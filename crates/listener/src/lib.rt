@@ -62,9 +62,10 @@ fn acknowledged(mut counts: Counts) -> Counts
 fn obeyed_by(part: u8, expect: Expect, byte: u8, registers: Registers) -> Registers
     ensures { result ≡ obeyed_by (part_of part) expect byte registers }
 {
-    match expect {
-        Expect::Control => registers,
-        Expect::One(_) | Expect::All(_) => command::obey(registers, decode::decode(part, byte)),
+    if matches!(expect, Expect::Control) {
+        registers
+    } else {
+        command::obey(registers, decode::decode(part, byte))
     }
 }
 
