@@ -1,4 +1,5 @@
 // The two groups on the bus: who hears a transfer, and a group's chips, registers and part of the RAM.
+// A group is any number, since each function and call promises its answer of every one and 8 refuses the others: 0, or else group 1.
 #![tactic(auto)]
 
 ghost use Rattle.std.specs.Prelude.{◌≡◌, cond, ◌*◌, ◌/◌};

@@ -43,7 +43,7 @@ pub fn take_back(kept: Kept, set: &mut [u8])
 
 // ---- the commands
 
-// The place of the byte after them; or, of one that is undefined, the fault.
+// The place of the byte after them; or, of one that is undefined, the fault. The place is promised of that too, so that it is no `Result`.
 #[derive(Clone, Copy)]
 pub struct Opening {
     pub fault: Result<(), Refusal>,

@@ -112,7 +112,7 @@ fn turn_at(part: u8, bytes: &[u8], bits: u8, at: usize, acknowledged: usize) -> 
     }
 }
 
-// Refused or taken, and the turn from which the chips follow.
+// Refused or taken, and the turn from which the chips follow: of a refused transfer too, with nothing left, so that it is no `Result`.
 #[derive(Clone, Copy)]
 pub struct Start {
     pub check: Result<(), Refusal>,
