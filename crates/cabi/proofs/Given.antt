@@ -9,7 +9,7 @@ use borrow.Author.Tests.{eq-eqb}
 use Rattle.sheet.specs.declared.Both.{Both}
 use Rattle.sheet.specs.declared.Chips.{Chips}
 use Rattle.std.specs.Prelude.{Err, None, Ok, Some}
-use Rattle.sheet.specs.Results.{Addressed, Answer, PlainAnswer, Check}
+use Rattle.sheet.specs.Results.{Addressed, Check}
 use Rattle.sheet.specs.declared.Refusal.{Refusal}
 use Rattle.sheet.specs.Parts.{Part, part_of}
 use Rattle.sheet.specs.Registers.{power_on}

@@ -145,6 +145,21 @@ fn pass(part: u8, registers: Registers, count: usize) -> Registers
     arithmetic::at_position(part, registers, v)
 }
 
+// The chip after a data byte: all its columns; P and A move, stored or not.
+pub fn take_data(part: u8, chip: Chip, byte: u8) -> Chip
+    requires { in_range (part_of part) chip.registers ≡ true }
+    ensures { result ≡ chip_data (part_of part) byte chip }
+{
+    let own = chip.subaddress;
+    let mut columns = chip.columns;
+    put_byte(&mut columns[..160], part, chip.registers, own, byte);
+    Chip {
+        columns,
+        registers: pass(part, chip.registers, 1),
+        ..chip
+    }
+}
+
 // The chip after data bytes, each of which goes on where the one before ended. The columns are copied once, and not at each byte.
 fn store_run(part: u8, chip: Chip, bytes: &[u8]) -> Chip
     requires { in_range (part_of part) chip.registers ≡ true }
@@ -163,16 +178,7 @@ fn store_run(part: u8, chip: Chip, bytes: &[u8]) -> Chip
     }
 }
 
-// After one: all its columns; P and A move, stored or not.
-#[tactic(auto, unfolding(crate::specs::Stored::ran_over))]
-pub fn take_data(part: u8, chip: Chip, byte: u8) -> Chip
-    requires { in_range (part_of part) chip.registers ≡ true }
-    ensures { result ≡ chip_data (part_of part) byte chip }
-{
-    store_run(part, chip, &[byte])
-}
-
-// After several. Bytes that all end in the columns of another chip only move P.
+// The same. Bytes that all end in the columns of another chip only move P.
 pub fn take_run(part: u8, chip: Chip, bytes: &[u8]) -> Chip
     requires { in_range (part_of part) chip.registers ≡ true }
     ensures { result ≡ ran_over (part_of part) bytes.now chip }

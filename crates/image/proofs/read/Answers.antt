@@ -8,7 +8,7 @@ use native.Mathlib.Omega.{arith}
 use lib.ListN.{length, take, drop, replicate, length-replicate, length-append}
 use lib.Seq.{length-take-le, take_at}
 use Rattle.std.specs.Prelude.{Ok}
-use Rattle.sheet.specs.Results.{Written, Check}
+use Rattle.sheet.specs.Results.{Check}
 use Rattle.sheet.specs.Parts.{part_of}
 use Rattle.image_sheet.specs.Images.{image, image_from, image_of, check_file}
 use Rattle.laws.proofs.Written.{numbered}

@@ -8,7 +8,7 @@ use native.Mathlib.Omega.{arith}
 use lib.ListN.{length}
 use Rattle.sheet.specs.declared.Chips.{Chips}
 use Rattle.std.specs.Prelude.{Ok}
-use Rattle.sheet.specs.Results.{Written, Check}
+use Rattle.sheet.specs.Results.{Check}
 use Rattle.sheet.specs.Parts.{part_of}
 use Rattle.sheet.specs.Checks.{or_else, check_part, check_power_on}
 use Rattle.image_sheet.specs.Hex.{file_of, one_group, hex_write_part}

@@ -13,7 +13,6 @@ use Rattle.sheet.specs.declared.Registers.{Registers}
 use Rattle.sheet.specs.declared.Both.{Both}
 use Rattle.sheet.specs.declared.Chips.{Chips}
 use Rattle.std.specs.Prelude.{Ok}
-use Rattle.sheet.specs.Results.{Written}
 use Rattle.sheet.specs.Parts.{Part, part_of}
 use Rattle.sheet.specs.Protocol.{address_of, chips_in}
 use Rattle.sheet.specs.Checks.{or_else, check_part}

@@ -12,7 +12,6 @@ use Rattle.sheet.specs.declared.Registers.{Registers}
 use Rattle.sheet.specs.declared.Both.{Both}
 use Rattle.sheet.specs.declared.Chips.{Chips}
 use Rattle.std.specs.Prelude.{Ok}
-use Rattle.sheet.specs.Results.{Written}
 use Rattle.sheet.specs.Parts.{Part, part_of}
 use Rattle.sheet.specs.Registers.{backplanes, registers_of}
 use Rattle.sheet.specs.Protocol.{address_of, chips_in}
