@@ -13,7 +13,7 @@ ghost use Rattle.turns.specs.Turns.{taken_by, followed, tally_of, Ready};
 ghost use Rattle.plain.specs.Benches.{too_many, first_transferred, bench_transferred};
 
 use sheet::{Acknowledged, Chip, Refusal};
-use starts::Found;
+use starts::{Found, Question};
 use turns::{BusByte, Said, Tally, Turn};
 
 // ---- the list
@@ -27,23 +27,23 @@ fn found(chips: &[Chip], part: u8, called: u8) -> Found
         count,
         misfit: chips
             .iter()
-            .position(|chip| !chip::fits(part, *chip))
+            .position(|chip| starts::says_yes(*chip, Question::Misfit(part)))
             .unwrap_or(count),
         hearer: chips
             .iter()
-            .position(|chip| chip::hears(*chip, called))
+            .position(|chip| starts::says_yes(*chip, Question::Hears(called)))
             .unwrap_or(count),
         high: chips
             .iter()
-            .position(|chip| chip::hears(*chip, called) & (chip::marks(*chip).high == 1))
+            .position(|chip| starts::says_yes(*chip, Question::HighUnknown(called)))
             .unwrap_or(count),
         low: chips
             .iter()
-            .position(|chip| chip::hears(*chip, called) & (chip::marks(*chip).low == 1))
+            .position(|chip| starts::says_yes(*chip, Question::LowUnknown(called)))
             .unwrap_or(count),
         device: chips
             .iter()
-            .position(|chip| chip::hears(*chip, called) & (chip::marks(*chip).device == 1))
+            .position(|chip| starts::says_yes(*chip, Question::DeviceUnknown(called)))
             .unwrap_or(count),
     }
 }

@@ -4,6 +4,8 @@ use Rattle.sheet.specs.declared.Chip.{Chip}
 use Rattle.sheet.specs.Parts.{part_of}
 use Rattle.sheet.specs.Plain.{hears, chip_fits}
 use Rattle.starts.specs.declared.Found.{Found}
+use Rattle.starts.specs.declared.Question.{Question}
+use Rattle.starts.specs.declared.Question.TheVariants.{Misfit, Hears, HighUnknown, LowUnknown, DeviceUnknown}
 
 -- whether it is no chip of a part
 abbrev pub misfits : ℕ → Chip → Bool
@@ -18,6 +20,13 @@ low_unknown address c = hears address c && eqb c.registers.unknown.low 1
 
 abbrev pub device_unknown : ℕ → Chip → Bool
 device_unknown address c = hears address c && eqb c.registers.unknown.device 1
+
+abbrev pub yes : Question → Chip → Bool
+yes (Misfit part) c = misfits part c
+yes (Hears address) c = hears address c
+yes (HighUnknown address) c = high_unknown address c
+yes (LowUnknown address) c = low_unknown address c
+yes (DeviceUnknown address) c = device_unknown address c
 
 -- the place of the first chip of which f holds, or the count
 unfoldable pub first_yes : (Chip → Bool) → List Chip → ℕ

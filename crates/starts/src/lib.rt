@@ -5,10 +5,34 @@ ghost use Rattle.std.specs.Prelude.{◌≡◌, cond, ◌+◌, ◌≤◌, length,
 ghost use Rattle.sheet.specs.Parts.{part_of};
 ghost use Rattle.sheet.specs.Protocol.{sent, address_byte};
 ghost use Rattle.sheet.specs.Checks.{fault_of_sent};
+ghost use Rattle.starts.specs.Questions.{yes};
 ghost use Rattle.starts.specs.Starts.{mark_at, marks_found, check_bench, check_list, check_of, turn_at, start_of, answer_of};
 
-use sheet::{Acknowledged, Expect, Marks, Refusal};
+use sheet::{Acknowledged, Chip, Expect, Marks, Refusal};
 use turns::{BusByte, Tally, Turn};
+
+// What a chip is asked: whether it is no chip of a part, or hears an address, or hears it and has a mark that is unknown.
+#[derive(Clone, Copy)]
+pub enum Question {
+    Misfit(u8),
+    Hears(u8),
+    HighUnknown(u8),
+    LowUnknown(u8),
+    DeviceUnknown(u8),
+}
+
+pub fn says_yes(chip: Chip, question: Question) -> bool
+    ensures { result ≡ yes question chip }
+{
+    let marks = chip::marks(chip);
+    match question {
+        Question::Misfit(part) => !chip::fits(part, chip),
+        Question::Hears(address) => chip::hears(chip, address),
+        Question::HighUnknown(address) => chip::hears(chip, address) & (marks.high == 1),
+        Question::LowUnknown(address) => chip::hears(chip, address) & (marks.low == 1),
+        Question::DeviceUnknown(address) => chip::hears(chip, address) & (marks.device == 1),
+    }
+}
 
 // The address that byte 0 calls.
 pub fn address(bytes: &[u8], bits: u8) -> u8
