@@ -1,7 +1,8 @@
 // A program's bus log from standard input, what it writes to standard output, and what it says of a failure on standard error.
 #![tactic(auto)]
 
-ghost use Rattle.std.specs.Prelude.{◌≡◌, ◌≤◌, length, IfOk};
+ghost use Rattle.std.specs.Prelude.{◌≡◌, length};
+ghost use Rattle.std.specs.Io.{ReadsAtMost};
 
 use std::io::{Error, Read, Write};
 use std::{fs, io};
@@ -15,7 +16,7 @@ pub fn log_buffer() -> [u8; 65537]
 
 // The input to its end or until the buffer is full: how many bytes that are.
 pub fn read_input<R: Read>(input: &mut R, buffer: &mut [u8]) -> io::Result<usize>
-    ensures { IfOk result (λ n. n ≤ length buffer.new) }
+    ensures { ReadsAtMost result buffer.new }
 {
     let mut done = 0;
     // a read says how much it brought, which no `for` goes by
