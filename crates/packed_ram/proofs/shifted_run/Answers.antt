@@ -1,6 +1,6 @@
 -- `packed_ram::shifted_run` meets its contract, mode by mode.
 -- Assumes nothing.
-use mathlib.Core.Path.{◌≡◌, ap, ◌∙◌}
+use mathlib.Core.Path.{ap, ◌∙◌}
 use Prim.Native.Nat.{ℕ, ◌*◌}
 use native.Mathlib.Omega.{arith}
 use Rattle.sheet.specs.Registers.{bank_row}
@@ -21,9 +21,8 @@ stream_run-requires-in_default g c = let a = c.args in modes.asked (unpacked a.r
 
 pub returns-in-1 : goal.returns-in-1
 returns-in-1 g c = let a = c.args in
-    let one : g.row.BACK ≡ 1 * g.row.BACK = omega arith in
     modes.told (unpacked a.ram.now) (2 * a.at) a.m a.bank a.bytes.now (c.requires.0, c.requires.1) 1 (λ i. stream (i * g.row.BACK) a.before a.bytes.now) _ c.in-1.is
-    (c.stream_run.ensures ∙ ap (λ (s : ℕ). put_run 1 (bank_row 1 a.bank) (2 * a.at) (stream s a.before a.bytes.now) (unpacked a.ram.now)) one)
+    (c.stream_run.ensures ∙ ap (λ (s : ℕ). put_run 1 (bank_row 1 a.bank) (2 * a.at) (stream s a.before a.bytes.now) (unpacked a.ram.now)) {y = 1 * g.row.BACK} (omega arith))
 
 pub returns-in-2 : goal.returns-in-2
 returns-in-2 g c = let a = c.args in modes.told (unpacked a.ram.now) (2 * a.at) a.m a.bank a.bytes.now (c.requires.0, c.requires.1) 2 (λ i. stream (i * g.row.BACK) a.before a.bytes.now) _ c.in-2.is c.stream_run-in-2.ensures
