@@ -14,14 +14,15 @@ parts a z b n k e f =
     ap₂ (λ (l r : List ℕ). l ++ (b ++ r)) (take_at a z n e) (ap (λ (l : List ℕ). drop k l) (drop_at a z n e) ∙ drop_of_length-le z {i = k} f)
     ∙ ap (λ (l : List ℕ). a ++ l) (append-nil b)
 
-whole : (out a b : List ℕ) (n m : ℕ) → n ≤ m → a ≡ take n out → b ≡ take (m - n) (drop n out) → a ++ b ≡ take m out
-whole out a b n m h e f =
+-- the second part begins where the first ends
+whole : (out a b : List ℕ) (n m d k : ℕ) → n ≤ m → d ≡ n → k ≡ m - n → a ≡ take n out → b ≡ take k (drop d out) → a ++ b ≡ take m out
+whole out a b n m d k h begun size e f =
     let on : n + (m - n) ≡ m = omega arith in
-    ap₂ (λ (l r : List ℕ). l ++ r) e f ∙ sym (take-add n (m - n) out) ∙ ap (λ (k : ℕ). take k out) on
+    ap₂ (λ (l r : List ℕ). l ++ r) e (f ∙ ap₂ (λ (i j : ℕ). take i (drop j out)) size begun) ∙ sym (take-add n (m - n) out) ∙ ap (λ (k : ℕ). take k out) on
 
 pub returns : goal.returns
 returns g c =
     let half = c.min-half.result in
     let first : length c.copy_from_slice.new.self ≡ half = ap length c.copy_from_slice.ensures.after ∙ length-take-le half c.args.out.now (omega (arith, c.requires)) in
     parts _ _ _ half _ first (omega (arith, length-append {A = ℕ}))
-    ∙ whole c.args.out.now _ _ half g.row.N (omega arith) c.copy_from_slice.ensures.after c.copy_from_slice-2.ensures.after
+    ∙ whole c.args.out.now _ _ half g.row.N _ _ (omega arith) (omega arith) (omega arith) c.copy_from_slice.ensures.after c.copy_from_slice-2.ensures.after
