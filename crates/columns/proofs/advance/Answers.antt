@@ -1,7 +1,7 @@
 -- advance: by its test.
 -- Assumes nothing.
 use mathlib.Core.Path.{sym, ap, ◌∙◌}
-use Prim.Native.Nat.{ℕ, ◌+◌, min}
+use Prim.Native.Nat.{ℕ}
 use native.Mathlib.Omega.{arith}
 use borrow.Author.Tests.{eq-eqb, ne_eqb}
 use Rattle.sheet.specs.Registers.{at_place}
@@ -18,7 +18,7 @@ overflow_add-registers-then-registers-columns c = omega (arith, c.requires.1, li
 pub returns-then-registers-columns : goal.returns-then-registers-columns
 unfolding advanced
 returns-then-registers-columns c = rw (eq-eqb _ _ (c.if-registers-columns.true ∙ c.columns.ensures))
-    (λ j. at_place c.args.registers 0 ((c.min.ensures ∙ ap (λ (k : ℕ). min k (c.args.registers.a + 1)) c.limit.ensures) j))
+    (ap (λ (a : ℕ). at_place c.args.registers 0 a) (omega (arith, limit-small c.args.part)))
 
 pub returns-else-registers-columns : goal.returns-else-registers-columns
 unfolding advanced
